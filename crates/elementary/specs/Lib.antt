@@ -1,0 +1,4 @@
+pub mod Elementary
+pub mod SelectLaws
+pub mod ElementaryLaws
+pub mod PointLaws

@@ -1,0 +1,33 @@
+-- A byte is read before any store reaches it, so the stores are those of the list at entry. Assumes nothing.
+use mathlib.Core.Path.{_≡_, refl, _∙_, ap}
+use Prim.Native.Nat.{_≤_, _+_, _-_}
+use native.Mathlib.Omega.{arith}
+use lib.ListN.{length, take, getD, set, length-set}
+use Rattle.lines.specs.LinesLaws.{untouched, moved-front}
+use Rattle.loops.specs.Loops.{iter}
+use Rattle.loops.specs.IterLaws.{iter-zero, iter-next}
+use borrow.Author.Needs.{needs}
+use Rattle.lines.proofs.keep.Statement.{statement}
+use Rattle.lines.proofs.keep.Tie as tie
+
+abbrev Inv-loop : tie.InvT-loop
+Inv-loop buf₀ at total n i₀ buf i = (i ≤ n) × (length buf ≡ length buf₀) × (buf ≡ iter (λ p l. set l p (getD buf₀ (at + p) 0)) buf₀ i)
+
+abbrev μ-loop : tie.MeasureT-loop
+μ-loop buf₀ at total n i₀ buf i = n - i
+
+loop-holds : tie.Need-loop-holds Inv-loop μ-loop
+loop-holds c = (search needs, search needs, rw iter-zero)
+
+loop-again : tie.Need-loop-again Inv-loop μ-loop
+loop-again c = (search needs, simp length-set (c .before .before .loop .inv .1), rw (iter-next, ← c .before .before .loop .inv .2, ← untouched (λ p. getD (c .before .before .before .args .buf .now) (c .before .before .before .args .at + p) 0) (c .before .before .before .args .buf .now) (c .before .before .before .args .at + c .before .before .loop .i) (c .before .before .loop .i) (omega arith), ← c .before .before .loop .inv .2))
+
+returns : tie.Need-returns Inv-loop μ-loop
+returns c = let h : c .before .loop .i ≡ c .before .before .args .total - c .before .before .args .at = omega arith in (refl, ap (λ l. take (c .before .before .args .total - c .before .before .args .at) l) (rw h at (c .before .loop .inv .2)) ∙ moved-front (c .before .before .args .buf .now) (c .before .before .args .at) (c .before .before .args .total - c .before .before .args .at) (omega arith))
+
+pub keep-spec : {M : Type 1} → statement M
+keep-spec =
+    tie.close
+    (tie.spec
+    Inv-loop μ-loop (λ c. search needs) loop-holds (λ c. search needs) (λ c. search needs) (λ c. search needs)
+    (λ c. search needs) (λ c. search needs) loop-again (λ c. search needs) returns)

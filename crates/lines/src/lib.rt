@@ -1,0 +1,142 @@
+// Lines out of blocks of input: which bytes are the next line, and the next block behind those that
+// are left. A line longer than the caller's limit is dropped as it comes, in constant memory, and
+// told by `skip`.
+use libc::STDIN_FILENO;
+ghost use mathlib.Core.Path.{_≡_};
+ghost use Prim.Native.Nat.{_+_, _-_, _≤_, _<_};
+ghost use lib.ListN.{length, take, drop};
+ghost use Rattle.lines.specs.Lines.{endFrom, foundOf, Within};
+
+// What is left of the buffer: the bytes from `from` up to `total`; whether the start of the line
+// there is gone; whether the input has ended.
+pub struct Feed {
+    pub from: usize,
+    pub total: usize,
+    pub skip: bool,
+    pub ended: bool,
+}
+
+// A line that ends at a line feed, the last line, which has none, more input wanted, or the end.
+pub enum Found {
+    Line(usize),
+    Last(usize),
+    More,
+    Done,
+}
+
+pub fn start() -> Feed
+    ensures { λ r. ⌜ (r .from ≡ 0) × (r .total ≡ 0) ⌝ }
+{
+    Feed {
+        from: 0,
+        total: 0,
+        skip: false,
+        ended: false,
+    }
+}
+
+// Where the line that starts at `at` ends: its line feed, or `total` where it has none yet.
+pub fn line_end(s: &[u8], at: usize, total: usize) -> usize
+    requires { ⌜ (at ≤ total) × (total ≤ length (now s)) ⌝ }
+    ensures { λ r. ⌜ (at ≤ r) × (r ≤ total) × (r ≡ endFrom (now (s .entry)) (total - at) at) ⌝ }
+{
+    for i in at..total {
+        if s[i] == 10 {
+            return i;
+        }
+    }
+    total
+}
+
+// The next line of the buffer.
+pub fn find(buf: &[u8], f: Feed) -> Found
+    requires { ⌜ (f .from ≤ f .total) × (f .total ≤ length (now buf)) ⌝ }
+    ensures { λ r. ⌜ (r ≡ foundOf (now (buf .entry)) f) × Within f r ⌝ }
+{
+    let from = f.from;
+    let total = f.total;
+    let e = line_end(buf, from, total);
+    if e < total {
+        return Found::Line(e);
+    }
+    if f.ended {
+        if from < total {
+            return Found::Last(total);
+        }
+        if f.skip {
+            return Found::Last(total);
+        }
+        return Found::Done;
+    }
+    Found::More
+}
+
+// The line before `from` has been answered.
+pub fn past(f: Feed, from: usize) -> Feed
+    requires { ⌜ from ≤ f .total ⌝ }
+    ensures { λ r. ⌜ (r .from ≡ from) × (r .total ≡ f .total) ⌝ }
+{
+    Feed {
+        from,
+        total: f.total,
+        skip: false,
+        ended: f.ended,
+    }
+}
+
+// What is left goes to the front of the buffer.
+fn keep(buf: &mut [u8], at: usize, total: usize) -> usize
+    requires { ⌜ (at ≤ total) × (total ≤ length (now buf)) ⌝ }
+    ensures { λ r. ⌜ (r ≡ total - at) × (take (total - at) (now (buf .exit)) ≡ take (total - at) (drop at (now (buf .entry)))) ⌝ }
+{
+    let n = total - at;
+    for i in 0..n {
+        let b = buf[at + i];
+        buf[i] = b;
+    }
+    n
+}
+
+// How much of the unfinished line is kept: all of it, or nothing where it is over the limit
+// already or its start is gone.
+fn kept(buf: &mut [u8], f: Feed, limit: usize) -> usize
+    requires { ⌜ (f .from ≤ f .total) × (f .total ≤ length (now buf)) ⌝ }
+    ensures { λ r. ⌜ r ≤ limit ⌝ }
+{
+    let from = f.from;
+    let total = f.total;
+    if f.skip {
+        return 0;
+    }
+    if total - from > limit {
+        return 0;
+    }
+    keep(buf, from, total)
+}
+
+fn gone(f: Feed, limit: usize) -> bool
+    requires { ⌜ f .from ≤ f .total ⌝ }
+{
+    if f.skip {
+        return true;
+    }
+    f.total - f.from > limit
+}
+
+// The next block of standard input, behind what is kept.
+pub fn fill(buf: &mut [u8], f: Feed, limit: usize) -> Feed
+    requires { ⌜ (f .from ≤ f .total) × (f .total ≤ length (now buf)) × (limit < length (now buf)) ⌝ }
+    ensures { λ r. ⌜ (r .from ≤ r .total) × (r .total ≤ length (now (buf .entry))) ⌝ }
+{
+    let skip = gone(f, limit);
+    let have = kept(buf, f, limit);
+    let part: &mut [u8] = &mut buf[have..];
+    let got = libc::read(STDIN_FILENO, part);
+    let n = io::count(got, part);
+    Feed {
+        from: 0,
+        total: have + n,
+        skip,
+        ended: n == 0,
+    }
+}

@@ -1,0 +1,48 @@
+-- One law for where a loop starts and one for a turn more, in the shape `k + 1` that the code's counter has; and what an early exit leaves. Assumes nothing.
+use mathlib.Core.Path.{_≡_, refl, ap, sym, _∙_}
+use mathlib.Core.Bool.{Bool, true, false, cond}
+use Prim.Native.Nat.{ℕ, zero, suc, _+_, _-_, _≤_, _<_}
+use native.Mathlib.Numerals.{add-one}
+use native.Mathlib.Omega.{arith}
+use Rattle.loops.specs.Loops.{iter, range}
+
+module _ {ℓ} {S : Type ℓ} where
+  pub iter-zero : (f : ℕ → S → S) (s : S) → iter f s 0 ≡ s
+  unfolding iter
+  iter-zero f s = refl
+
+  pub iter-next : (f : ℕ → S → S) (s : S) (n : ℕ) → iter f s (n + 1) ≡ f n (iter f s n)
+  unfolding iter
+  iter-next f s n = rw add-one
+
+  -- a state that no turn changes stays: what a loop's early exit leaves
+  pub iter-stuck : (f : ℕ → S → S) (s x : S) (n d : ℕ) → ((i : ℕ) → f i x ≡ x) → iter f s n ≡ x → iter f s (n + d) ≡ x
+  iter-stuck f s x n zero h e = let z : n + 0 ≡ n = omega arith in rw z e
+  iter-stuck f s x n (suc d) h e =
+      let z : n + suc d ≡ (n + d) + 1 = omega arith in
+      rw (z, iter-next, iter-stuck f s x n d h e) (h (n + d))
+
+  pub range-start : (f : ℕ → S → S) (s : S) (a : ℕ) → range f s a a ≡ s
+  unfolding range
+  range-start f s a = let z : a - a ≡ 0 = omega arith in rw (z, iter-zero)
+
+  pub range-next : (f : ℕ → S → S) (s : S) (a k : ℕ) → a ≤ k → range f s a (k + 1) ≡ f k (range f s a k)
+  unfolding range
+  range-next f s a k h =
+      let z : (k + 1) - a ≡ (k - a) + 1 = omega arith in
+      let y : a + (k - a) ≡ k = omega arith in
+      rw (z, iter-next, y)
+
+  -- A turn more, for a loop's `again`: from the state s to the state t. The step's own equation is proved apart from the loop's.
+  pub iter-more : (f : ℕ → S → S) (s₀ s t : S) (k : ℕ) → s ≡ iter f s₀ k → t ≡ f k s → t ≡ iter f s₀ (k + 1)
+  iter-more f s₀ s t k e h = rw (iter-next, ← e) h
+
+  pub range-more : (f : ℕ → S → S) (s₀ s t : S) (a k : ℕ) → a ≤ k → s ≡ range f s₀ a k → t ≡ f k s → t ≡ range f s₀ a (k + 1)
+  range-more f s₀ s t a k l e h = rw (range-next, ← e) h
+
+  -- a test that came out: for `sym (pick-true .. ∙ pick-false ..)` where `rw` would also reach into a record's field
+  pub pick-true : {b : Bool} (x y : S) → b ≡ true → cond b x y ≡ x
+  pick-true x y e = rw e
+
+  pub pick-false : {b : Bool} (x y : S) → b ≡ false → cond b x y ≡ y
+  pick-false x y e = rw e

@@ -1,0 +1,63 @@
+/* Jengubool: verified f32 functions, as C functions of the static library libjengubool.a.
+ *
+ * Common to all of them:
+ *   - They are pure: no memory is read or written, no global state, no errno. Any number of threads may call them.
+ *   - They accept every bit pattern and always return.
+ *   - They expect the rounding mode that a C program starts with (to nearest, ties to even), and subnormal numbers
+ *     switched on (no flush to zero). Floating-point exception flags may be raised.
+ *   - "NaN" means some NaN: neither its sign nor its payload is promised.
+ *   - The bits of every result that is no NaN are fixed by a definition in exact steps: the same on every machine.
+ *   - Errors, "odd", "even" and "monotone" below are measured by tests/accuracy.c, against double precision: over every
+ *     f32 of the range (sine and cosine beyond 64 and atan2: over many).
+ *
+ * A program that links the library also links the C math library (-lm). */
+#ifndef JENGUBOOL_H
+#define JENGUBOOL_H
+
+#ifdef __cplusplus
+extern "C" {
+#endif
+
+/* Sine of x radians. Result within -1 to 1; within 2^-24 of the true value for |x| <= 64.
+ * For |x| > 64 it is the sine of the exact remainder of x by the f32 40c90fdb (next to 2 PI), which for large x is
+ * far from the sine of x itself. Odd to the bit: jb_sin(-x) is -jb_sin(x), and so jb_sin(-0) is -0.
+ * NaN for NaN and for an infinity. */
+float jb_sin(float x);
+
+/* Cosine of x radians. Result within -1 to 1; within 2^-24 of the true value for |x| <= 64; above 64 as jb_sin.
+ * Even to the bit: jb_cos(-x) is jb_cos(x). jb_cos(0) is 1. NaN for NaN and for an infinity. */
+float jb_cos(float x);
+
+/* Hyperbolic tangent of x. Result within -1 to 1, and within 2^-23.9 of the true value for every x.
+ * Odd to the bit (jb_tanh(-0) is -0). Monotone: x <= y gives jb_tanh(x) <= jb_tanh(y).
+ * Exactly 1 for +infinity, -1 for -infinity. NaN for NaN. */
+float jb_tanh(float x);
+
+/* e to the x.
+ * x <= 0: result within 0 to 1, monotone, relative error at most 2^-23.6 down to c2aeac4f (about -87.33654), the
+ * least f32 whose exp is no subnormal; +0 below that, and for -infinity. jb_exp(0) and jb_exp(-0) are 1.
+ * x > 0: the rounded quotient 1 / jb_exp(-x): relative error at most 2^-23 up to 87, and +infinity already from
+ * 42aeac50 (about 87.33655) on, though the true value overflows only above 88.72.
+ * NaN for NaN. */
+float jb_exp(float x);
+
+/* The angle of the point (x, y), in radians: first argument y, as in C. Result within -PI to PI, PI being the f32
+ * 40490fdb; within 2^-22 of the true value. Signs of zeros count as in C: (+0, +0) gives +0, (-0, +0) gives -0,
+ * (+0, -0) gives PI, (-0, -0) gives -PI. Infinities as in C too: (+infinity, +infinity) gives PI/4.
+ * NaN if either argument is NaN. */
+float jb_atan2(float y, float x);
+
+/* Square root, correctly rounded: the f32 nearest to the true root, the result of IEEE 754's squareRoot.
+ * -0 for -0, +infinity for +infinity. NaN for NaN and for every x below 0. */
+float jb_sqrt(float x);
+
+/* The f32 nearest to x, ties to even: C's (float)x. Subnormal results are rounded likewise; what lies 2^103 or more
+ * beyond the greatest f32 (2^128 - 2^104) gives an infinity; results that round to zero keep the sign of x.
+ * NaN for NaN. */
+float jb_narrow(double x);
+
+#ifdef __cplusplus
+}
+#endif
+
+#endif
