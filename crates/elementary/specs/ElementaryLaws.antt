@@ -1,11 +1,16 @@
 -- Laws of the five elementary functions, for every f32: their ranges, what they make of a NaN and of the infinities, and exact values. Assumes nothing.
 use mathlib.Core.Path.{_≡_, refl, sym, ap, subst, _∙_}
 use mathlib.Core.Bool.{Bool, true, false, cond, not}
-use lib.Ieee.{Float, nan, inf, fin, add, sub, mul, div, rem, neg, lt, eq, ofBits, toBits}
-use Rattle.floats.specs.Ops.{_⊕_, _⊖_, _⊗_, lit, minus, nought, one, pi}
-use Rattle.elementary.specs.Elementary.{capped, raised, above, unit, scale, whole, bigR, bigM, tanhRest, tanh, expRest, expLeast, expNeg, exp, sinRest, cosRest, quadrant, sinCosNear, turn, sinCos, sin, cos}
+use lib.Dec.{T}
+use lib.Ieee.{Float, nan, inf, fin, binary32, add, sub, mul, div, rem, neg, lt, le, eq, fits, isNan, ofBits, toBits}
+use lib.Ieee.Fits.{add-fits, sub-fits, mul-fits, cond-fits}
+use lib.Ieee.Scale.{finite}
+use Rattle.floats.specs.Ops.{minus, nought, one, pi}
+use Rattle.floats.specs.RankLaws.{le-of-not-lt}
+use Rattle.elementary.specs.Elementary.{capped, raised, unit, scale, whole, tanhRest, tanh, expRest, expLeast, expNeg, exp, sinRest, cosRest, quadrant, sinCosNear, turn, sinCos, sin, cos}
 use Rattle.elementary.specs.Elementary.{left, ratio, atanRest, size, signed, octant, atan2}
-use Rattle.elementary.specs.SelectLaws.{Inside, clamped-inside}
+use Rattle.elementary.specs.SelectLaws.{Inside, clamped-inside, cond-number, clamped-number}
+use Rattle.elementary.specs.NumberLaws.{sinCos-numbers, expWide, exp-number, atanWide, atan2-number, wide-fits}
 
 -- ---- ranges that hold of a NaN too: the tests past the ends fail
 unit-inside : (y : Float) → Inside (minus 0x3f80_0000) one (unit y)
@@ -24,17 +29,6 @@ pub tanh-inside : (x : Float) → Inside (minus 0x3f80_0000) one (tanh x)
 unfolding tanh
 tanh-inside x = unit-inside _
 
--- what is clamped at the end of exp and of atan2
-abbrev expWide : Float → Float
-expWide x =
-    let z = raised x expLeast in
-    let t = z ⊗ lit 0x3fb8_aa3b ⊕ bigM in
-    let k = t ⊖ bigM in
-    expRest (z ⊖ k ⊗ lit 0x3f31_7200) (k ⊗ lit 0x35bf_be8e) ⊗ scale (above t bigR)
-
-abbrev atanWide : Float → Float → Float
-atanWide y x = signed (octant (signed (atanRest (ratio (size y) (size x))) (left x)) (lt (size x) (size y)) (left x)) (left y)
-
 pub expNeg-inside : (x : Float) → Inside nought one (expNeg x)
 unfolding expNeg lt ofBits
 expNeg-inside x = pick (lt x expLeast) (raised (capped (expWide x) one) nought) (clamped-inside nought one refl refl refl (expWide x))
@@ -50,6 +44,59 @@ exp-inside x h = rw h (expNeg-inside x)
 pub atan2-inside : (y x : Float) → Inside (minus 0x4049_0fdb) pi (atan2 y x)
 unfolding atan2 lt neg ofBits
 atan2-inside y x = clamped-inside (minus 0x4049_0fdb) pi refl refl refl (atanWide y x)
+
+-- ---- ranges of a number: the results lie between the ends
+pub record Between (bottom top r : Float) : Type 0 where
+  pub low : T (le bottom r)
+  pub high : T (le r top)
+
+module _ (bottom top : Float) (p : T (fits binary32 bottom)) (q : T (fits binary32 top)) (n : T (not (isNan bottom))) (m : T (not (isNan top))) where
+  between : (r : Float) → T (fits binary32 r) → T (not (isNan r)) → Inside bottom top r → Between bottom top r
+  between r f k h = record { low = le-of-not-lt binary32 r bottom f p k n (h .low); high = le-of-not-lt binary32 top r q f m k (h .high) }
+
+  clamped-fits : (x : Float) → T (fits binary32 x) → T (fits binary32 (raised (capped x top) bottom))
+  clamped-fits x f = cond-fits binary32 (lt (capped x top) bottom) bottom (capped x top) p (cond-fits binary32 (lt top x) top x q f)
+
+unit-fits : (y : Float) → T (fits binary32 y) → T (fits binary32 (unit y))
+unfolding unit isNan fits ofBits neg
+unit-fits y f = clamped-fits (minus 0x3f80_0000) one tt tt tt tt y f
+
+unit-between : (r : Float) → T (fits binary32 r) → T (not (isNan r)) → Inside (minus 0x3f80_0000) one r → Between (minus 0x3f80_0000) one r
+unfolding isNan fits ofBits neg
+unit-between r f n h = between (minus 0x3f80_0000) one tt tt tt tt r f n h
+
+pub sin-between : (x : Float) → T (fits binary32 x) → T (finite x) → Between (minus 0x3f80_0000) one (sin x)
+sin-between x f q = unit-between (sin x) (unfold sin sinCos sinCosNear quadrant in unit-fits _ (sub-fits binary32 _ _)) (unfold sin in sinCos-numbers x f q .s) (sin-inside x)
+
+pub cos-between : (x : Float) → T (fits binary32 x) → T (finite x) → Between (minus 0x3f80_0000) one (cos x)
+cos-between x f q = unit-between (cos x) (unfold cos sinCos sinCosNear quadrant in unit-fits _ (add-fits binary32 _ _)) (unfold cos in sinCos-numbers x f q .c) (cos-inside x)
+
+pub expNeg-between : (x : Float) → T (fits binary32 x) → T (finite x) → lt nought x ≡ false → Between nought one (expNeg x)
+unfolding isNan fits ofBits
+expNeg-between x f q g = between nought one tt tt tt tt (expNeg x) held number (expNeg-inside x)
+  where
+    w : Float
+    w = raised (capped (expWide x) one) nought
+
+    held : T (fits binary32 (expNeg x))
+    held = unfold expNeg in cond-fits binary32 (lt x expLeast) nought w tt (clamped-fits nought one tt tt tt tt (expWide x) (mul-fits binary32 _ _))
+
+    number : T (not (isNan (expNeg x)))
+    number = unfold expNeg in cond-number (lt x expLeast) nought w tt (clamped-number (expWide x) one nought (exp-number x f q g) tt tt)
+
+pub exp-between : (x : Float) → T (fits binary32 x) → T (finite x) → lt nought x ≡ false → Between nought one (exp x)
+unfolding exp
+exp-between x f q g = rw g (expNeg-between x f q g)
+
+pub atan2-between : (y x : Float) → T (fits binary32 y) → T (fits binary32 x) → T (not (isNan y)) → T (not (isNan x)) → Between (minus 0x4049_0fdb) pi (atan2 y x)
+unfolding isNan fits ofBits neg
+atan2-between y x f g n m = between (minus 0x4049_0fdb) pi tt tt tt tt (atan2 y x) held number (atan2-inside y x)
+  where
+    held : T (fits binary32 (atan2 y x))
+    held = unfold atan2 in clamped-fits (minus 0x4049_0fdb) pi tt tt tt tt (atanWide y x) (wide-fits y x)
+
+    number : T (not (isNan (atan2 y x)))
+    number = unfold atan2 in clamped-number (atanWide y x) pi (minus 0x4049_0fdb) (atan2-number y x f g n m) tt tt
 
 -- ---- a NaN for a NaN
 pub sin-nan : sin nan ≡ nan

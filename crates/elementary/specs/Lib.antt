@@ -1,4 +1,6 @@
 pub mod Elementary
 pub mod SelectLaws
+pub mod SizeLaws
+pub mod NumberLaws
 pub mod ElementaryLaws
 pub mod PointLaws

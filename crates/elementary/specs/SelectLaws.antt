@@ -22,6 +22,13 @@ above-number x bottom n = tested (lt bottom x) x bottom (λ e. lt-no-nan bottom 
 pub under-number : (x top : Float) → T (not (isNan top)) → T (not (isNan (under x top)))
 under-number x top n = tested (lt x top) x top (λ e. lt-no-nan x top (subst T (sym e) tt) .0) n
 
+-- a number that is brought between two others is a number
+pub cond-number : (b : Bool) (x y : Float) → T (not (isNan x)) → T (not (isNan y)) → T (not (isNan (cond b x y)))
+cond-number b x y n m = tested b x y (λ e. n) m
+
+pub clamped-number : (x top bottom : Float) → T (not (isNan x)) → T (not (isNan top)) → T (not (isNan bottom)) → T (not (isNan (raised (capped x top) bottom)))
+clamped-number x top bottom n t b = cond-number (lt (capped x top) bottom) bottom (capped x top) b (cond-number (lt top x) top x t n)
+
 -- a pattern that is an exponent alone is no NaN's
 pub exponent-alone : (b : ℕ) → T (not (nanBits binary32 (b % 256 * 8388608)))
 exponent-alone b =
@@ -36,13 +43,13 @@ pub record Inside (bottom top r : Float) : Type 0 where
 
 module _ (bottom top : Float) (b : lt bottom bottom ≡ false) (t : lt top top ≡ false) (o : lt top bottom ≡ false) where
   -- the value by its two tests, with what each says where it fails
-  picked : (u v : Bool) (x y : Float) → (v ≡ false → lt y bottom ≡ false) → lt top y ≡ false → Inside bottom top (cond v bottom y)
-  picked u true x y p q = record { low = b; high = o }
-  picked u false x y p q = record { low = p refl; high = q }
+  picked : (v : Bool) (y : Float) → (v ≡ false → lt y bottom ≡ false) → lt top y ≡ false → Inside bottom top (cond v bottom y)
+  picked true y p q = record { low = b; high = o }
+  picked false y p q = record { low = p refl; high = q }
 
   not-above : (u : Bool) (x : Float) → (u ≡ false → lt top x ≡ false) → lt top (cond u top x) ≡ false
   not-above true x p = t
   not-above false x p = p refl
 
   pub clamped-inside : (x : Float) → Inside bottom top (raised (capped x top) bottom)
-  clamped-inside x = picked true (lt (capped x top) bottom) x (capped x top) (λ e. e) (not-above (lt top x) x (λ e. e))
+  clamped-inside x = picked (lt (capped x top) bottom) (capped x top) (λ e. e) (not-above (lt top x) x (λ e. e))

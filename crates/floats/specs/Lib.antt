@@ -18,3 +18,4 @@ pub mod NarrowOrderLaws
 pub mod ProductLaws
 pub mod MaxMinLaws
 pub mod NanLaws
+pub mod RootRangeLaws
