@@ -1,5 +1,5 @@
--- Laws of the five elementary functions, for every f32: their ranges, what they make of a NaN and of the infinities, and exact values. Assumes nothing.
-use mathlib.Core.Path.{_≡_, refl, sym, ap, subst, _∙_}
+-- Laws of the five elementary functions, for every f32: their ranges, and what they make of a NaN and of the infinities. PointLaws has exact values. Assumes nothing.
+use mathlib.Core.Path.{_≡_, refl}
 use mathlib.Core.Bool.{Bool, true, false, cond, not}
 use lib.Dec.{T}
 use lib.Ieee.{Float, nan, inf, fin, binary32, add, sub, mul, div, rem, neg, lt, le, eq, fits, isNan, ofBits, toBits}
@@ -8,8 +8,9 @@ use lib.Ieee.Scale.{finite}
 use Rattle.floats.specs.Ops.{minus, nought, one, pi}
 use Rattle.floats.specs.RankLaws.{le-of-not-lt}
 use Rattle.elementary.specs.Elementary.{capped, raised, unit, scale, whole, tanhRest, tanh, expRest, expLeast, expNeg, exp, sinRest, cosRest, quadrant, sinCosNear, turn, sinCos, sin, cos}
-use Rattle.elementary.specs.Elementary.{left, ratio, atanRest, size, signed, octant, atan2}
-use Rattle.elementary.specs.SelectLaws.{Inside, clamped-inside, cond-number, clamped-number}
+use Rattle.elementary.specs.Elementary.{ratio, atanRest, size, signed, octant, atan2}
+use Rattle.elementary.specs.SelectLaws.{Inside, clamped-inside, cond-number, clamped-number, clamped-fits}
+use Rattle.elementary.specs.TanhLaws.{tanh-number}
 use Rattle.elementary.specs.NumberLaws.{sinCos-numbers, expWide, exp-number, atanWide, atan2-number, wide-fits}
 
 -- ---- ranges that hold of a NaN too: the tests past the ends fail
@@ -54,12 +55,9 @@ module _ (bottom top : Float) (p : T (fits binary32 bottom)) (q : T (fits binary
   between : (r : Float) → T (fits binary32 r) → T (not (isNan r)) → Inside bottom top r → Between bottom top r
   between r f k h = record { low = le-of-not-lt binary32 r bottom f p k n (h .low); high = le-of-not-lt binary32 top r q f m k (h .high) }
 
-  clamped-fits : (x : Float) → T (fits binary32 x) → T (fits binary32 (raised (capped x top) bottom))
-  clamped-fits x f = cond-fits binary32 (lt (capped x top) bottom) bottom (capped x top) p (cond-fits binary32 (lt top x) top x q f)
-
 unit-fits : (y : Float) → T (fits binary32 y) → T (fits binary32 (unit y))
-unfolding unit isNan fits ofBits neg
-unit-fits y f = clamped-fits (minus 0x3f80_0000) one tt tt tt tt y f
+unfolding unit fits ofBits neg
+unit-fits y f = clamped-fits y one (minus 0x3f80_0000) f tt tt
 
 unit-between : (r : Float) → T (fits binary32 r) → T (not (isNan r)) → Inside (minus 0x3f80_0000) one r → Between (minus 0x3f80_0000) one r
 unfolding isNan fits ofBits neg
@@ -71,6 +69,9 @@ sin-between x f q = unit-between (sin x) (unfold sin sinCos sinCosNear quadrant 
 pub cos-between : (x : Float) → T (fits binary32 x) → T (finite x) → Between (minus 0x3f80_0000) one (cos x)
 cos-between x f q = unit-between (cos x) (unfold cos sinCos sinCosNear quadrant in unit-fits _ (add-fits binary32 _ _)) (unfold cos in sinCos-numbers x f q .c) (cos-inside x)
 
+pub tanh-between : (x : Float) → T (fits binary32 x) → T (not (isNan x)) → Between (minus 0x3f80_0000) one (tanh x)
+tanh-between x f n = unit-between (tanh x) (unfold tanh in unit-fits _ (sub-fits binary32 _ _)) (tanh-number x f n) (tanh-inside x)
+
 pub expNeg-between : (x : Float) → T (fits binary32 x) → T (finite x) → lt nought x ≡ false → Between nought one (expNeg x)
 unfolding isNan fits ofBits
 expNeg-between x f q g = between nought one tt tt tt tt (expNeg x) held number (expNeg-inside x)
@@ -79,7 +80,7 @@ expNeg-between x f q g = between nought one tt tt tt tt (expNeg x) held number (
     w = raised (capped (expWide x) one) nought
 
     held : T (fits binary32 (expNeg x))
-    held = unfold expNeg in cond-fits binary32 (lt x expLeast) nought w tt (clamped-fits nought one tt tt tt tt (expWide x) (mul-fits binary32 _ _))
+    held = unfold expNeg in cond-fits binary32 (lt x expLeast) nought w tt (clamped-fits (expWide x) one nought (mul-fits binary32 _ _) tt tt)
 
     number : T (not (isNan (expNeg x)))
     number = unfold expNeg in cond-number (lt x expLeast) nought w tt (clamped-number (expWide x) one nought (exp-number x f q g) tt tt)
@@ -93,7 +94,7 @@ unfolding isNan fits ofBits neg
 atan2-between y x f g n m = between (minus 0x4049_0fdb) pi tt tt tt tt (atan2 y x) held number (atan2-inside y x)
   where
     held : T (fits binary32 (atan2 y x))
-    held = unfold atan2 in clamped-fits (minus 0x4049_0fdb) pi tt tt tt tt (atanWide y x) (wide-fits y x)
+    held = unfold atan2 in clamped-fits (atanWide y x) pi (minus 0x4049_0fdb) (wide-fits y x) tt tt
 
     number : T (not (isNan (atan2 y x)))
     number = unfold atan2 in clamped-number (atanWide y x) pi (minus 0x4049_0fdb) (atan2-number y x f g n m) tt tt

@@ -3,7 +3,7 @@ use mathlib.Core.Path.{_≡_, refl, sym, ap, subst, _∙_}
 use mathlib.Core.Logic.{_⊎_, inl, inr}
 use mathlib.Core.Bool.{Bool, true, false, cond, not, _||_}
 use Prim.Native.Nat.{ℕ, zero, suc, _+_, _-_, _*_, _%_, _^_, _≤_, _<_}
-use native.Mathlib.Nat.{le-trans, le-of-lt, le-of-eq, mod-lt, mul-mod-left, mul-div-cancel, le-of-mul-le-mul-right}
+use native.Mathlib.Nat.{le-trans, le-of-lt, le-of-eq, mod-lt, mul-mod-left, mul-div-cancel, mul-le-mul-right, le-of-mul-le-mul-right}
 use native.Mathlib.Omega.{arith}
 use lib.Dec.{T, ltb, ltb→lt, nltb→le, lit<, lit≤}
 use lib.Pow.{pow-add, pow-pos, pow-mono}
@@ -17,10 +17,10 @@ use Rattle.floats.specs.NonNegLaws.{NonNeg, clear, lt-is, le-of}
 use Rattle.floats.specs.RoundingLaws.{Counted, counted, rep-of, rep-step}
 use Rattle.floats.specs.PatternLaws.{read-high, write}
 use Rattle.floats.specs.RemLaws.{W, tau-val, tau-rep, rem-exact}
-use Rattle.elementary.specs.Elementary.{capped, raised, above, unit, scale, whole, bigR, bigM, expRest, expLeast, sinRest, cosRest, quadrant, sinCosNear, turn, sinCos}
+use Rattle.elementary.specs.Elementary.{raised, above, unit, scale, whole, bigR, bigM, expRest, expLeast, sinRest, cosRest, quadrant, sinCosNear, turn, sinCos}
 use Rattle.elementary.specs.Elementary.{left, ratio, atanRest, size, signed, octant}
 use Rattle.elementary.specs.SelectLaws.{clamped-number}
-use Rattle.elementary.specs.SizeLaws.{L, Within, within-finite, Step, add-in, sub-in, mul-in, neg-in, more-in, cond-in, constant, Near, near, off, div-in, tests-in, mul-number, within-number}
+use Rattle.elementary.specs.SizeLaws.{L, Within, add-in, sub-in, mul-in, neg-in, more-in, cond-in, constant, Near, near, off, div-in, tests-in, mul-number, within-number}
 
 -- ---- constants in units
 abbrev bigR-units : ℕ
@@ -59,7 +59,7 @@ cosRest-in hr hl =
     let hp = add-in (2 ^ 229) (mul-in (2 ^ 223) (mul-in (2 ^ 185) hz hz tt) h1 tt) (mul-in (2 ^ 170) hr hl tt) tt in
     add-in (2 ^ 232) hw (add-in (2 ^ 230) (sub-in (2 ^ 170) (sub-in (2 ^ 169) (constant L one tt) hw tt) hy tt) hp tt) tt
 
-unit-number : (y : Float) → T (not (isNan y)) → T (not (isNan (unit y)))
+pub unit-number : (y : Float) → T (not (isNan y)) → T (not (isNan (unit y)))
 unfolding unit isNan neg ofBits
 unit-number y n = clamped-number y one (minus 0x3f80_0000) n tt tt
 
@@ -146,36 +146,46 @@ power-in (suc x) h =
     room : (x : ℕ) → suc x ≤ 254 → 23 + x ≤ 276
     room x h = omega arith
 
--- M and what is at most 127 away from it, in units
-abbrev bigM-units : ℕ
+-- from R to R + 255 the format holds whole numbers only, and the low byte of the pattern is what lies above R
+pub byte-of : (lo hi : ℕ) (u : Float) (c : ℕ) → T (fits binary32 u) → Val binary32 u false c → 12582912 ≤ lo → hi ≤ 12583167 → lo * 2 ^ 149 ≤ c → c ≤ hi * 2 ^ 149
+    → (lo - 12582912 ≤ toBits binary32 u % 256) × (toBits binary32 u % 256 ≤ hi - 12582912)
+byte-of lo hi u c p v a b g h =
+    let r = rep-step binary32 149 c (rep-of binary32 u false c p v) (le-trans (mul-le-mul-right (2 ^ 149) (big lo a)) g) in
+    let m = r .0 in
+    let l : lo ≤ m = le-of-mul-le-mul-right (le-trans g (le-of-eq (r .1))) (pow-pos 149) in
+    let k : m ≤ hi = le-of-mul-le-mul-right (le-trans (le-of-eq (sym (r .1))) h) (pow-pos 149) in
+    let e : toBits binary32 u ≡ 149 * 8388608 + m = write binary32 u m 149 (least m lo a l) (most m hi b k) (subst (λ (z : ℕ). Val binary32 u false z) (r .1) v) in
+    subst (λ (z : ℕ). (lo - 12582912 ≤ z % 256) × (z % 256 ≤ hi - 12582912)) (sym e) (above-low m lo hi a b l k, below-high m lo hi a b l k)
+  where
+    big : (lo : ℕ) → 12582912 ≤ lo → 8388608 ≤ lo
+    big lo a = omega arith
+
+    least : (m lo : ℕ) → 12582912 ≤ lo → lo ≤ m → 8388608 ≤ m
+    least m lo a l = omega arith
+
+    most : (m hi : ℕ) → hi ≤ 12583167 → m ≤ hi → m < 16777216
+    most m hi b k = omega arith
+
+    above-low : (m lo hi : ℕ) → 12582912 ≤ lo → hi ≤ 12583167 → lo ≤ m → m ≤ hi → lo - 12582912 ≤ (149 * 8388608 + m) % 256
+    above-low m lo hi a b l k = omega arith
+
+    below-high : (m lo hi : ℕ) → 12582912 ≤ lo → hi ≤ 12583167 → lo ≤ m → m ≤ hi → (149 * 8388608 + m) % 256 ≤ hi - 12582912
+    below-high m lo hi a b l k = omega arith
+
+-- M and what is at most 127 away from it, in units: there the byte is at most 254
+abbrev pub bigM-units : ℕ
 bigM-units = 12583039 * 2 ^ 149
 
 abbrev reach : ℕ
 reach = 127 * 2 ^ 149
 
-bigM-val : Val binary32 bigM false bigM-units
+pub bigM-val : Val binary32 bigM false bigM-units
 unfolding ofBits
 bigM-val = (refl, refl)
 
--- there the low byte of the pattern is at most 254
 scale-in : {u : Float} → T (fits binary32 u) → Near bigM-units reach u → Within (2 ^ 276) (scale u)
 unfolding scale
-scale-in {u} p h =
-    let r = rep-step binary32 149 (h .count) (rep-of binary32 u false (h .count) p (h .val)) (le-trans (lit≤ tt) (h .low)) in
-    let m = r .0 in
-    let lo : 12582912 ≤ m = le-of-mul-le-mul-right (le-trans (h .low) (le-of-eq (r .1))) (pow-pos 149) in
-    let hi : m ≤ 12583166 = le-of-mul-le-mul-right (le-trans (le-of-eq (sym (r .1))) (h .high)) (pow-pos 149) in
-    let e : toBits binary32 u ≡ 149 * 8388608 + m = write binary32 u m 149 (least m lo) (most m hi) (subst (λ (z : ℕ). Val binary32 u false z) (r .1) (h .val)) in
-    power-in (toBits binary32 u % 256) (subst (λ (z : ℕ). z % 256 ≤ 254) (sym e) (byte m lo hi))
-  where
-    least : (m : ℕ) → 12582912 ≤ m → 8388608 ≤ m
-    least m h = omega arith
-
-    most : (m : ℕ) → m ≤ 12583166 → m < 16777216
-    most m h = omega arith
-
-    byte : (m : ℕ) → 12582912 ≤ m → m ≤ 12583166 → (149 * 8388608 + m) % 256 ≤ 254
-    byte m lo hi = omega arith
+scale-in {u} p h = power-in (toBits binary32 u % 256) (byte-of 12582912 12583166 u (h .count) p (h .val) (lit≤ tt) (lit≤ tt) (h .low) (h .high) .1)
 
 expRest-in : {h l : Float} → Within (2 ^ 157) h → Within (2 ^ 156) l → Within (2 ^ 210) (expRest h l)
 unfolding expRest lib.Ieee.size ofBits fits
@@ -204,7 +214,7 @@ least-val : Val binary32 expLeast true leastUnits
 unfolding ofBits neg
 least-val = (refl, refl)
 
-nought-val : Val binary32 nought false 0
+pub nought-val : Val binary32 nought false 0
 unfolding ofBits
 nought-val = (refl, refl)
 

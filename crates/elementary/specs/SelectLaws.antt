@@ -1,12 +1,13 @@
 -- Laws of the selects and of `scale`: a clamped value is never past its ends, and what has passed a test is a number. Assumes nothing.
-use mathlib.Core.Path.{_≡_, refl, sym, ap, subst, _∙_}
+use mathlib.Core.Path.{_≡_, refl, sym, subst, _∙_}
 use mathlib.Core.Bool.{Bool, true, false, cond, not}
-use Prim.Native.Nat.{ℕ, _*_, _%_, _<_, _≤_}
+use Prim.Native.Nat.{ℕ, _*_, _%_, _<_}
 use native.Mathlib.Nat.{mod-lt, mod-eq-of-lt}
 use native.Mathlib.Omega.{arith}
 use borrow.Author.Tests.{le-ltb}
 use lib.Dec.{T}
-use lib.Ieee.{Float, binary32, lt, isNan, nanBits}
+use lib.Ieee.{Float, binary32, lt, fits, isNan, nanBits}
+use lib.Ieee.Fits.{cond-fits}
 use lib.Ieee.Bits.{nanBits-above}
 use Rattle.floats.specs.RankLaws.{lt-no-nan}
 use Rattle.elementary.specs.Elementary.{capped, raised, above, under}
@@ -28,6 +29,9 @@ cond-number b x y n m = tested b x y (λ e. n) m
 
 pub clamped-number : (x top bottom : Float) → T (not (isNan x)) → T (not (isNan top)) → T (not (isNan bottom)) → T (not (isNan (raised (capped x top) bottom)))
 clamped-number x top bottom n t b = cond-number (lt (capped x top) bottom) bottom (capped x top) b (cond-number (lt top x) top x t n)
+
+pub clamped-fits : (x top bottom : Float) → T (fits binary32 x) → T (fits binary32 top) → T (fits binary32 bottom) → T (fits binary32 (raised (capped x top) bottom))
+clamped-fits x top bottom p t b = cond-fits binary32 (lt (capped x top) bottom) bottom (capped x top) b (cond-fits binary32 (lt top x) top x t p)
 
 -- a pattern that is an exponent alone is no NaN's
 pub exponent-alone : (b : ℕ) → T (not (nanBits binary32 (b % 256 * 8388608)))

@@ -1,10 +1,10 @@
 -- Sizes: `Within n x` says that x is a finite f32 of at most n units of 2 ^ -149. A sum, a difference or a product of two such values has a bound that is computed from theirs,
 -- so a chain of steps with crude bounds below the infinity is finite, and no NaN arises in it. Assumes nothing.
 use mathlib.Core.Path.{_≡_, refl, sym, ap, subst, _∙_}
-use mathlib.Core.Logic.{_⊎_, inl, inr}
+use mathlib.Core.Logic.{inl, inr}
 use mathlib.Core.Bool.{Bool, true, false, cond, not, _&&_, Bool·beq}
-use Prim.Native.Nat.{ℕ, zero, suc, _+_, _-_, _*_, _/_, _%_, _^_, _≤_, _<_}
-use native.Mathlib.Nat.{le-refl, le-trans, le-of-eq, le-of-lt, lt-of-le-of-lt, lt-irrefl, not-le-of-lt, mul-comm, mul-pos, mul-le-mul, mul-div-cancel}
+use Prim.Native.Nat.{ℕ, _+_, _-_, _*_, _/_, _^_, _≤_, _<_}
+use native.Mathlib.Nat.{le-refl, le-trans, le-of-eq, le-of-lt, lt-of-le-of-lt, lt-irrefl, mul-comm, mul-pos, mul-le-mul, mul-div-cancel}
 use native.Mathlib.Omega.{arith}
 use lib.Dec.{T, leb, ltb, leb→le, ltb→lt, nltb→le, lit<}
 use lib.Pow.{pow-pos}
@@ -50,7 +50,7 @@ rounded-in n c m s a x C e h t =
     rounded-up n c m s a x C e h (leb→le (G binary32 c m) n (and-l (leb (G binary32 c m) n) (ltb n (overflow binary32)) t)) (ltb→lt n (overflow binary32) (and-r (leb (G binary32 c m) n) (ltb n (overflow binary32)) t))
 
 -- a sum of signed sizes is one, rounded, and no larger than both together
-sum-in : (s : Bool) (a : ℕ) (t : Bool) (b c : ℕ) → (u : Bool) × (k : ℕ) × (sum binary32 s a t b c ≡ round binary32 u k c) × (k ≤ a + b)
+pub sum-in : (s : Bool) (a : ℕ) (t : Bool) (b c : ℕ) → (u : Bool) × (k : ℕ) × (sum binary32 s a t b c ≡ round binary32 u k c) × (k ≤ a + b)
 unfolding sum
 sum-in s a t b c = go (Bool·beq s t) (ltb a b)
   where
@@ -97,7 +97,7 @@ cond-in true h k = h
 cond-in false h k = k
 
 -- ---- a constant, by one computed test
-abbrev unitsOf : Float → ℕ
+abbrev pub unitsOf : Float → ℕ
 unitsOf nan = 0
 unitsOf (inf s) = 0
 unitsOf (fin s m e) = m * up e * L / down e

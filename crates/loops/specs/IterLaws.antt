@@ -46,3 +46,9 @@ module _ {ℓ} {S : Type ℓ} where
 
   pub pick-false : {b : Bool} (x y : S) → b ≡ false → cond b x y ≡ y
   pick-false x y e = rw e
+
+  -- turns that agree below n make the same of a state
+  pub iter-same : (f g : ℕ → S → S) (s : S) (n : ℕ) → ((i : ℕ) → i < n → (x : S) → f i x ≡ g i x) → iter f s n ≡ iter g s n
+  unfolding iter
+  iter-same f g s zero h = refl
+  iter-same f g s (suc n) h = ap (f n) (iter-same f g s n (λ i l. h i (omega arith))) ∙ h n (omega arith) (iter g s n)

@@ -1,12 +1,15 @@
 -- A loop of stores makes the list of its elements, and a part of a list that was lent comes back in its place. Assumes nothing.
-use mathlib.Core.Path.{_≡_, refl, sym, ap, _∙_}
+use mathlib.Core.Path.{_≡_, refl, sym, ap, _∙_, subst}
+use mathlib.Core.Logic.{_⊎_, inl, inr}
 use mathlib.Core.List.{List, [], _∷_, _++_, append-assoc}
 use Prim.Native.Nat.{ℕ, zero, suc, _+_, _-_, _≤_, _<_}
 use native.Mathlib.Numerals.{add-one}
 use native.Mathlib.Omega.{arith}
-use lib.ListN.{length, getD, take, drop, set, length-append, length-take, length-drop, take-append-drop}
+use native.Mathlib.Nat.{eq-or-lt-of-le, le-of-suc-le-suc}
+use lib.ListN.{List·getD-append, length, getD, take, drop, set, length-set, length-append, length-take, length-drop, take-append-drop}
 use lib.Seq.{drop-cons, set-at, take-at, drop-at, drop-length, take-append-le, drop-append-le, drop-drop, take-take, getD-at, length-take-le}
 use Rattle.loops.specs.Loops.{iter, tab}
+use Rattle.loops.specs.IterLaws.{iter-zero, iter-next}
 
 module _ {A : Type 0} where
   pub tab-length : (f : ℕ → A) (n : ℕ) → length (tab f n) ≡ n
@@ -45,3 +48,36 @@ module _ {A : Type 0} where
 
   pub part-length : (l ys : List A) (b n : ℕ) → b + n ≤ length l → length ys ≡ n → length (take b l ++ (ys ++ drop n (drop b l))) ≡ length l
   part-length l ys b n h e = simp (length-append, length-take, length-drop, e) (omega arith)
+
+  -- what stands at a place
+  pub tab-at : (f : ℕ → A) (d : A) (n i : ℕ) → i < n → getD (tab f n) i d ≡ f i
+  unfolding tab
+  tab-at f d zero i h = absurd (not-below i h)
+    where
+      not-below : (i : ℕ) → i < 0 → ⊥
+      not-below i h = omega arith
+  tab-at f d (suc n) i h = elim (eq-or-lt-of-le (le-of-suc-le-suc h)) [
+    | inl e ↦ subst (λ (k : ℕ). getD (tab f n ++ (f n ∷ [])) k d ≡ f k) (sym e) (getD-at (tab f n) (f n) [] d n (tab-length f n))
+    | inr l ↦ List·getD-append (tab f n) (f n ∷ []) d i (subst (λ (k : ℕ). i < k) (sym (tab-length f n)) l) ∙ tab-at f d n i l
+  ]
+
+  -- lists of elements that agree
+  pub tab-same : (f g : ℕ → A) (n : ℕ) → ((i : ℕ) → i < n → f i ≡ g i) → tab f n ≡ tab g n
+  unfolding tab
+  tab-same f g zero h = refl
+  tab-same f g (suc n) h = rw (tab-same f g n (λ i l. h i (omega arith)), h n (omega arith))
+
+-- A loop that has stored f 0, f 1, .. f (k - 1) into a list that was l₀: how its invariant says so, and the three steps of its proof.
+pub record Stores {A : Type 0} (f : ℕ → A) (l₀ l : List A) (k : ℕ) : Type 0 where
+  pub len : length l ≡ length l₀
+  pub is : l ≡ iter (λ p l. set l p (f p)) l₀ k
+
+module _ {A : Type 0} (f : ℕ → A) (l₀ : List A) where
+  pub stores-none : Stores f l₀ l₀ 0
+  stores-none = record { len = refl; is = sym (iter-zero (λ p l. set l p (f p)) l₀) }
+
+  pub stores-next : (l : List A) (k : ℕ) (x : A) → Stores f l₀ l k → x ≡ f k → Stores f l₀ (set l k x) (k + 1)
+  stores-next l k x s e = record { len = length-set l k x ∙ s .len; is = rw (iter-next, ← s .is, e) }
+
+  pub stores-all : (l : List A) (d : A) (n : ℕ) → Stores f l₀ l n → length l₀ ≡ n → l ≡ tab f n
+  stores-all l d n s e = s .is ∙ ap (iter (λ p l. set l p (f p)) l₀) (sym e) ∙ stored-all f l₀ d ∙ ap (tab f) e

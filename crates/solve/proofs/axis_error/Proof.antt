@@ -9,4 +9,7 @@ unfolding S.axisError
 returns c = rw (c .min .ensures, c .before .sqrt .ensures, c .before .before .max .ensures)
 
 pub axis-error-spec : {M : Type 1} → statement M
-axis-error-spec = tie.close (tie.spec (λ c κs. search needs) (λ c κs. search needs) (λ c κs. search needs) returns)
+axis-error-spec =
+    tie.close
+    (tie.spec
+    (λ c κs. search needs) (λ c κs. search needs) (λ c κs. search needs) returns)

@@ -1,6 +1,4 @@
 -- Both tests of the pivot. Assumes nothing.
-use mathlib.Core.Path.{ap, sym, _∙_}
-use mathlib.Core.Bool.{Bool, not, _||_}
 use borrow.Author.Needs.{needs}
 use Rattle.solve.specs.Solve as S
 use Rattle.solve.proofs.is_unusable.Statement.{statement}
@@ -15,4 +13,7 @@ unfolding S.unusable
 returns-2 c = rw (← c .before .is-finite .ensures, c .if1 .left)
 
 pub is-unusable-spec : {M : Type 1} → statement M
-is-unusable-spec = tie.close (tie.spec (λ c κs. search needs) (λ c κs. search needs) returns returns-2)
+is-unusable-spec =
+    tie.close
+    (tie.spec
+    (λ c κs. search needs) (λ c κs. search needs) returns returns-2)

@@ -1,0 +1,172 @@
+-- The Gauss-Newton fit from a seed: ring_fit/solver.rs, fit_with_seed and degenerate_fit. Definitions only.
+-- `n` is the number of samples throughout; `vs` are the samples, `phis` their angles on the ring.
+use mathlib.Core.Bool.{Bool, true, false, cond, not, _&&_, _||_}
+use mathlib.Core.List.{List, [], _∷_}
+use Prim.Native.Nat.{ℕ, zero, suc, _+_}
+use lib.IntN.{pos}
+use lib.ListN.{getD, set, replicate}
+use lib.Ieee.{Float, binary32, neg, lt, ofInt}
+use lib.Ieee.Scale.{finite}
+use Rattle.floats.specs.Ops.{_⊕_, _⊖_, _⊗_, _⊘_, lit, nought, one, pi, halfPi}
+use Rattle.floats.specs.Library.{abs, signum, max, sqrt}
+use Rattle.elementary.specs.Elementary.{sinCos, tanh}
+use Rattle.elementary.specs.declared.SinCos.{SinCos}
+use Rattle.loops.specs.Loops.{iter, tab}
+use Rattle.solve.specs.Solve.{Row, Matrix, at, solve4x4, axisStdErrors}
+use Rattle.solve.specs.declared.Solved.{Solved}
+use Rattle.solve.specs.declared.Solved.the-variants.{Values, Failed}
+use Rattle.solve.specs.declared.Errors.{Errors}
+use Rattle.axes.specs.Canonical.{canonicalizeTrackingSwap}
+use Rattle.axes.specs.declared.Axes.{Axes}
+use Rattle.solver.specs.declared.Params.{Params}
+use Rattle.solver.specs.declared.Sample.{Sample}
+use Rattle.solver.specs.declared.TwoAxisFit.{TwoAxisFit}
+use Rattle.solver.specs.declared.Started.{Started}
+
+-- mod.rs: TANH_BETA, the slope of the model; solver.rs: GN_MAX_ANGLE_STEP, GN_TOL
+abbrev pub tanhBeta : Float
+tanhBeta = lit 0x4080_0000
+
+abbrev pub maxAngleStep : Float
+maxAngleStep = lit 0x3f00_0000
+
+abbrev pub tolerance : Float
+tolerance = lit 0x38d1_b717
+
+abbrev pub count : ℕ → Float
+count n = ofInt binary32 (pos n)
+
+-- ---- one pass: the normal matrix, its right-hand side and the sum of squared residuals
+-- a sample v at the angle of sine s and cosine c: its residual r, and its row 1, q, d1, d2 of the Jacobian
+unfoldable pub sampleAt : Params → SinCos → SinCos → Float → Float → Float → Sample
+sampleAt p t1 t2 v s c =
+    let s1a = s ⊗ t1 .c ⊖ c ⊗ t1 .s in
+    let c1a = c ⊗ t1 .c ⊕ s ⊗ t1 .s in
+    let s2a = s ⊗ t2 .c ⊖ c ⊗ t2 .s in
+    let c2a = c ⊗ t2 .c ⊕ s ⊗ t2 .s in
+    let h1 = tanh (tanhBeta ⊗ s1a) in
+    let h2 = tanh (tanhBeta ⊗ s2a) in
+    let sech1 = one ⊖ h1 ⊗ h1 in
+    let sech2 = one ⊖ h2 ⊗ h2 in
+    record {
+      r = v ⊖ (p .mu ⊕ p .amp ⊗ h1 ⊗ h2);
+      q = h1 ⊗ h2;
+      d1 = neg (p .amp) ⊗ sech1 ⊗ tanhBeta ⊗ c1a ⊗ h2;
+      d2 = neg (p .amp) ⊗ h1 ⊗ sech2 ⊗ tanhBeta ⊗ c2a;
+    }
+
+abbrev pub jacobian : Sample → Row
+jacobian t = one ∷ t .q ∷ t .d1 ∷ t .d2 ∷ []
+
+abbrev pub grownRow : Row → Float → Row → Row
+grownRow j jk m = at m 0 ⊕ jk ⊗ at j 0 ∷ at m 1 ⊕ jk ⊗ at j 1 ∷ at m 2 ⊕ jk ⊗ at j 2 ∷ at m 3 ⊕ jk ⊗ at j 3 ∷ []
+
+unfoldable pub grown : Row → Matrix → Matrix
+grown j m = iter (λ k m. set m k (grownRow j (at j k) (getD m k []))) m 4
+
+abbrev pub pushed : Row → Float → Row → Row
+pushed j r v = at v 0 ⊕ at j 0 ⊗ r ∷ at v 1 ⊕ at j 1 ⊗ r ∷ at v 2 ⊕ at j 2 ⊗ r ∷ at v 3 ⊕ at j 3 ⊗ r ∷ []
+
+pub record Normal : Type 0 where
+  pub m : Matrix
+  pub v : Row
+  pub ssr : Float
+
+unfoldable pub empty : Normal
+empty = record { m = replicate 4 (replicate 4 nought); v = replicate 4 nought; ssr = nought }
+
+unfoldable pub added : Sample → Normal → Normal
+added t n = record { m = grown (jacobian t) (n .m); v = pushed (jacobian t) (t .r) (n .v); ssr = n .ssr ⊕ t .r ⊗ t .r }
+
+unfoldable pub pass : ℕ → Params → Row → Row → Row → Normal
+pass n p vs ss cs =
+    let t1 = sinCos (p .theta1) in
+    let t2 = sinCos (p .theta2) in
+    iter (λ i. added (sampleAt p t1 t2 (at vs i) (at ss i) (at cs i))) empty n
+
+-- ---- the updates
+-- an angle step of more than 0.5 in size is cut to 0.5
+unfoldable pub cut : Float → Float
+cut d = cond (lt maxAngleStep (abs d)) (signum d ⊗ maxAngleStep) d
+
+abbrev pub tiny : Float → Bool
+tiny d = lt (abs d) tolerance
+
+-- what a pass's elimination asks: stop here, or go on with new parameters
+pub data Step : Type 0 where
+  stay : Step
+  to : Params → Step
+
+unfoldable pub small : Float → Float → Float → Bool
+small d1 d2 d3 = tiny d2 && (tiny d3 && tiny d1)
+
+abbrev pub moved : Params → Float → Float → Float → Float → Params
+moved p d0 d1 d2 d3 = record { mu = p .mu ⊕ d0; amp = p .amp ⊕ d1; theta1 = p .theta1 ⊕ d2; theta2 = p .theta2 ⊕ d3 }
+
+abbrev pub stepOf : Params → Solved → Step
+stepOf p Failed = stay
+stepOf p (Values d0 d1 d2 d3) = cond (small d1 (cut d2) (cut d3)) stay (to (moved p d0 d1 (cut d2) (cut d3)))
+
+abbrev pub after : {A : Type 0} → Step → A → (Params → A) → A
+after stay a f = a
+after (to p) a f = f p
+
+-- where the updates stopped: the parameters, the last pass, which belongs to them, and how many updates were made
+pub record Final : Type 0 where
+  pub p : Params
+  pub last : Normal
+  pub updates : ℕ
+
+module _ (n : ℕ) (vs ss cs : Row) where
+  -- at most `fuel` updates more, after `k`
+  unfoldable pub updatesFrom : ℕ → ℕ → Params → Final
+  updatesFrom zero k p = record { p = p; last = pass n p vs ss cs; updates = k }
+  updatesFrom (suc fuel) k p =
+      let l = pass n p vs ss cs in
+      after (stepOf p (solve4x4 (l .m) (l .v))) (record { p = p; last = l; updates = k }) (λ q. updatesFrom fuel (k + 1) q)
+
+  -- GN_MAX_ITERS is 6
+  unfoldable pub updates : Params → Final
+  updates p = updatesFrom 6 0 p
+
+-- ---- solver.rs: degenerate_fit
+unfoldable pub degenerateFit : Float → TwoAxisFit
+degenerateFit var = record { amp = nought; theta1 = nought; theta2 = halfPi; error1 = pi; error2 = pi; rms = sqrt binary32 (max var nought) }
+
+-- solver.rs: fit_with_seed refuses such a start
+unfoldable pub degenerate : Float → Float → Bool
+degenerate amp var = not (finite amp) || (lt (abs amp) tolerance || lt var (lit 0x3586_37bd))
+
+-- the errors follow their axes where these were exchanged
+unfoldable pub assembled : Axes → Errors → Float → TwoAxisFit
+assembled a e rms =
+    record {
+      amp = a .amp;
+      theta1 = a .theta1;
+      theta2 = a .theta2;
+      error1 = cond (a .swapped) (e .error2) (e .error1);
+      error2 = cond (a .swapped) (e .error1) (e .error2);
+      rms = rms;
+    }
+
+-- the fit at the final parameters p, with the matrix and the sum of squares of the last pass
+unfoldable pub finished : ℕ → Params → Matrix → Float → TwoAxisFit
+finished n p m ssr =
+    let e = axisStdErrors m ssr n in
+    let rms = sqrt binary32 (ssr ⊘ count n) in
+    let a = canonicalizeTrackingSwap (p .theta1) (p .theta2) (p .amp) in
+    assembled a e rms
+
+abbrev pub sines : ℕ → Row → Row
+sines n phis = tab (λ i. sinCos (at phis i) .s) n
+
+abbrev pub cosines : ℕ → Row → Row
+cosines n phis = tab (λ i. sinCos (at phis i) .c) n
+
+abbrev pub whole : ℕ → Final → Started
+whole n f = record { fit = finished n (f .p) (f .last .m) (f .last .ssr); updates = f .updates }
+
+-- solver.rs: fit_with_seed, with the number of updates that it made
+unfoldable pub fitWithSeed : ℕ → Row → Row → Params → Float → Started
+fitWithSeed n vs phis p var =
+    cond (degenerate (p .amp) var) (record { fit = degenerateFit var; updates = 0 }) (whole n (updates n vs (sines n phis) (cosines n phis) p))

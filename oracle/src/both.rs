@@ -1,0 +1,47 @@
+//! Answers that carry counts come from the `counted` copy, after a comparison with `plain`.
+
+use crate::wire::to_bits;
+use shapes::{Disk, Fit6, Fit9, Ring, Seed5};
+use support::Counts;
+
+/// Stops the program where counting changed a result: then no count can be trusted.
+fn agree(function: &str, plain: Option<&[f32]>, counted: Option<&[f32]>) {
+    let bits = |fit: Option<&[f32]>| fit.map(|words| words.iter().map(|&x| to_bits(x)).collect::<Vec<_>>());
+    if bits(plain) != bits(counted) {
+        eprintln!("oracle: the counted copy of {function} answers {counted:?}, the plain copy {plain:?}");
+        std::process::exit(1);
+    }
+}
+
+pub fn fit_ring(ring: &Ring) -> (Fit6, Counts) {
+    let (fit, counts) = support::counted(|| counted::ring::robust::fit_ring(ring));
+    agree("fit_ring", Some(&plain::ring::robust::fit_ring(ring)), Some(&fit));
+    (fit, counts)
+}
+
+pub fn fit_with_seed(ring: &Ring, seed: [f32; 5]) -> (Fit6, Counts) {
+    let (fit, counts) = support::counted(|| counted::ring::solver::fit_with_seed(ring, seed));
+    agree("fit_with_seed", Some(&plain::ring::solver::fit_with_seed(ring, seed)), Some(&fit));
+    (fit, counts)
+}
+
+pub fn robust_grid_fit(ring: &Ring, mean: f32, variance: f32) -> (Option<Fit6>, Counts) {
+    let (fit, counts) = support::counted(|| counted::ring::robust::robust_grid_fit(ring, mean, variance));
+    let expected = plain::ring::robust::robust_grid_fit(ring, mean, variance);
+    agree("robust_grid_fit", expected.as_ref().map(|words| &words[..]), fit.as_ref().map(|words| &words[..]));
+    (fit, counts)
+}
+
+pub fn refine_seed_candidates(ring: &Ring, variance: f32, seed: Option<Seed5>) -> (Option<Fit6>, Counts) {
+    let (fit, counts) = support::counted(|| counted::ring::robust::refine_seed_candidates(ring, variance, seed));
+    let expected = plain::ring::robust::refine_seed_candidates(ring, variance, seed);
+    agree("refine_seed_candidates", expected.as_ref().map(|words| &words[..]), fit.as_ref().map(|words| &words[..]));
+    (fit, counts)
+}
+
+pub fn best_disk_fit(disk: &Disk, base0: f32, base1: f32) -> (Option<Fit9>, Counts) {
+    let (fit, counts) = support::counted(|| counted::disk::search::best_disk_fit(disk, base0, base1));
+    let expected = plain::disk::search::best_disk_fit(disk, base0, base1);
+    agree("best_disk_fit", expected.as_ref().map(|words| &words[..]), fit.as_ref().map(|words| &words[..]));
+    (fit, counts)
+}

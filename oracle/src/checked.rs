@@ -1,0 +1,143 @@
+//! The checked layer: frame lines in, answer lines out, refusals in document 01's order. It is ours, and written
+//! here a second time from document 01; the fits come from the Rust text.
+
+use crate::both;
+use crate::wire::{from_bits, is_hexadecimal, number, push_hex, to_bits, words};
+use shapes::{Disk, Ring, PIXELS};
+use support::Counts;
+
+const LONGEST_LINE: usize = 12_830;
+const RING_LINE: usize = 2 + 8 * 32;
+const DISK_HEAD: usize = 30;
+
+#[derive(Clone, Copy, PartialEq)]
+pub enum Kind {
+    Ring,
+    Disk,
+}
+
+#[derive(Clone, Copy)]
+pub struct Refusal {
+    /// Nothing where the line is malformed: its type is not believed then.
+    pub kind: Option<Kind>,
+    pub number: u32,
+    pub place: u32,
+}
+
+pub enum Outcome {
+    Fit(Kind, Counts),
+    Refused(Refusal, Counts),
+}
+
+pub struct Answered {
+    pub line: Vec<u8>,
+    pub outcome: Outcome,
+}
+
+/// What a line that passes all checks holds.
+pub enum Frame {
+    Ring(Ring),
+    Disk(Box<Disk>, [f32; 2]),
+}
+
+const MALFORMED: Refusal = Refusal { kind: None, number: 5, place: 0 };
+
+pub fn answer(line: &[u8]) -> Answered {
+    match parse(line) {
+        Ok(Frame::Ring(ring)) => answer_ring(&ring),
+        Ok(Frame::Disk(disk, bases)) => answer_disk(&disk, bases),
+        Err(refusal) => refused(refusal, Counts::default()),
+    }
+}
+
+pub fn parse(line: &[u8]) -> Result<Frame, Refusal> {
+    if line.len() > LONGEST_LINE || !is_hexadecimal(line) || line.len() < 2 {
+        return Err(MALFORMED);
+    }
+    match &line[..2] {
+        b"01" => parse_ring(line),
+        b"02" => parse_disk(line),
+        _ => Err(MALFORMED),
+    }
+}
+
+fn parse_ring(line: &[u8]) -> Result<Frame, Refusal> {
+    if line.len() != RING_LINE {
+        return Err(MALFORMED);
+    }
+    let values = finite_values(&line[2..], Kind::Ring)?;
+    let run = |at: usize| std::array::from_fn(|i| values[at + i]);
+    Ok(Frame::Ring(Ring { samples: run(0), angles: run(16) }))
+}
+
+fn parse_disk(line: &[u8]) -> Result<Frame, Refusal> {
+    if line.len() < DISK_HEAD {
+        return Err(MALFORMED);
+    }
+    let count = number(&line[2..6]).expect("hexadecimal") as usize;
+    if count == 0 || count > PIXELS {
+        return Err(Refusal { kind: Some(Kind::Disk), number: 2, place: 0 });
+    }
+    if line.len() != DISK_HEAD + 40 * count {
+        return Err(MALFORMED);
+    }
+    let values = finite_values(&line[6..], Kind::Disk)?;
+    let mut runs = [[0.0; PIXELS]; 5];
+    for (run, from) in runs.iter_mut().zip(values[3..].chunks(count)) {
+        run[..count].copy_from_slice(from);
+    }
+    Ok(Frame::Disk(Box::new(Disk { count, val_energy: values[0], runs }), [values[1], values[2]]))
+}
+
+fn finite_values(characters: &[u8], kind: Kind) -> Result<Vec<f32>, Refusal> {
+    let values: Vec<f32> = words(characters).expect("whole words").into_iter().map(from_bits).collect();
+    match values.iter().position(|x| !x.is_finite()) {
+        Some(place) => Err(Refusal { kind: Some(kind), number: 3, place: place as u32 }),
+        None => Ok(values),
+    }
+}
+
+fn refused(refusal: Refusal, counts: Counts) -> Answered {
+    let first = match refusal.kind {
+        Some(Kind::Ring) => 0x81,
+        Some(Kind::Disk) => 0x82,
+        None => 0xff,
+    };
+    let mut line = Vec::with_capacity(8);
+    push_hex(&mut line, first, 2);
+    push_hex(&mut line, refusal.number, 2);
+    push_hex(&mut line, refusal.place, 4);
+    Answered { line, outcome: Outcome::Refused(refusal, counts) }
+}
+
+/// Document 01: unknown if both errors equal PI.
+fn known(errors: [f32; 2]) -> u32 {
+    u32::from(errors != [std::f32::consts::PI; 2])
+}
+
+fn answer_ring(ring: &Ring) -> Answered {
+    let (fit, counts) = both::fit_ring(ring);
+    let mut line = b"8100".to_vec();
+    for x in fit {
+        push_hex(&mut line, to_bits(x), 8);
+    }
+    for byte in [counts.starts, counts.updates[0], counts.updates[1], known([fit[3], fit[4]])] {
+        push_hex(&mut line, byte, 2);
+    }
+    Answered { line, outcome: Outcome::Fit(Kind::Ring, counts) }
+}
+
+fn answer_disk(disk: &Disk, bases: [f32; 2]) -> Answered {
+    let (fit, counts) = both::best_disk_fit(disk, bases[0], bases[1]);
+    let Some(fit) = fit else {
+        return refused(Refusal { kind: Some(Kind::Disk), number: 4, place: counts.trials }, counts);
+    };
+    let errors = plain::disk::score::fit_std_errors(disk, fit);
+    let mut line = b"8200".to_vec();
+    for x in fit.into_iter().chain(errors) {
+        push_hex(&mut line, to_bits(x), 8);
+    }
+    push_hex(&mut line, counts.trials, 4);
+    push_hex(&mut line, known(errors), 2);
+    Answered { line, outcome: Outcome::Fit(Kind::Disk, counts) }
+}

@@ -1,0 +1,172 @@
+//! Runs a program on a list of lines and compares its answers with the oracle's, line by line.
+
+use crate::checked;
+use crate::functions;
+use crate::generate::List;
+use crate::paths::Paths;
+use std::io::{self, BufRead, BufReader, BufWriter, Write};
+use std::process::{Child, Command, Stdio};
+use std::time::{Duration, Instant};
+
+#[derive(Clone, Copy, PartialEq)]
+pub enum Lines {
+    Frames,
+    Functions,
+}
+
+/// Answers lines and remembers the ways they went.
+pub struct Oracle {
+    lines: Lines,
+    pub paths: Paths,
+}
+
+impl Oracle {
+    pub fn new(lines: Lines) -> Self {
+        Self { lines, paths: Paths::default() }
+    }
+
+    pub fn answer(&mut self, line: &[u8]) -> Vec<u8> {
+        match self.lines {
+            Lines::Functions => functions::answer(line),
+            Lines::Frames => {
+                let answered = checked::answer(line);
+                self.paths.note(&answered.outcome);
+                answered.line
+            }
+        }
+    }
+}
+
+/// A line on standard error now and then, so that a long run shows that it lives.
+pub struct Progress {
+    start: Instant,
+    shown: Instant,
+    count: u64,
+}
+
+impl Progress {
+    pub fn new(count: u64) -> Self {
+        Self { start: Instant::now(), shown: Instant::now(), count }
+    }
+
+    pub fn at(&mut self, done: u64) {
+        if self.shown.elapsed() > Duration::from_secs(10) {
+            self.shown = Instant::now();
+            eprintln!("oracle: {done} of {} lines, {} s", self.count, self.start.elapsed().as_secs());
+        }
+    }
+
+    pub fn seconds(&self) -> f64 {
+        self.start.elapsed().as_secs_f64()
+    }
+}
+
+const SHOWN: u64 = 5;
+
+struct Tally {
+    differences: u64,
+}
+
+impl Tally {
+    fn differ(&mut self, index: u64, line: &[u8], oracle: Option<&[u8]>, program: Option<&[u8]>) {
+        self.differences += 1;
+        if self.differences > SHOWN {
+            return;
+        }
+        let text = |answer: Option<&[u8]>| answer.map_or("(no line)".into(), |a| String::from_utf8_lossy(a).into_owned());
+        println!("line {}: {}", index + 1, String::from_utf8_lossy(line));
+        println!("  oracle:  {}", text(oracle));
+        println!("  program: {}", text(program));
+    }
+}
+
+/// The writer makes the lines by itself and never waits for the comparison, so a program that reads everything
+/// before it answers, or stops early, can not block the two.
+fn feed(list: List, child: &mut Child) -> std::thread::JoinHandle<()> {
+    let input = child.stdin.take().expect("a pipe");
+    std::thread::spawn(move || {
+        let mut input = BufWriter::with_capacity(1 << 16, input);
+        for index in 0..list.count {
+            let mut line = list.line(index);
+            line.push(b'\n');
+            if input.write_all(&line).is_err() {
+                // The program has gone; the missing answers are counted by the reader.
+                return;
+            }
+        }
+        let _ = input.flush();
+    })
+}
+
+/// The next answer of the program, without its line feed. A last line that lacks it is marked, and so differs.
+fn next_answer(output: &mut impl BufRead) -> io::Result<Option<Vec<u8>>> {
+    let mut answer = Vec::new();
+    if output.read_until(b'\n', &mut answer)? == 0 {
+        return Ok(None);
+    }
+    if answer.pop() != Some(b'\n') {
+        answer.extend_from_slice(b" (without a line feed)");
+    }
+    Ok(Some(answer))
+}
+
+/// True where nothing differs and the program ended well.
+pub fn compare(program: &str, lines: Lines, list: &List) -> io::Result<bool> {
+    let mut child = Command::new(program).stdin(Stdio::piped()).stdout(Stdio::piped()).spawn()?;
+    let writer = feed(list.clone(), &mut child);
+    let mut output = BufReader::with_capacity(1 << 16, child.stdout.take().expect("a pipe"));
+    let (mut oracle, mut tally) = (Oracle::new(lines), Tally { differences: 0 });
+    let mut progress = Progress::new(list.count);
+    for index in 0..list.count {
+        let line = list.line(index);
+        let (ours, theirs) = (oracle.answer(&line), next_answer(&mut output)?);
+        if Some(&ours) != theirs.as_ref() {
+            tally.differ(index, &line, Some(&ours), theirs.as_deref());
+        }
+        progress.at(index + 1);
+    }
+    let mut extra = list.count;
+    while let Some(answer) = next_answer(&mut output)? {
+        tally.differ(extra, b"(none)", None, Some(&answer));
+        extra += 1;
+    }
+    writer.join().expect("the writer ends");
+    let status = child.wait()?;
+    println!("{:>12}  lines compared, in {:.1} s", list.count, progress.seconds());
+    println!("{:>12}  differences", tally.differences);
+    oracle.paths.print();
+    if !status.success() {
+        println!("the program ended with {status}");
+    }
+    Ok(tally.differences == 0 && status.success())
+}
+
+/// The oracle alone: the ways a list goes, and how fast.
+pub fn paths(lines: Lines, list: &List) {
+    let mut oracle = Oracle::new(lines);
+    let mut progress = Progress::new(list.count);
+    for index in 0..list.count {
+        oracle.answer(&list.line(index));
+        progress.at(index + 1);
+    }
+    let seconds = progress.seconds();
+    println!("{:>12}  lines answered, in {seconds:.1} s: {:.0} a second", list.count, list.count as f64 / seconds);
+    oracle.paths.print();
+}
+
+/// Writes a fixed list: stdin with the lines, stdout with the oracle's answers.
+pub fn write_list(lines: Lines, list: &List, folder: &str) -> io::Result<()> {
+    std::fs::create_dir_all(folder)?;
+    let mut input = BufWriter::new(std::fs::File::create(format!("{folder}/stdin"))?);
+    let mut output = BufWriter::new(std::fs::File::create(format!("{folder}/stdout"))?);
+    let mut oracle = Oracle::new(lines);
+    for index in 0..list.count {
+        let line = list.line(index);
+        for (file, text) in [(&mut input, &line), (&mut output, &oracle.answer(&line))] {
+            file.write_all(text)?;
+            file.write_all(b"\n")?;
+        }
+    }
+    input.flush()?;
+    output.flush()
+}

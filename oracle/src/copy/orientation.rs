@@ -1,0 +1,3 @@
+//! Stands for the text's orientation/mod.rs, which names files that are not in the text.
+pub mod disk_sector;
+pub mod ring_fit;

@@ -1,0 +1,96 @@
+//! The oracle: answers frame lines and function lines by the Rust text, makes such lines, and compares programs.
+
+mod bench;
+mod both;
+mod checked;
+mod compare;
+mod functions;
+mod generate;
+mod options;
+mod paths;
+mod wire;
+
+use options::Options;
+use std::io::{self, BufRead, Write};
+use std::process::ExitCode;
+
+const USAGE: &str = "usage: oracle frames
+       oracle functions
+       oracle generate KIND COUNT SEED [NUMBERS]
+       oracle compare --program PATH --lines frames|functions --kind KIND --count N --seed S [--numbers LIST]
+       oracle list --lines frames|functions --kind KIND --count N --seed S [--numbers LIST] --out DIR
+       oracle paths --lines frames|functions --kind KIND --count N --seed S [--numbers LIST]
+       oracle bench --kind rings|disks --count N --seed S
+KIND is rings, disks, bits, limits, damaged or functions; NUMBERS and LIST are such as 10-17,20-24";
+
+fn answer_lines(answer: impl Fn(&[u8]) -> Vec<u8>) -> io::Result<()> {
+    let mut input = io::stdin().lock();
+    let mut output = io::BufWriter::new(io::stdout().lock());
+    let mut line = Vec::new();
+    while input.read_until(b'\n', &mut line)? > 0 {
+        if line.last() == Some(&b'\n') {
+            line.pop();
+        }
+        output.write_all(&answer(&line))?;
+        output.write_all(b"\n")?;
+        line.clear();
+    }
+    output.flush()
+}
+
+fn generate(words: &[String]) -> Result<bool, String> {
+    let list = options::list_of_words(words)?;
+    let mut output = io::BufWriter::new(io::stdout().lock());
+    for index in 0..list.count {
+        let mut line = list.line(index);
+        line.push(b'\n');
+        output.write_all(&line).map_err(say)?;
+    }
+    output.flush().map_err(say)?;
+    Ok(true)
+}
+
+fn say(error: impl ToString) -> String {
+    error.to_string()
+}
+
+/// True where the command found nothing wrong.
+fn run(words: &[String]) -> Result<bool, String> {
+    let Some((command, rest)) = words.split_first() else {
+        return Err(USAGE.to_string());
+    };
+    match command.as_str() {
+        "frames" if rest.is_empty() => answer_lines(|line| checked::answer(line).line).map_err(say).map(|()| true),
+        "functions" if rest.is_empty() => answer_lines(functions::answer).map_err(say).map(|()| true),
+        "generate" => generate(rest),
+        "compare" => {
+            let options = Options::read(rest)?;
+            let program = options.need("--program")?;
+            compare::compare(program, options.lines()?, &options.list()?).map_err(|error| format!("{program}: {error}"))
+        }
+        "list" => {
+            let options = Options::read(rest)?;
+            let folder = options.need("--out")?;
+            compare::write_list(options.lines()?, &options.list()?, folder).map_err(say).map(|()| true)
+        }
+        "paths" => {
+            let options = Options::read(rest)?;
+            compare::paths(options.lines()?, &options.list()?);
+            Ok(true)
+        }
+        "bench" => bench::bench(&Options::read(rest)?.list()?).map(|()| true),
+        _ => Err(USAGE.to_string()),
+    }
+}
+
+fn main() -> ExitCode {
+    let words: Vec<String> = std::env::args().skip(1).collect();
+    match run(&words) {
+        Ok(true) => ExitCode::SUCCESS,
+        Ok(false) => ExitCode::from(1),
+        Err(sentence) => {
+            eprintln!("oracle: {sentence}");
+            ExitCode::from(2)
+        }
+    }
+}

@@ -1,0 +1,77 @@
+//! What the copies of the text call by C names: Rust's own square root, floor, ceiling and rem_euclid, and the
+//! counters of the `counted` copy.
+
+use std::cell::RefCell;
+
+macro_rules! from_std {
+    ($($name:ident $method:ident ( $($argument:ident),* )),* $(,)?) => {
+        $(#[no_mangle]
+        pub extern "C" fn $name(x: f32 $(, $argument: f32)*) -> f32 {
+            x.$method($($argument),*)
+        })*
+    };
+}
+
+from_std! {
+    oracle_sqrt sqrt(), oracle_floor floor(), oracle_ceil ceil(), oracle_rem_euclid rem_euclid(divisor),
+}
+
+/// What one call of the `counted` copy did.
+#[derive(Clone, Copy, Default, Debug, PartialEq)]
+pub struct Counts {
+    pub starts: u32,
+    /// Updates of the first and the second start.
+    pub updates: [u32; 2],
+    pub degenerate: [bool; 2],
+    pub failed_elimination: bool,
+    pub suspicious: bool,
+    pub second_answered: bool,
+    pub trials: u32,
+    /// Neighbours in rank of equal force and score, which i or j puts in order.
+    pub ties_kept: u32,
+    /// Pairs left out that only i or j puts behind the last one kept.
+    pub ties_at_end: u32,
+    pub nan_scores: u32,
+    pub searched: bool,
+    pub leaders: u32,
+    pub theta2: u32,
+    pub moved: u32,
+}
+
+thread_local! {
+    static COUNTS: RefCell<Counts> = RefCell::new(Counts::default());
+}
+
+/// Runs `work` with fresh counters and hands back its result with what was counted.
+pub fn counted<T>(work: impl FnOnce() -> T) -> (T, Counts) {
+    COUNTS.with(|counts| *counts.borrow_mut() = Counts::default());
+    let result = work();
+    (result, COUNTS.with(|counts| *counts.borrow()))
+}
+
+#[no_mangle]
+pub extern "C" fn oracle_event(event: u32) {
+    COUNTS.with(|counts| note(&mut counts.borrow_mut(), event));
+}
+
+fn note(counts: &mut Counts, event: u32) {
+    // An update or a degenerate answer belongs to the start under way; there are never more than two.
+    let start = (counts.starts as usize).wrapping_sub(1);
+    match event {
+        0 => counts.starts += 1,
+        1 => counts.updates[start] += 1,
+        2 => counts.degenerate[start] = true,
+        3 => counts.failed_elimination = true,
+        4 => counts.suspicious = true,
+        5 => counts.second_answered = true,
+        6 => counts.trials += 1,
+        7 => counts.ties_kept += 1,
+        8 => counts.nan_scores += 1,
+        9 => counts.searched = true,
+        10 => counts.leaders += 1,
+        11 => counts.theta2 += 1,
+        12 => counts.moved += 1,
+        13 => counts.ties_at_end += 1,
+        other => unreachable!("event {other}"),
+    }
+}

@@ -1,0 +1,210 @@
+/* Calls every function of jengubool.h through its declaration, and holds a dozen or more results each against values
+ * worked out without the library: exact cases to the bit, other points against the C library's double precision.
+ * The first failure ends the program with a sentence that names the call. Compiles as C and as C++. */
+#include "measure.h"
+#include "jengubool.h"
+
+static int checks;
+
+static void exact(const char *call, float got, uint32_t want)
+{
+    checks++;
+    if (bits_of(got) == want) return;
+    printf("FAIL: %s is %08x, it must be %08x\n", call, bits_of(got), want);
+    exit(1);
+}
+
+static void near_to(const char *call, float got, double want, double most)
+{
+    checks++;
+    if (fabs((double)got - want) <= most) return;
+    printf("FAIL: %s is %.9g, more than %.3g away from %.17g\n", call, got, most, want);
+    exit(1);
+}
+
+static void not_a_number(const char *call, float got)
+{
+    checks++;
+    if (is_nan_bits(bits_of(got))) return;
+    printf("FAIL: %s is %.9g, it must be NaN\n", call, got);
+    exit(1);
+}
+
+#define EXACT(call, want) exact(#call, call, want)
+#define NEAR(call, want, most) near_to(#call, call, want, most)
+#define RELATIVE(call, want, most) near_to(#call, call, want, (want) * (most))
+#define NOT_A_NUMBER(call) not_a_number(#call, call)
+
+#define LEAST float_of(1)           /* 2^-149 */
+#define QUIET float_of(0x7fc00000u)
+#define OTHER_NAN float_of(0xff812345u)
+#define INF float_of(INF_BITS)
+#define SINE_BAR 0x1p-24
+#define TANH_BAR exp2(-23.9)
+#define EXP_BAR exp2(-23.6)
+#define ATAN2_BAR 0x1p-22
+
+/* x - x^3/6: for tiny x the nearest f32 is x itself. */
+static void check_sin(void)
+{
+    EXACT(jb_sin(0.0f), 0);
+    EXACT(jb_sin(-0.0f), SIGN);
+    EXACT(jb_sin(LEAST), 1);
+    EXACT(jb_sin(-LEAST), SIGN | 1);
+    EXACT(jb_sin(0x1p-20f), 0x35800000u);
+    EXACT(jb_sin(-0x1p-20f), 0xb5800000u);
+    NOT_A_NUMBER(jb_sin(QUIET));
+    NOT_A_NUMBER(jb_sin(OTHER_NAN));
+    NOT_A_NUMBER(jb_sin(INF));
+    NOT_A_NUMBER(jb_sin(-INF));
+    NEAR(jb_sin(1.0f), sin(1.0), SINE_BAR);
+    NEAR(jb_sin(-2.5f), sin(-2.5), SINE_BAR);
+    NEAR(jb_sin(float_of(0x3fc90fdbu)), 1.0, SINE_BAR);
+    NEAR(jb_sin(22.0f), sin(22.0), SINE_BAR);
+    NEAR(jb_sin(64.0f), sin(64.0), SINE_BAR);
+    NEAR(jb_sin(-63.75f), sin(-63.75), SINE_BAR);
+    NEAR(jb_sin(1000.0f), sin(fmod(1000.0, float_of(0x40c90fdbu))), SINE_BAR);
+}
+
+static void check_cos(void)
+{
+    EXACT(jb_cos(0.0f), 0x3f800000u);
+    EXACT(jb_cos(-0.0f), 0x3f800000u);
+    EXACT(jb_cos(LEAST), 0x3f800000u);
+    EXACT(jb_cos(0x1p-20f), 0x3f800000u);
+    NOT_A_NUMBER(jb_cos(QUIET));
+    NOT_A_NUMBER(jb_cos(OTHER_NAN));
+    NOT_A_NUMBER(jb_cos(INF));
+    NOT_A_NUMBER(jb_cos(-INF));
+    NEAR(jb_cos(1.0f), cos(1.0), SINE_BAR);
+    NEAR(jb_cos(-2.5f), cos(-2.5), SINE_BAR);
+    NEAR(jb_cos(float_of(0x40490fdbu)), -1.0, SINE_BAR);
+    NEAR(jb_cos(11.0f), cos(11.0), SINE_BAR);
+    NEAR(jb_cos(64.0f), cos(64.0), SINE_BAR);
+    NEAR(jb_cos(-63.75f), cos(-63.75), SINE_BAR);
+    NEAR(jb_cos(1000.0f), cos(fmod(1000.0, float_of(0x40c90fdbu))), SINE_BAR);
+}
+
+/* From 9.02 on the true value lies nearer to 1 than to the f32 below. */
+static void check_tanh(void)
+{
+    EXACT(jb_tanh(0.0f), 0);
+    EXACT(jb_tanh(-0.0f), SIGN);
+    EXACT(jb_tanh(LEAST), 1);
+    EXACT(jb_tanh(-0x1p-20f), 0xb5800000u);
+    EXACT(jb_tanh(INF), 0x3f800000u);
+    EXACT(jb_tanh(-INF), 0xbf800000u);
+    EXACT(jb_tanh(9.5f), 0x3f800000u);
+    EXACT(jb_tanh(-3e38f), 0xbf800000u);
+    NOT_A_NUMBER(jb_tanh(QUIET));
+    NOT_A_NUMBER(jb_tanh(OTHER_NAN));
+    NEAR(jb_tanh(0.125f), tanh(0.125), TANH_BAR);
+    NEAR(jb_tanh(0.5f), tanh(0.5), TANH_BAR);
+    NEAR(jb_tanh(-1.0f), tanh(-1.0), TANH_BAR);
+    NEAR(jb_tanh(3.0f), tanh(3.0), TANH_BAR);
+    NEAR(jb_tanh(-8.5f), tanh(-8.5), TANH_BAR);
+}
+
+/* 2^-26 is half of half the step below 1. c2aeac4f is the least argument with a normal result. */
+static void check_exp(void)
+{
+    EXACT(jb_exp(0.0f), 0x3f800000u);
+    EXACT(jb_exp(-0.0f), 0x3f800000u);
+    EXACT(jb_exp(-LEAST), 0x3f800000u);
+    EXACT(jb_exp(-0x1p-26f), 0x3f800000u);
+    EXACT(jb_exp(-INF), 0);
+    EXACT(jb_exp(-3e38f), 0);
+    EXACT(jb_exp(float_of(0xc2aeac50u)), 0);
+    EXACT(jb_exp(INF), INF_BITS);
+    EXACT(jb_exp(100.0f), INF_BITS);
+    NOT_A_NUMBER(jb_exp(QUIET));
+    NOT_A_NUMBER(jb_exp(OTHER_NAN));
+    RELATIVE(jb_exp(-0.5f), exp(-0.5), EXP_BAR);
+    RELATIVE(jb_exp(-1.0f), exp(-1.0), EXP_BAR);
+    RELATIVE(jb_exp(-20.0f), exp(-20.0), EXP_BAR);
+    RELATIVE(jb_exp(-80.0f), exp(-80.0), EXP_BAR);
+    RELATIVE(jb_exp(float_of(0xc2aeac4fu)), exp((double)float_of(0xc2aeac4fu)), EXP_BAR);
+    RELATIVE(jb_exp(1.0f), exp(1.0), 0x1p-23);
+}
+
+/* The f32 next to PI, PI/2, PI/4 and 3 PI/4 are 40490fdb, 3fc90fdb, 3f490fdb and 4016cbe4. */
+static void check_atan2(void)
+{
+    EXACT(jb_atan2(0.0f, 0.0f), 0);
+    EXACT(jb_atan2(-0.0f, 0.0f), SIGN);
+    EXACT(jb_atan2(0.0f, -0.0f), 0x40490fdbu);
+    EXACT(jb_atan2(-0.0f, -0.0f), 0xc0490fdbu);
+    EXACT(jb_atan2(1.0f, 0.0f), 0x3fc90fdbu);
+    EXACT(jb_atan2(-1.0f, -0.0f), 0xbfc90fdbu);
+    EXACT(jb_atan2(1.0f, 1.0f), 0x3f490fdbu);
+    EXACT(jb_atan2(-2.0f, -2.0f), 0xc016cbe4u);
+    EXACT(jb_atan2(INF, -INF), 0x4016cbe4u);
+    EXACT(jb_atan2(1.0f, INF), 0);
+    EXACT(jb_atan2(-1.0f, -INF), 0xc0490fdbu);
+    EXACT(jb_atan2(LEAST, 3e38f), 0);
+    NOT_A_NUMBER(jb_atan2(QUIET, 1.0f));
+    NOT_A_NUMBER(jb_atan2(1.0f, OTHER_NAN));
+    NEAR(jb_atan2(1.0f, 2.0f), atan2(1, 2), ATAN2_BAR);
+    NEAR(jb_atan2(2.0f, -1.0f), atan2(2, -1), ATAN2_BAR);
+    NEAR(jb_atan2(-3.0f, -40.0f), atan2(-3, -40), ATAN2_BAR);
+    NEAR(jb_atan2(-1e20f, 3e19f), atan2(-1e20, 3e19), ATAN2_BAR);
+}
+
+/* Roots of 2 and 3 to 24 digits; neighbours of 1, on either side of a tie; the ends of the subnormal and of all f32. */
+static void check_sqrt(void)
+{
+    EXACT(jb_sqrt(0.0f), 0);
+    EXACT(jb_sqrt(-0.0f), SIGN);
+    EXACT(jb_sqrt(1.0f), 0x3f800000u);
+    EXACT(jb_sqrt(2.0f), 0x3fb504f3u);
+    EXACT(jb_sqrt(3.0f), 0x3fddb3d7u);
+    EXACT(jb_sqrt(6.25f), 0x40200000u);
+    EXACT(jb_sqrt(float_of(0x3f800001u)), 0x3f800000u);
+    EXACT(jb_sqrt(float_of(0x3f7fffffu)), 0x3f7fffffu);
+    EXACT(jb_sqrt(LEAST), 0x1a3504f3u);
+    EXACT(jb_sqrt(0x1p-126f), 0x20000000u);
+    EXACT(jb_sqrt(float_of(0x7f7fffffu)), 0x5f7fffffu);
+    EXACT(jb_sqrt(INF), INF_BITS);
+    NOT_A_NUMBER(jb_sqrt(-1.0f));
+    NOT_A_NUMBER(jb_sqrt(-LEAST));
+    NOT_A_NUMBER(jb_sqrt(-INF));
+    NOT_A_NUMBER(jb_sqrt(QUIET));
+    NOT_A_NUMBER(jb_sqrt(OTHER_NAN));
+}
+
+/* Ties at 1, in the subnormals, at the least normal and above the greatest; and one digit off the tie. */
+static void check_narrow(void)
+{
+    EXACT(jb_narrow(-0.0), SIGN);
+    EXACT(jb_narrow(1.0 + 0x1p-24), 0x3f800000u);
+    EXACT(jb_narrow(1.0 + 0x1p-24 + 0x1p-52), 0x3f800001u);
+    EXACT(jb_narrow(1.0 + 3 * 0x1p-24), 0x3f800002u);
+    EXACT(jb_narrow(-(1.0 + 5 * 0x1p-24)), 0xbf800002u);
+    EXACT(jb_narrow(0x1p-149), 1);
+    EXACT(jb_narrow(0x1p-150), 0);
+    EXACT(jb_narrow(-0x1p-150), SIGN);
+    EXACT(jb_narrow(0x1.0000000000001p-150), 1);
+    EXACT(jb_narrow(0x1.8p-149), 2);
+    EXACT(jb_narrow(0x1p-126 - 0x1p-150), 0x00800000u);
+    EXACT(jb_narrow(5e-324), 0);
+    EXACT(jb_narrow(0x1.fffffep127), 0x7f7fffffu);
+    EXACT(jb_narrow(0x1.fffffefffffffp127), 0x7f7fffffu);
+    EXACT(jb_narrow(0x1.ffffffp127), INF_BITS);
+    EXACT(jb_narrow(-1e308), SIGN | INF_BITS);
+    EXACT(jb_narrow((double)INFINITY), INF_BITS);
+    NOT_A_NUMBER(jb_narrow(double_of(0x7ff8000000000000u)));
+    NOT_A_NUMBER(jb_narrow(double_of(0xfff0000000000001u)));
+}
+
+int main(void)
+{
+    check_sin();
+    check_cos();
+    check_tanh();
+    check_exp();
+    check_atan2();
+    check_sqrt();
+    check_narrow();
+    printf("%d checks of the header's functions\n", checks);
+    return 0;
+}

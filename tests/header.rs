@@ -1,0 +1,210 @@
+//! Calls every function of jengubool.h from Rust, and holds a dozen or more results each against values worked out
+//! without the library: exact cases to the bit, other points against Rust's own f64 functions. The first failure ends
+//! the program with a sentence that names the call. No outside crate: rustc alone builds it.
+
+extern "C" {
+    fn jb_sin(x: f32) -> f32;
+    fn jb_cos(x: f32) -> f32;
+    fn jb_tanh(x: f32) -> f32;
+    fn jb_exp(x: f32) -> f32;
+    fn jb_atan2(y: f32, x: f32) -> f32;
+    fn jb_sqrt(x: f32) -> f32;
+    fn jb_narrow(x: f64) -> f32;
+}
+
+const INF: f32 = f32::INFINITY;
+const SIGN: u32 = 0x8000_0000;
+const ONE: u32 = 0x3f80_0000;
+const INF_BITS: u32 = 0x7f80_0000;
+const SINE_BAR: f64 = 1.0 / 16777216.0; // 2^-24
+const ATAN2_BAR: f64 = 4.0 * SINE_BAR;
+
+static CHECKS: std::sync::atomic::AtomicUsize = std::sync::atomic::AtomicUsize::new(0);
+
+fn judge(right: bool, sentence: impl Fn() -> String) {
+    CHECKS.fetch_add(1, std::sync::atomic::Ordering::Relaxed);
+    if !right {
+        println!("FAIL: {}", sentence());
+        std::process::exit(1);
+    }
+}
+
+fn exact(call: &str, got: f32, want: u32) {
+    judge(got.to_bits() == want, || format!("{call} is {:08x}, it must be {want:08x}", got.to_bits()));
+}
+
+fn near(call: &str, got: f32, want: f64, most: f64) {
+    judge((got as f64 - want).abs() <= most, || format!("{call} is {got:e}, more than {most:e} away from {want:e}"));
+}
+
+fn not_a_number(call: &str, got: f32) {
+    judge(got.is_nan(), || format!("{call} is {got:e}, it must be NaN"));
+}
+
+// Every function here takes and returns plain floats and touches no memory: each call is sound.
+macro_rules! exact {
+    ($call:expr, $want:expr) => { exact(stringify!($call), unsafe { $call }, $want) };
+}
+macro_rules! near {
+    ($call:expr, $want:expr, $most:expr) => { near(stringify!($call), unsafe { $call }, $want, $most) };
+}
+macro_rules! not_a_number {
+    ($call:expr) => { not_a_number(stringify!($call), unsafe { $call }) };
+}
+
+fn bits(b: u32) -> f32 {
+    f32::from_bits(b)
+}
+
+/// A NaN with another sign and other digits than f32::NAN.
+fn other_nan() -> f32 {
+    bits(0xff81_2345)
+}
+
+/// Ours above 64: the sine or cosine of the exact remainder by the f32 next to 2 PI.
+fn far(x: f64) -> f64 {
+    x % std::f32::consts::TAU as f64
+}
+
+fn check_sin() {
+    exact!(jb_sin(0.0), 0);
+    exact!(jb_sin(-0.0), SIGN);
+    exact!(jb_sin(bits(1)), 1);
+    exact!(jb_sin(-bits(1)), SIGN | 1);
+    exact!(jb_sin(bits(0x3580_0000)), 0x3580_0000); // 2^-20: x^3/6 is far below its last digit
+    exact!(jb_sin(bits(0xb580_0000)), 0xb580_0000);
+    not_a_number!(jb_sin(f32::NAN));
+    not_a_number!(jb_sin(other_nan()));
+    not_a_number!(jb_sin(INF));
+    not_a_number!(jb_sin(-INF));
+    near!(jb_sin(0.75), 0.75f64.sin(), SINE_BAR);
+    near!(jb_sin(-4.5), (-4.5f64).sin(), SINE_BAR);
+    near!(jb_sin(44.0), 44f64.sin(), SINE_BAR);
+    near!(jb_sin(-64.0), (-64f64).sin(), SINE_BAR);
+    near!(jb_sin(500.0), far(500.0).sin(), SINE_BAR);
+}
+
+fn check_cos() {
+    exact!(jb_cos(0.0), ONE);
+    exact!(jb_cos(-0.0), ONE);
+    exact!(jb_cos(bits(1)), ONE);
+    exact!(jb_cos(bits(0xb580_0000)), ONE);
+    not_a_number!(jb_cos(f32::NAN));
+    not_a_number!(jb_cos(other_nan()));
+    not_a_number!(jb_cos(INF));
+    not_a_number!(jb_cos(-INF));
+    near!(jb_cos(0.75), 0.75f64.cos(), SINE_BAR);
+    near!(jb_cos(-4.5), (-4.5f64).cos(), SINE_BAR);
+    near!(jb_cos(33.0), 33f64.cos(), SINE_BAR);
+    near!(jb_cos(-64.0), (-64f64).cos(), SINE_BAR);
+    near!(jb_cos(500.0), far(500.0).cos(), SINE_BAR);
+}
+
+fn check_tanh() {
+    let bar = (-23.9f64).exp2();
+    exact!(jb_tanh(0.0), 0);
+    exact!(jb_tanh(-0.0), SIGN);
+    exact!(jb_tanh(bits(1)), 1);
+    exact!(jb_tanh(bits(0xb580_0000)), 0xb580_0000);
+    exact!(jb_tanh(INF), ONE);
+    exact!(jb_tanh(-INF), SIGN | ONE);
+    exact!(jb_tanh(-9.5), SIGN | ONE);
+    exact!(jb_tanh(f32::MAX), ONE);
+    not_a_number!(jb_tanh(f32::NAN));
+    not_a_number!(jb_tanh(other_nan()));
+    near!(jb_tanh(-0.25), (-0.25f64).tanh(), bar);
+    near!(jb_tanh(0.75), 0.75f64.tanh(), bar);
+    near!(jb_tanh(2.0), 2f64.tanh(), bar);
+    near!(jb_tanh(-6.0), (-6f64).tanh(), bar);
+}
+
+fn check_exp() {
+    let bar = (-23.6f64).exp2();
+    let least = bits(0xc2ae_ac4f);
+    exact!(jb_exp(0.0), ONE);
+    exact!(jb_exp(-0.0), ONE);
+    exact!(jb_exp(-bits(1)), ONE);
+    exact!(jb_exp(bits(0xb280_0000)), ONE); // -2^-26
+    exact!(jb_exp(-INF), 0);
+    exact!(jb_exp(-f32::MAX), 0);
+    exact!(jb_exp(bits(0xc2ae_ac50)), 0); // one below the least argument with a normal result
+    exact!(jb_exp(INF), INF_BITS);
+    exact!(jb_exp(bits(0x42ae_ac50)), INF_BITS);
+    not_a_number!(jb_exp(f32::NAN));
+    not_a_number!(jb_exp(other_nan()));
+    near!(jb_exp(-2.0), (-2f64).exp(), bar * (-2f64).exp());
+    near!(jb_exp(-12.5), (-12.5f64).exp(), bar * (-12.5f64).exp());
+    near!(jb_exp(-80.0), (-80f64).exp(), bar * (-80f64).exp());
+    near!(jb_exp(least), (least as f64).exp(), bar * (least as f64).exp());
+}
+
+fn check_atan2() {
+    exact!(jb_atan2(0.0, 0.0), 0);
+    exact!(jb_atan2(-0.0, 0.0), SIGN);
+    exact!(jb_atan2(0.0, -0.0), 0x4049_0fdb);
+    exact!(jb_atan2(-0.0, -0.0), 0xc049_0fdb);
+    exact!(jb_atan2(3.0, -0.0), 0x3fc9_0fdb);
+    exact!(jb_atan2(-3.0, 0.0), 0xbfc9_0fdb);
+    exact!(jb_atan2(0.5, 0.5), 0x3f49_0fdb);
+    exact!(jb_atan2(0.5, -0.5), 0x4016_cbe4);
+    exact!(jb_atan2(-INF, -INF), 0xc016_cbe4);
+    exact!(jb_atan2(-1.0, INF), SIGN);
+    exact!(jb_atan2(1.0, -INF), 0x4049_0fdb);
+    not_a_number!(jb_atan2(f32::NAN, 1.0));
+    not_a_number!(jb_atan2(0.0, other_nan()));
+    near!(jb_atan2(2.0, 3.0), 2f64.atan2(3.0), ATAN2_BAR);
+    near!(jb_atan2(5.0, -2.0), 5f64.atan2(-2.0), ATAN2_BAR);
+    near!(jb_atan2(-7.0, -90.0), (-7f64).atan2(-90.0), ATAN2_BAR);
+}
+
+fn check_sqrt() {
+    exact!(jb_sqrt(0.0), 0);
+    exact!(jb_sqrt(-0.0), SIGN);
+    exact!(jb_sqrt(2.0), 0x3fb5_04f3);
+    exact!(jb_sqrt(8.0), 0x4035_04f3);
+    exact!(jb_sqrt(3.0), 0x3fdd_b3d7);
+    exact!(jb_sqrt(bits(0x3f80_0001)), ONE);
+    exact!(jb_sqrt(bits(0x3f7f_ffff)), 0x3f7f_ffff);
+    exact!(jb_sqrt(bits(1)), 0x1a35_04f3);
+    exact!(jb_sqrt(bits(2)), 0x1a80_0000); // 2^-148
+    exact!(jb_sqrt(f32::MAX), 0x5f7f_ffff);
+    exact!(jb_sqrt(INF), INF_BITS);
+    not_a_number!(jb_sqrt(-2.0));
+    not_a_number!(jb_sqrt(-bits(1)));
+    not_a_number!(jb_sqrt(-INF));
+    not_a_number!(jb_sqrt(f32::NAN));
+}
+
+fn check_narrow() {
+    let step = f32::EPSILON as f64; // 2^-23
+    let least = bits(1) as f64;
+    let overflow = f32::MAX as f64 + (104f64 - 1.0).exp2(); // the tie above the greatest f32
+    exact!(jb_narrow(-0.0), SIGN);
+    exact!(jb_narrow(1.0 + 0.5 * step), ONE);
+    exact!(jb_narrow(1.0 + 0.5 * step + f64::EPSILON), ONE + 1);
+    exact!(jb_narrow(-1.0 - 1.5 * step), SIGN | (ONE + 2));
+    exact!(jb_narrow(least), 1);
+    exact!(jb_narrow(0.5 * least), 0);
+    exact!(jb_narrow(-0.5 * least), SIGN);
+    exact!(jb_narrow(0.5 * least * (1.0 + f64::EPSILON)), 1);
+    exact!(jb_narrow(2.5 * least), 2);
+    exact!(jb_narrow(f32::MIN_POSITIVE as f64 - 0.5 * least), 0x0080_0000);
+    exact!(jb_narrow(5e-324), 0);
+    exact!(jb_narrow(f64::from_bits(overflow.to_bits() - 1)), 0x7f7f_ffff);
+    exact!(jb_narrow(overflow), INF_BITS);
+    exact!(jb_narrow(f64::MIN), SIGN | INF_BITS);
+    exact!(jb_narrow(f64::NEG_INFINITY), SIGN | INF_BITS);
+    not_a_number!(jb_narrow(f64::NAN));
+    not_a_number!(jb_narrow(f64::from_bits(0xfff0_0000_0000_0001)));
+}
+
+fn main() {
+    check_sin();
+    check_cos();
+    check_tanh();
+    check_exp();
+    check_atan2();
+    check_sqrt();
+    check_narrow();
+    println!("{} checks of the header's functions", CHECKS.load(std::sync::atomic::Ordering::Relaxed));
+}
