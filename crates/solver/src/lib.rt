@@ -342,7 +342,7 @@ fn finished(p: Params, jtj: &[[f32; 4]; 4], ssr: f32, n: usize) -> TwoAxisFit
 }
 
 // The trigonometric functions of the angles depend on the ring alone, so they are worked out once.
-fn prepare(phis: &[f32], turned: &mut [f32], ss: &mut [f32], cs: &mut [f32])
+pub fn prepare(phis: &[f32], turned: &mut [f32], ss: &mut [f32], cs: &mut [f32])
     requires { ⌜ (length (now turned) ≡ length (now phis)) × (length (now ss) ≡ length (now phis)) × (length (now cs) ≡ length (now phis)) ⌝ }
     ensures { λ _. ⌜ Prepared (now (phis .entry)) (now (ss .exit)) (now (cs .exit)) ⌝ }
 {

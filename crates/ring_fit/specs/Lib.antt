@@ -1,0 +1,2 @@
+pub mod Robust
+pub mod RobustLaws
