@@ -15,7 +15,7 @@ pub struct Axes {
 pub fn wrap_to_tau(x: f32) -> f32
     ensures { λ r. ⌜ r ≡ C.wrapToTau x ⌝ }
 {
-    let r = floats::rem_euclid(x, floats::TAU);
+    let r = remainders::rem_euclid_tau(x);
     if floats::is_finite(r) {
         return r;
     }
@@ -25,13 +25,13 @@ pub fn wrap_to_tau(x: f32) -> f32
 fn arc(from: f32, to: f32) -> f32
     ensures { λ r. ⌜ r ≡ C.arc from to ⌝ }
 {
-    floats::rem_euclid(to - from, floats::TAU)
+    remainders::rem_euclid_tau(to - from)
 }
 
 fn placed(t: f32, d: f32, a: f32, w: bool) -> Axes
     ensures { λ r. ⌜ r ≡ C.placed t d a w ⌝ }
 {
-    let t1 = floats::rem_euclid(t, floats::PI);
+    let t1 = remainders::rem_euclid_pi(t);
     Axes {
         theta1: t1,
         theta2: t1 + d,

@@ -175,10 +175,10 @@ pub fn turn(x: f32) -> f32
     ensures { λ r. ⌜ r ≡ E.turn x ⌝ }
 {
     if x > 64.0 {
-        return x % 6.2831855;
+        return remainders::rem_tau(x);
     }
     if x < -64.0 {
-        return x % 6.2831855;
+        return remainders::rem_tau(x);
     }
     x
 }

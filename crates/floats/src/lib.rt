@@ -134,16 +134,6 @@ pub fn to_radians(x: f32) -> f32
     x * 0.0174532924
 }
 
-pub fn rem_euclid(x: f32, d: f32) -> f32
-    ensures { λ r. ⌜ r ≡ L.remEuclid binary32 x d ⌝ }
-{
-    let r = x % d;
-    if r < 0.0 {
-        return r + d;
-    }
-    r
-}
-
 // `a.total_cmp(&b)` is the order of `total_key(a)` and `total_key(b)`.
 pub fn total_key(x: f32) -> u32
     ensures { λ r. ⌜ r ≡ L.totalKey x ⌝ }

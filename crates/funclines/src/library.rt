@@ -42,10 +42,10 @@ pub fn of_two(number: u32, a: u32, b: u32) -> Word {
 // The divisor is PI or TAU.
 fn reduced(x: f32, divisor: u32) -> Word {
     if divisor == 0x40490fdb {
-        return of_value(floats::rem_euclid(x, floats::PI));
+        return of_value(remainders::rem_euclid_pi(x));
     }
     if divisor == 0x40c90fdb {
-        return of_value(floats::rem_euclid(x, floats::TAU));
+        return of_value(remainders::rem_euclid_tau(x));
     }
     Word::Bad
 }

@@ -5,13 +5,13 @@ ghost use Rattle.geometry.specs.Geometry as G;
 pub fn wrap_pi(a: f32) -> f32
     ensures { λ r. ⌜ r ≡ G.wrapPi a ⌝ }
 {
-    floats::rem_euclid(a, floats::PI)
+    remainders::rem_euclid_pi(a)
 }
 
 pub fn signed_line_delta(a: f32, b: f32) -> f32
     ensures { λ r. ⌜ r ≡ G.signedLineDelta a b ⌝ }
 {
-    floats::rem_euclid(a - b + floats::HALF_PI, floats::PI) - floats::HALF_PI
+    remainders::rem_euclid_pi(a - b + floats::HALF_PI) - floats::HALF_PI
 }
 
 pub fn line_delta(a: f32, b: f32) -> f32

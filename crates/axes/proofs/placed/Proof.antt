@@ -6,7 +6,7 @@ use Rattle.axes.proofs.placed.Tie as tie
 
 returns : tie.Need-returns
 unfolding C.placed
-returns c = rw (c .rem-euclid .ensures)
+returns c = rw (c .rem-euclid-pi .ensures)
 
 pub placed-spec : {M : Type 1} → statement M
 placed-spec = tie.close (tie.spec (λ c κs. search needs) returns)

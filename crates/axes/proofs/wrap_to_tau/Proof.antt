@@ -7,11 +7,11 @@ use Rattle.axes.proofs.wrap_to_tau.Tie as tie
 
 returns : tie.Need-returns
 unfolding C.wrapToTau
-returns c = rw (← c .before .before .rem-euclid .ensures, ← c .before .is-finite .ensures, c .if1 .taken)
+returns c = rw (← c .before .before .rem-euclid-tau .ensures, ← c .before .is-finite .ensures, c .if1 .taken)
 
 returns-2 : tie.Need-returns-2
 unfolding C.wrapToTau
-returns-2 c = rw (← c .before .before .rem-euclid .ensures, ← c .before .is-finite .ensures, c .if1 .left)
+returns-2 c = rw (← c .before .before .rem-euclid-tau .ensures, ← c .before .is-finite .ensures, c .if1 .left)
 
 pub wrap-to-tau-spec : {M : Type 1} → statement M
 wrap-to-tau-spec = tie.close (tie.spec (λ c κs. search needs) (λ c κs. search needs) returns returns-2)

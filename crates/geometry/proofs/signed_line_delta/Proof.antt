@@ -6,7 +6,7 @@ use Rattle.geometry.proofs.signed_line_delta.Tie as tie
 
 returns : tie.Need-returns
 unfolding G.signedLineDelta
-returns c = rw (c .rem-euclid .ensures)
+returns c = rw (c .rem-euclid-pi .ensures)
 
 pub signed-line-delta-spec : {M : Type 1} → statement M
 signed-line-delta-spec = tie.close (tie.spec (λ c κs. search needs) returns)

@@ -1,0 +1,30 @@
+-- A search for the first value that is not finite goes on, ends here or finds nothing. Assumes nothing.
+use mathlib.Core.Path.{_≡_, refl}
+use mathlib.Core.Bool.{true, false}
+use mathlib.Core.List.{List}
+use Prim.Native.Nat.{ℕ, suc, _+_, _-_, _<_, _≤_}
+use native.Mathlib.Omega.{arith}
+use lib.ListN.{getD}
+use lib.Ieee.{Float, nan}
+use lib.Ieee.Scale.{finite}
+use Rattle.checked.specs.declared.Wild.{Wild}
+use Rattle.checked.specs.declared.Wild.the-variants.{At, Clean}
+use Rattle.checked.specs.Checked.{wildFrom}
+
+module _ (l : List Float) (n i : ℕ) (h : i < n) where
+  pub wild-skip : finite (getD l i nan) ≡ true → wildFrom l (n - (i + 1)) (i + 1) ≡ wildFrom l (n - i) i
+  unfolding wildFrom
+  wild-skip e = let z : n - i ≡ suc (n - (i + 1)) = omega arith in rw (z, e)
+
+  pub wild-here : finite (getD l i nan) ≡ false → At i ≡ wildFrom l (n - i) i
+  unfolding wildFrom
+  wild-here e = let z : n - i ≡ suc (n - (i + 1)) = omega arith in rw (z, e)
+
+pub wild-none : (l : List Float) (i : ℕ) → Clean ≡ wildFrom l 0 i
+unfolding wildFrom
+wild-none l i = refl
+
+-- a place that is found is one of the values
+abbrev pub Below : ℕ → Wild → Type 0
+Below n (At i) = i < n
+Below n Clean = 0 ≤ n
