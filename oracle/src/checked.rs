@@ -50,6 +50,11 @@ pub fn answer(line: &[u8]) -> Answered {
     }
 }
 
+/// The answer to a line that can not be read.
+pub fn malformed() -> Vec<u8> {
+    refused(MALFORMED, Counts::default()).line
+}
+
 pub fn parse(line: &[u8]) -> Result<Frame, Refusal> {
     if line.len() > LONGEST_LINE || !is_hexadecimal(line) || line.len() < 2 {
         return Err(MALFORMED);

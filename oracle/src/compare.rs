@@ -14,20 +14,41 @@ pub enum Lines {
     Functions,
 }
 
+/// What the compared program serves: a function outside these numbers is answered `?`, and a frame of a type
+/// outside these as a malformed line.
+#[derive(Clone)]
+pub struct Served {
+    pub numbers: Vec<u8>,
+    pub types: Vec<String>,
+}
+
+impl Served {
+    fn number(&self, line: &[u8]) -> bool {
+        functions::function_number(line.get(..2).unwrap_or(b"")).is_some_and(|number| self.numbers.contains(&number))
+    }
+
+    fn frame(&self, line: &[u8]) -> bool {
+        line.len() < 2 || self.types.iter().any(|kind| line.starts_with(kind.as_bytes()))
+    }
+}
+
 /// Answers lines and remembers the ways they went.
 pub struct Oracle {
     lines: Lines,
+    served: Served,
     pub paths: Paths,
 }
 
 impl Oracle {
-    pub fn new(lines: Lines) -> Self {
-        Self { lines, paths: Paths::default() }
+    pub fn new(lines: Lines, served: &Served) -> Self {
+        Self { lines, served: served.clone(), paths: Paths::default() }
     }
 
     pub fn answer(&mut self, line: &[u8]) -> Vec<u8> {
         match self.lines {
+            Lines::Functions if !self.served.number(line) => b"?".to_vec(),
             Lines::Functions => functions::answer(line),
+            Lines::Frames if !self.served.frame(line) => checked::malformed(),
             Lines::Frames => {
                 let answered = checked::answer(line);
                 self.paths.note(&answered.outcome);
@@ -111,11 +132,11 @@ fn next_answer(output: &mut impl BufRead) -> io::Result<Option<Vec<u8>>> {
 }
 
 /// True where nothing differs and the program ended well.
-pub fn compare(program: &str, lines: Lines, list: &List) -> io::Result<bool> {
+pub fn compare(program: &str, lines: Lines, list: &List, served: &Served) -> io::Result<bool> {
     let mut child = Command::new(program).stdin(Stdio::piped()).stdout(Stdio::piped()).spawn()?;
     let writer = feed(list.clone(), &mut child);
     let mut output = BufReader::with_capacity(1 << 16, child.stdout.take().expect("a pipe"));
-    let (mut oracle, mut tally) = (Oracle::new(lines), Tally { differences: 0 });
+    let (mut oracle, mut tally) = (Oracle::new(lines, served), Tally { differences: 0 });
     let mut progress = Progress::new(list.count);
     for index in 0..list.count {
         let line = list.line(index);
@@ -142,8 +163,8 @@ pub fn compare(program: &str, lines: Lines, list: &List) -> io::Result<bool> {
 }
 
 /// The oracle alone: the ways a list goes, and how fast.
-pub fn paths(lines: Lines, list: &List) {
-    let mut oracle = Oracle::new(lines);
+pub fn paths(lines: Lines, list: &List, served: &Served) {
+    let mut oracle = Oracle::new(lines, served);
     let mut progress = Progress::new(list.count);
     for index in 0..list.count {
         oracle.answer(&list.line(index));
@@ -155,11 +176,11 @@ pub fn paths(lines: Lines, list: &List) {
 }
 
 /// Writes a fixed list: stdin with the lines, stdout with the oracle's answers.
-pub fn write_list(lines: Lines, list: &List, folder: &str) -> io::Result<()> {
+pub fn write_list(lines: Lines, list: &List, served: &Served, folder: &str) -> io::Result<()> {
     std::fs::create_dir_all(folder)?;
     let mut input = BufWriter::new(std::fs::File::create(format!("{folder}/stdin"))?);
     let mut output = BufWriter::new(std::fs::File::create(format!("{folder}/stdout"))?);
-    let mut oracle = Oracle::new(lines);
+    let mut oracle = Oracle::new(lines, served);
     for index in 0..list.count {
         let line = list.line(index);
         for (file, text) in [(&mut input, &line), (&mut output, &oracle.answer(&line))] {

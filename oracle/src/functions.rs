@@ -37,8 +37,8 @@ fn answer_words(line: &[u8]) -> Option<Answer> {
 }
 
 /// The two digits as they are written in the table.
-fn function_number(characters: &[u8]) -> Option<u8> {
-    if !characters.iter().all(u8::is_ascii_digit) {
+pub fn function_number(characters: &[u8]) -> Option<u8> {
+    if characters.len() != 2 || !characters.iter().all(u8::is_ascii_digit) {
         return None;
     }
     Some((characters[0] - b'0') * 10 + (characters[1] - b'0'))

@@ -17,11 +17,12 @@ use std::process::ExitCode;
 const USAGE: &str = "usage: oracle frames
        oracle functions
        oracle generate KIND COUNT SEED [NUMBERS]
-       oracle compare --program PATH --lines frames|functions --kind KIND --count N --seed S [--numbers LIST]
-       oracle list --lines frames|functions --kind KIND --count N --seed S [--numbers LIST] --out DIR
-       oracle paths --lines frames|functions --kind KIND --count N --seed S [--numbers LIST]
+       oracle compare --program PATH --lines frames|functions --kind KIND --count N --seed S [--numbers LIST] [--types LIST]
+       oracle list --lines frames|functions --kind KIND --count N --seed S [--numbers LIST] [--types LIST] --out DIR
+       oracle paths --lines frames|functions --kind KIND --count N --seed S [--numbers LIST] [--types LIST]
        oracle bench --kind rings|disks --count N --seed S
-KIND is rings, disks, bits, limits, damaged or functions; NUMBERS and LIST are such as 10-17,20-24";
+KIND is rings, disks, bits, limits, damaged or functions; NUMBERS and LIST are such as 10-17,20-24
+a function outside --numbers is answered `?`, and a frame outside --types (01,02) as malformed";
 
 fn answer_lines(answer: impl Fn(&[u8]) -> Vec<u8>) -> io::Result<()> {
     let mut input = io::stdin().lock();
@@ -66,16 +67,16 @@ fn run(words: &[String]) -> Result<bool, String> {
         "compare" => {
             let options = Options::read(rest)?;
             let program = options.need("--program")?;
-            compare::compare(program, options.lines()?, &options.list()?).map_err(|error| format!("{program}: {error}"))
+            compare::compare(program, options.lines()?, &options.list()?, &options.served()?).map_err(|error| format!("{program}: {error}"))
         }
         "list" => {
             let options = Options::read(rest)?;
             let folder = options.need("--out")?;
-            compare::write_list(options.lines()?, &options.list()?, folder).map_err(say).map(|()| true)
+            compare::write_list(options.lines()?, &options.list()?, &options.served()?, folder).map_err(say).map(|()| true)
         }
         "paths" => {
             let options = Options::read(rest)?;
-            compare::paths(options.lines()?, &options.list()?);
+            compare::paths(options.lines()?, &options.list()?, &options.served()?);
             Ok(true)
         }
         "bench" => bench::bench(&Options::read(rest)?.list()?).map(|()| true),

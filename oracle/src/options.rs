@@ -1,13 +1,13 @@
 //! The words of the command line.
 
-use crate::compare::Lines;
+use crate::compare::{Lines, Served};
 use crate::functions::NUMBERS;
 use crate::generate::{Kind, List, KINDS};
 
 /// `--name value` pairs.
 pub struct Options(Vec<(String, String)>);
 
-const NAMES: [&str; 7] = ["--program", "--lines", "--kind", "--count", "--seed", "--numbers", "--out"];
+const NAMES: [&str; 8] = ["--program", "--lines", "--kind", "--count", "--seed", "--numbers", "--types", "--out"];
 
 impl Options {
     pub fn read(words: &[String]) -> Result<Self, String> {
@@ -38,6 +38,12 @@ impl Options {
             "functions" => Ok(Lines::Functions),
             other => Err(format!("--lines is frames or functions, not {other}")),
         }
+    }
+
+    /// The numbers that are made are those that are served; all frame types are, unless some are named.
+    pub fn served(&self) -> Result<Served, String> {
+        let types = self.find("--types").unwrap_or("01,02");
+        Ok(Served { numbers: self.list()?.numbers, types: types.split(',').map(str::to_string).collect() })
     }
 
     pub fn list(&self) -> Result<List, String> {

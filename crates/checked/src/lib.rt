@@ -59,7 +59,15 @@ fn fit_16(samples: &[f32], angles: &[f32]) -> RingFit
     let mut d2s = [0.0f32; 16];
     let mut h = [0.0f32; 552];
     ring_fit::fit_samples(
-        samples, angles, &mut ss, &mut cs, &mut rs, &mut qs, &mut d1s, &mut d2s, &mut h,
+        samples,
+        angles,
+        &mut ss,
+        &mut cs,
+        &mut rs,
+        &mut qs,
+        &mut d1s,
+        &mut d2s,
+        &mut h,
     )
 }
 

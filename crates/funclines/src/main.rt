@@ -1,11 +1,11 @@
 // funclines: one ported function called by each line of standard input, one answer a line. Two
 // hexadecimal digits are the function's number, words of eight its arguments; the answer is words
 // alone, or `?` for a line that is not of this form.
-use libc::STDOUT_FILENO;
 use lines::Feed;
 use lines::Found;
 
 mod library;
+mod ring;
 
 ghost use mathlib.Core.Path.{_≡_};
 ghost use Prim.Native.Nat.{_+_, _*_, _≤_, _<_};
@@ -15,15 +15,15 @@ ghost use lib.ListN.{length};
 // and a few words more.
 const WORDS: usize = 2304;
 
-// The longest answer, in words.
-const ANSWER: usize = 1024;
+// The longest answer, in words: a disk's pool of 276 pairs.
+const ANSWER: usize = 1105;
 
 // 2 + 8 * WORDS characters.
 const LIMIT: usize = 18434;
 
 fn stored(a: library::Word, out: &mut [u32]) -> usize
     requires { ⌜ 0 < length (now out) ⌝ }
-    ensures { λ r. ⌜ r ≤ length (now (out .entry)) ⌝ }
+    ensures { λ r. ⌜ r ≤ 1 ⌝ }
 {
     match a {
         library::Word::Is(w) => {
@@ -34,11 +34,10 @@ fn stored(a: library::Word, out: &mut [u32]) -> usize
     }
 }
 
-// How many words the answer has, which stand in `out`; none where there is no such function, or not
-// of that many arguments.
-fn call(number: u32, w: &[u32], out: &mut [u32]) -> usize
+// Numbers 10 to 24 take one word or two.
+fn library_line(number: u32, w: &[u32], out: &mut [u32]) -> usize
     requires { ⌜ 0 < length (now out) ⌝ }
-    ensures { λ r. ⌜ r ≤ length (now (out .entry)) ⌝ }
+    ensures { λ r. ⌜ r ≤ 16 ⌝ }
 {
     if w.len() == 1 {
         let a = w[0];
@@ -52,10 +51,26 @@ fn call(number: u32, w: &[u32], out: &mut [u32]) -> usize
     0
 }
 
+// How many words the answer has, which stand in `out`; none where there is no such function, or not
+// of that many arguments.
+fn call(number: u32, w: &[u32], out: &mut [u32]) -> usize
+    requires { ⌜ (16 < length (now out)) × (length (now w) ≤ 2304) ⌝ }
+    ensures { λ r. ⌜ r ≤ 16 ⌝ }
+{
+    match number / 16 {
+        1 | 2 => library_line(number, w, out),
+        3 => ring::geometry_line(number, w, out),
+        4 => ring::solver_line(number, w, out),
+        5 => ring::seed_line(number, w, out),
+        6 => ring::ring_fit_line(number, w, out),
+        _ => 0,
+    }
+}
+
 // How many words the answer to a line has.
 fn answered(line: &[u8], words: &mut [u32], out: &mut [u32]) -> usize
-    requires { ⌜ (length (now words) ≡ 2304) × (0 < length (now out)) ⌝ }
-    ensures { λ r. ⌜ r ≤ length (now (out .entry)) ⌝ }
+    requires { ⌜ (length (now words) ≡ 2304) × (16 < length (now out)) ⌝ }
+    ensures { λ r. ⌜ r ≤ 16 ⌝ }
 {
     let n = line.len();
     if n < 2 {
@@ -79,7 +94,7 @@ fn answered(line: &[u8], words: &mut [u32], out: &mut [u32]) -> usize
 
 // The answer's words, or `?`, and a line feed, at a place of the text; the place after them.
 fn written(ws: &[u32], text: &mut [u8], at: usize) -> usize
-    requires { ⌜ (length (now ws) ≤ 1024) × (at + 8193 ≤ length (now text)) ⌝ }
+    requires { ⌜ (length (now ws) ≤ 1105) × (at + 8841 ≤ length (now text)) ⌝ }
     ensures { λ r. ⌜ r ≤ length (now (text .entry)) ⌝ }
 {
     let n = ws.len();
@@ -94,25 +109,6 @@ fn written(ws: &[u32], text: &mut [u8], at: usize) -> usize
     e + 1
 }
 
-// Room for one more answer: what stands in the text is written out where it is nearly full.
-fn room(text: &[u8], put: usize) -> usize
-    requires { ⌜ (put ≤ length (now text)) × (length (now text) ≡ 65536) ⌝ }
-    ensures { λ r. ⌜ r + 8193 ≤ length (now (text .entry)) ⌝ }
-{
-    if put + 8193 <= text.len() {
-        return put;
-    }
-    flush(text, put);
-    0
-}
-
-fn flush(text: &[u8], put: usize)
-    requires { ⌜ put ≤ length (now text) ⌝ }
-{
-    let from = 0usize;
-    io::write_all(STDOUT_FILENO, &text[from..put]);
-}
-
 // One line answered into the text; a line of which a part is gone was too long.
 fn line_answered(
     line: &[u8],
@@ -122,10 +118,10 @@ fn line_answered(
     text: &mut [u8],
     put: usize,
 ) -> usize
-    requires { ⌜ (length (now words) ≡ 2304) × (length (now out) ≡ 1024) × (length (now text) ≡ 65536) × (put ≤ 65536) ⌝ }
+    requires { ⌜ (length (now words) ≡ 2304) × (length (now out) ≡ 1105) × (length (now text) ≡ 65536) × (put ≤ 65536) ⌝ }
     ensures { λ r. ⌜ r ≤ 65536 ⌝ }
 {
-    let at = room(text, put);
+    let at = lines::room(text, put, 8841);
     let from = 0usize;
     if skip {
         return written(&out[from..from], text, at);
@@ -152,7 +148,7 @@ fn line_turn(
     from: usize,
     put: usize,
 ) -> State
-    requires { ⌜ (f .from ≤ e) × (e ≤ from) × (from ≤ f .total) × (f .total ≤ length (now buf)) × (put ≤ 65536) × (length (now words) ≡ 2304) × (length (now out) ≡ 1024) × (length (now text) ≡ 65536) ⌝ }
+    requires { ⌜ (f .from ≤ e) × (e ≤ from) × (from ≤ f .total) × (f .total ≤ length (now buf)) × (put ≤ 65536) × (length (now words) ≡ 2304) × (length (now out) ≡ 1105) × (length (now text) ≡ 65536) ⌝ }
     ensures { λ r. ⌜ (r .feed .from ≤ r .feed .total) × (r .feed .total ≡ f .total) × (r .put ≤ 65536) ⌝ }
 {
     let at = f.from;
@@ -175,7 +171,7 @@ fn turn(
     f: Feed,
     put: usize,
 ) -> State
-    requires { ⌜ (f .from ≤ f .total) × (f .total ≤ length (now buf)) × (put ≤ 65536) × (length (now buf) ≡ 98304) × (length (now words) ≡ 2304) × (length (now out) ≡ 1024) × (length (now text) ≡ 65536) ⌝ }
+    requires { ⌜ (f .from ≤ f .total) × (f .total ≤ length (now buf)) × (put ≤ 65536) × (length (now buf) ≡ 98304) × (length (now words) ≡ 2304) × (length (now out) ≡ 1105) × (length (now text) ≡ 65536) ⌝ }
     ensures { λ r. ⌜ (r .feed .from ≤ r .feed .total) × (r .feed .total ≤ 98304) × (r .put ≤ 65536) ⌝ }
 {
     let found = lines::find(buf, f);
@@ -183,7 +179,7 @@ fn turn(
         Found::Line(e) => line_turn(buf, words, out, text, f, e, e + 1, put),
         Found::Last(e) => line_turn(buf, words, out, text, f, e, e, put),
         Found::More => {
-            flush(text, put);
+            lines::flush(text, put);
             let feed = lines::fill(buf, f, LIMIT);
             State {
                 feed,
@@ -192,7 +188,7 @@ fn turn(
             }
         }
         Found::Done => {
-            flush(text, put);
+            lines::flush(text, put);
             State {
                 feed: f,
                 put: 0,
@@ -203,7 +199,7 @@ fn turn(
 }
 
 fn serve(buf: &mut [u8], words: &mut [u32], out: &mut [u32], text: &mut [u8])
-    requires { ⌜ (length (now buf) ≡ 98304) × (length (now words) ≡ 2304) × (length (now out) ≡ 1024) × (length (now text) ≡ 65536) ⌝ }
+    requires { ⌜ (length (now buf) ≡ 98304) × (length (now words) ≡ 2304) × (length (now out) ≡ 1105) × (length (now text) ≡ 65536) ⌝ }
 {
     let mut f = lines::start();
     let mut put = 0usize;

@@ -2,6 +2,7 @@
 // are left. A line longer than the caller's limit is dropped as it comes, in constant memory, and
 // told by `skip`.
 use libc::STDIN_FILENO;
+use libc::STDOUT_FILENO;
 ghost use mathlib.Core.Path.{_≡_};
 ghost use Prim.Native.Nat.{_+_, _-_, _≤_, _<_};
 ghost use lib.ListN.{length, take, drop};
@@ -139,4 +140,25 @@ pub fn fill(buf: &mut [u8], f: Feed, limit: usize) -> Feed
         skip,
         ended: n == 0,
     }
+}
+
+// The first `put` bytes of the text go to standard output. A closed output loses them, and nothing
+// else: the program goes on to the end of its input.
+pub fn flush(text: &[u8], put: usize)
+    requires { ⌜ put ≤ length (now text) ⌝ }
+{
+    let from = 0usize;
+    io::write_all(STDOUT_FILENO, &text[from..put]);
+}
+
+// Room for `need` more bytes: what stands in the text is written out where it is nearly full.
+pub fn room(text: &[u8], put: usize, need: usize) -> usize
+    requires { ⌜ (put ≤ length (now text)) × (need ≤ length (now text)) × (length (now text) < 1000000) ⌝ }
+    ensures { λ r. ⌜ r + need ≤ length (now (text .entry)) ⌝ }
+{
+    if put + need <= text.len() {
+        return put;
+    }
+    flush(text, put);
+    0
 }

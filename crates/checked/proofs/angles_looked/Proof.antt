@@ -7,22 +7,6 @@ use Rattle.checked.specs.Checked as C
 use borrow.Author.Needs.{needs}
 use Rattle.checked.proofs.angles_looked.Statement.{statement}
 use Rattle.checked.proofs.angles_looked.Tie as tie
-use Rattle.checked.proofs.angles_looked.Reads as reads
-use Rattle.checked.proofs.angles_looked.Lts as lts
-use Rattle.checked.proofs.first_wild.Reads as first-wild-reads
-use Rattle.checked.proofs.ring_fitted.Reads as ring-fitted-reads
-
-first-wild-requires : tie.Need-first-wild-requires
-first-wild-requires c κs = search needs
-
-enum-known-wild : tie.Need-enum-known-wild
-enum-known-wild c = search needs
-
-enum-told : tie.Need-enum-told
-enum-told c = search needs
-
-ring-fitted-requires : tie.Need-ring-fitted-requires
-ring-fitted-requires c κs = search needs
 
 returns : tie.Need-returns
 unfolding C.anglesLooked
@@ -39,10 +23,4 @@ pub angles-looked-spec : {M : Type 1} → statement M
 angles-looked-spec =
     tie.close
     (tie.spec
-    first-wild-requires
-    enum-known-wild
-    enum-told
-    ring-fitted-requires
-    returns
-    add-t5
-    returns-2)
+    (λ c κs. search needs) (λ c. search needs) (λ c. search needs) (λ c κs. search needs) returns add-t5 returns-2)

@@ -1,10 +1,7 @@
 -- Both tests. Assumes nothing.
 use Rattle.checked.specs.Checked as C
-use borrow.Author.Needs.{needs}
 use Rattle.checked.proofs.errors_known.Statement.{statement}
 use Rattle.checked.proofs.errors_known.Tie as tie
-use Rattle.checked.proofs.errors_known.Reads as reads
-use Rattle.checked.proofs.errors_known.Lts as lts
 
 returns : tie.Need-returns
 unfolding C.errorsKnown
@@ -19,4 +16,7 @@ unfolding C.errorsKnown
 returns-3 c = rw (c .if1 .left)
 
 pub errors-known-spec : {M : Type 1} → statement M
-errors-known-spec = tie.close (tie.spec returns returns-2 returns-3)
+errors-known-spec =
+    tie.close
+    (tie.spec
+    returns returns-2 returns-3)

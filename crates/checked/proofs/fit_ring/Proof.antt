@@ -4,12 +4,6 @@ use Rattle.checked.specs.Checked as C
 use borrow.Author.Needs.{needs}
 use Rattle.checked.proofs.fit_ring.Statement.{statement}
 use Rattle.checked.proofs.fit_ring.Tie as tie
-use Rattle.checked.proofs.fit_ring.Reads as reads
-use Rattle.checked.proofs.fit_ring.Lts as lts
-use Rattle.checked.proofs.samples_looked.Reads as samples-looked-reads
-
-samples-looked-requires : tie.Need-samples-looked-requires
-samples-looked-requires c κs = search needs
 
 returns : tie.Need-returns
 unfolding C.checkedRing
@@ -24,4 +18,7 @@ unfolding C.checkedRing
 returns-3 c = rw (ne-eqb _ _ (c .if1 .left))
 
 pub fit-ring-spec : {M : Type 1} → statement M
-fit-ring-spec = tie.close (tie.spec samples-looked-requires returns returns-2 returns-3)
+fit-ring-spec =
+    tie.close
+    (tie.spec
+    (λ c κs. search needs) returns returns-2 returns-3)

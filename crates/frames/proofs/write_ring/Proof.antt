@@ -1,41 +1,21 @@
+-- Two writes side by side are one. Assumes nothing.
+use mathlib.Core.Path.{refl}
+use Prim.Native.Nat.{_+_}
+use native.Mathlib.Omega.{arith}
+use Rattle.hex.specs.Hex.{countText, byteText, wordsText}
+use Rattle.hex.specs.HexLaws.{put-put, words-length}
+use Rattle.frames.specs.Frames as F
 use borrow.Author.Needs.{needs}
 use Rattle.frames.proofs.write_ring.Statement.{statement}
 use Rattle.frames.proofs.write_ring.Tie as tie
-use Rattle.frames.proofs.write_ring.Reads as reads
-use Rattle.frames.proofs.write_ring.Lts as lts
-use Rattle.frames.proofs.ring_words.Reads as ring-words-reads
-use Rattle.hex.proofs.put_count.Reads as put-count-reads
-use Rattle.hex.proofs.put_words.Reads as put-words-reads
-
-ring-words-requires : tie.Need-ring-words-requires
-ring-words-requires c κs = search needs
-
-put-count-requires : tie.Need-put-count-requires
-put-count-requires c κs = search needs
-
-add-put-words : tie.Need-add-put-words
-add-put-words c = search needs
-
-slice-aggregate-put-words : tie.Need-slice-aggregate-put-words
-slice-aggregate-put-words c = search needs
-
-put-words-requires : tie.Need-put-words-requires
-put-words-requires c κs = search needs
-
-same-length : tie.Need-same-length
-same-length c = search needs
 
 returns : tie.Need-returns
-returns c = search needs
+unfolding F.ringText countText byteText
+returns c = (refl, rw (c .before .before .put-words .ensures, c .before .before .before .before .before .before .before .put-count .ensures, c .before .before .before .before .before .before .before .before .before .ring-words .ensures .0) (put-put (c .before .before .before .before .before .before .before .before .before .before .before .args .out .now) (c .before .before .before .before .before .before .before .before .before .before .before .args .at) _ (wordsText (F.ringWords (c .before .before .before .before .before .before .before .before .before .before .before .args .r) (c .before .before .before .before .before .before .before .before .before .before .before .args .known)) 7) (c .before .before .before .before .before .before .before .before .before .before .before .args .at + 4) (omega arith) (omega (arith, words-length (F.ringWords (c .before .before .before .before .before .before .before .before .before .before .before .args .r) (c .before .before .before .before .before .before .before .before .before .before .before .args .known)) 7))))
 
 pub write-ring-spec : {M : Type 1} → statement M
 write-ring-spec =
     tie.close
     (tie.spec
-    ring-words-requires
-    put-count-requires
-    add-put-words
-    slice-aggregate-put-words
-    put-words-requires
-    same-length
-    returns)
+    (λ c κs. search needs) (λ c κs. search needs) (λ c. search needs) (λ c. search needs) (λ c κs. search needs)
+    (λ c. search needs) returns)

@@ -7,7 +7,7 @@ use Rattle.funclines.proofs.serve.Statement.{statement}
 use Rattle.funclines.proofs.serve.Tie as tie
 
 abbrev Inv-loop : tie.InvT-loop
-Inv-loop buf₀ words₀ out₀ text₀ f₀ put₀ turns₀ buf words out text f put turns = (f .from ≤ f .total) × (f .total ≤ 98304) × (put ≤ 65536) × (length buf ≡ 98304) × (length words ≡ 2304) × (length out ≡ 1024) × (length text ≡ 65536)
+Inv-loop buf₀ words₀ out₀ text₀ f₀ put₀ turns₀ buf words out text f put turns = (f .from ≤ f .total) × (f .total ≤ 98304) × (put ≤ 65536) × (length buf ≡ 98304) × (length words ≡ 2304) × (length out ≡ 1105) × (length text ≡ 65536)
 
 abbrev μ-loop : tie.MeasureT-loop
 μ-loop buf₀ words₀ out₀ text₀ f₀ put₀ turns₀ buf words out text f put turns = turns
