@@ -14,6 +14,9 @@
 #ifndef JENGUBOOL_H
 #define JENGUBOOL_H
 
+#include <stddef.h>
+#include <stdint.h>
+
 #ifdef __cplusplus
 extern "C" {
 #endif
@@ -55,6 +58,25 @@ float jb_sqrt(float x);
  * beyond the greatest f32 (2^128 - 2^104) gives an infinity; results that round to zero keep the sign of x.
  * NaN for NaN. */
 float jb_narrow(double x);
+
+/* The answer to one frame line, without its line feed, as text into `out`.
+ * Returns 0 for a fit (60 characters are written), else the number of the refusal (8 characters are written), and
+ * 1 if `out` is under 98 bytes: nothing is written then. Bytes of `out` past the answer keep their value; no byte
+ * outside `out` is touched, and `line` is not changed. Every line is answered; `line` and `out` must not overlap.
+ * The characters are those of the project's frame lines: lower-case hexadecimal, with a NaN as 7fc00000. */
+uint32_t jb_answer_line(const uint8_t *line, size_t line_len, uint8_t *out, size_t out_len);
+
+/* The ring fit of 16 samples at 16 angles (radians).
+ * Returns 0 for a fit: fit[0..5] = amplitude, theta1, theta2, error of theta1, error of theta2, rms; counts[0..3] =
+ * starts (1 or 2), updates of the first start, of the second (0 to 6 each), 1 if the errors are known else 0.
+ * Then 0 <= theta1 < PI, theta1 <= theta2 < 2 PI and both errors lie from 0 to PI; the amplitude is not below 0, or
+ * NaN after an overflow. Elements behind those written keep their value.
+ * Otherwise returns number * 65536 + place, and neither buffer is changed:
+ *   65536 (number 1)       a slice of another length than 16, or `fit` under 6 or `counts` under 4 elements
+ *   196608 + place (3)     a value that is not finite: place 0 to 15 a sample, 16 to 31 an angle, the first one
+ * The four arrays must not overlap. */
+uint32_t jb_fit_ring(const float *samples, size_t samples_len, const float *angles, size_t angles_len,
+                     float *fit, size_t fit_len, uint32_t *counts, size_t counts_len);
 
 #ifdef __cplusplus
 }

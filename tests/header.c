@@ -196,6 +196,67 @@ static void check_narrow(void)
     NOT_A_NUMBER(jb_narrow(double_of(0xfff0000000000001u)));
 }
 
+static void whole(const char *what, unsigned long got, unsigned long want)
+{
+    checks++;
+    if (got == want) return;
+    printf("FAIL: %s is %lu, it must be %lu\n", what, got, want);
+    exit(1);
+}
+
+/* Document 01's first example: 16 samples of 0 at 16 angles of 0. Both buffers are longer than they must be. */
+static void check_fit_ring(void)
+{
+    static const uint32_t want[6] = {0, 0, 0x3fc90fdbu, 0x40490fdbu, 0x40490fdbu, 0};
+    float samples[17] = {0}, angles[17] = {0}, fit[7];
+    uint32_t counts[5];
+    int i;
+    for (i = 0; i < 7; i++) fit[i] = 7.0f;
+    for (i = 0; i < 5; i++) counts[i] = 7;
+    whole("jb_fit_ring of 15 samples", jb_fit_ring(samples, 15, angles, 16, fit, 7, counts, 5), 65536);
+    whole("jb_fit_ring of 17 angles", jb_fit_ring(samples, 16, angles, 17, fit, 7, counts, 5), 65536);
+    whole("jb_fit_ring into 5 floats", jb_fit_ring(samples, 16, angles, 16, fit, 5, counts, 5), 65536);
+    whole("jb_fit_ring into 3 counts", jb_fit_ring(samples, 16, angles, 16, fit, 7, counts, 3), 65536);
+    for (i = 0; i < 32; i++) {
+        float *spoilt = i < 16 ? &samples[i] : &angles[i - 16];
+        *spoilt = i % 3 == 0 ? QUIET : i % 3 == 1 ? INF : -INF;
+        whole("jb_fit_ring of a value that is not finite", jb_fit_ring(samples, 16, angles, 16, fit, 7, counts, 5), 196608ul + (unsigned long)i);
+        *spoilt = 0.0f;
+    }
+    for (i = 0; i < 7; i++) exact("fit after a refusal", fit[i], 0x40e00000u);
+    for (i = 0; i < 5; i++) whole("counts after a refusal", counts[i], 7);
+    whole("jb_fit_ring of zeros", jb_fit_ring(samples, 16, angles, 16, fit, 7, counts, 5), 0);
+    for (i = 0; i < 6; i++) exact("fit of zeros", fit[i], want[i]);
+    exact("the float behind the fit", fit[6], 0x40e00000u);
+    whole("starts", counts[0], 1);
+    whole("updates", counts[1] + counts[2], 0);
+    whole("known", counts[3], 0);
+    whole("the count behind the counts", counts[4], 7);
+}
+
+static void check_answer_line(void)
+{
+    static const char want[] = "810000000000000000003fc90fdb40490fdb40490fdb0000000001000000";
+    uint8_t line[258], out[120];
+    size_t i;
+    memset(line, '0', sizeof line);
+    line[1] = '1';
+    memset(out, '.', sizeof out);
+    whole("jb_answer_line into 97 bytes", jb_answer_line(line, 258, out, 97), 1);
+    whole("the first byte of a short buffer", out[0], '.');
+    whole("jb_answer_line of zeros", jb_answer_line(line, 258, out, 98), 0);
+    whole("the answer to zeros, compared", (unsigned long)(memcmp(out, want, 60) != 0), 0);
+    for (i = 60; i < sizeof out; i++) whole("a byte behind the answer", out[i], '.');
+    whole("jb_answer_line of nothing", jb_answer_line(line, 0, out, 120), 5);
+    whole("the answer to nothing, compared", (unsigned long)(memcmp(out, "ff050000", 8) != 0), 0);
+    whole("the byte behind a refusal", out[8], (unsigned char)want[8]);
+    line[2] = '7', line[3] = 'f', line[4] = 'c';
+    whole("jb_answer_line of a NaN", jb_answer_line(line, 258, out, 120), 3);
+    whole("the answer to a NaN, compared", (unsigned long)(memcmp(out, "81030000", 8) != 0), 0);
+    line[257] = 'A';
+    whole("jb_answer_line of a capital", jb_answer_line(line, 258, out, 120), 5);
+}
+
 int main(void)
 {
     check_sin();
@@ -205,6 +266,8 @@ int main(void)
     check_atan2();
     check_sqrt();
     check_narrow();
+    check_fit_ring();
+    check_answer_line();
     printf("%d checks of the header's functions\n", checks);
     return 0;
 }

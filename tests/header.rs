@@ -10,6 +10,17 @@ extern "C" {
     fn jb_atan2(y: f32, x: f32) -> f32;
     fn jb_sqrt(x: f32) -> f32;
     fn jb_narrow(x: f64) -> f32;
+    fn jb_answer_line(line: *const u8, line_len: usize, out: *mut u8, out_len: usize) -> u32;
+    fn jb_fit_ring(
+        samples: *const f32,
+        samples_len: usize,
+        angles: *const f32,
+        angles_len: usize,
+        fit: *mut f32,
+        fit_len: usize,
+        counts: *mut u32,
+        counts_len: usize,
+    ) -> u32;
 }
 
 const INF: f32 = f32::INFINITY;
@@ -198,6 +209,53 @@ fn check_narrow() {
     not_a_number!(jb_narrow(f64::from_bits(0xfff0_0000_0000_0001)));
 }
 
+fn whole(what: &str, got: u32, want: u32) {
+    judge(got == want, || format!("{what} is {got}, it must be {want}"));
+}
+
+fn fit_ring(samples: &[f32], angles: &[f32], fit: &mut [f32], counts: &mut [u32]) -> u32 {
+    let (f, c) = (fit.len(), counts.len());
+    unsafe { jb_fit_ring(samples.as_ptr(), samples.len(), angles.as_ptr(), angles.len(), fit.as_mut_ptr(), f, counts.as_mut_ptr(), c) }
+}
+
+fn answer_line(line: &[u8], out: &mut [u8]) -> u32 {
+    unsafe { jb_answer_line(line.as_ptr(), line.len(), out.as_mut_ptr(), out.len()) }
+}
+
+/// Document 01's first example: 16 samples of 0 at 16 angles of 0.
+fn check_fit_ring() {
+    let (mut fit, mut counts) = ([7.0f32; 7], [7u32; 5]);
+    for i in 0..32 {
+        let (mut samples, mut angles) = ([0.0f32; 16], [0.0f32; 16]);
+        let spoilt = if i < 16 { &mut samples[i] } else { &mut angles[i - 16] };
+        *spoilt = [f32::NAN, INF, -INF][i % 3];
+        whole("jb_fit_ring of a value that is not finite", fit_ring(&samples, &angles, &mut fit, &mut counts), 196608 + i as u32);
+    }
+    let zeros = [0.0f32; 16];
+    whole("jb_fit_ring of 15 samples", fit_ring(&zeros[1..], &zeros, &mut fit, &mut counts), 65536);
+    whole("jb_fit_ring into 5 floats", fit_ring(&zeros, &zeros, &mut fit[..5], &mut counts), 65536);
+    whole("jb_fit_ring into 3 counts", fit_ring(&zeros, &zeros, &mut fit, &mut counts[..3]), 65536);
+    judge(fit == [7.0; 7] && counts == [7; 5], || "a refused jb_fit_ring changed a buffer".to_string());
+    whole("jb_fit_ring of zeros", fit_ring(&zeros, &zeros, &mut fit, &mut counts), 0);
+    for (got, want) in fit.iter().zip([0, 0, 0x3fc9_0fdb, 0x4049_0fdb, 0x4049_0fdb, 0, 0x40e0_0000]) {
+        exact("fit of zeros", *got, want);
+    }
+    judge(counts == [1, 0, 0, 0, 7], || format!("the counts of zeros are {counts:?}"));
+}
+
+fn check_answer_line() {
+    let mut line = [b'0'; 258];
+    line[1] = b'1';
+    let mut out = [b'.'; 120];
+    whole("jb_answer_line into 97 bytes", answer_line(&line, &mut out[..97]), 1);
+    judge(out == [b'.'; 120], || "jb_answer_line wrote into a short buffer".to_string());
+    whole("jb_answer_line of zeros", answer_line(&line, &mut out), 0);
+    judge(out[..60] == *b"810000000000000000003fc90fdb40490fdb40490fdb0000000001000000", || "the answer to zeros is wrong".to_string());
+    judge(out[60..] == [b'.'; 60], || "jb_answer_line wrote behind its answer".to_string());
+    whole("jb_answer_line of nothing", answer_line(b"", &mut out), 5);
+    judge(out[..8] == *b"ff050000", || "the answer to nothing is wrong".to_string());
+}
+
 fn main() {
     check_sin();
     check_cos();
@@ -206,5 +264,7 @@ fn main() {
     check_atan2();
     check_sqrt();
     check_narrow();
+    check_fit_ring();
+    check_answer_line();
     println!("{} checks of the header's functions", CHECKS.load(std::sync::atomic::Ordering::Relaxed));
 }

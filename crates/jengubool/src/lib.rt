@@ -1,7 +1,14 @@
 // The library for C and Rust callers: libjengubool.a. Each function is one call of a proved one;
 // include/jengubool.h declares them, with what each promises.
+use checked::RingAnswer;
+use ring_fit::RingFit;
+use solver::TwoAxisFit;
 ghost use mathlib.Core.Path.{_≡_};
+ghost use Prim.Native.Nat.{_≤_};
+ghost use lib.ListN.{length};
 ghost use lib.Ieee.{binary32};
+ghost use Rattle.frames.specs.Frames as F;
+ghost use Rattle.jengubool.specs.Calls as J;
 ghost use Rattle.floats.specs.Library as L;
 ghost use Rattle.elementary.specs.Elementary as E;
 
@@ -52,4 +59,78 @@ pub extern "C" fn jb_narrow(x: f64) -> f32
     ensures { λ r. ⌜ r ≡ L.narrow x ⌝ }
 {
     narrowing::narrow(x)
+}
+
+// The line call: any line, any buffer.
+#[no_mangle]
+pub extern "C" fn jb_answer_line(line: &[u8], out: &mut [u8]) -> u32
+    ensures { λ r. ⌜ _≡_ {A = F.Reply} (record { number = r; buffer = now (out .exit) }) (F.replyOf (now (line .entry)) (now (out .entry))) ⌝ }
+{
+    frames::answer_line(line, out)
+}
+
+// The six values of a fit, in front of whatever the buffer holds behind them.
+fn put_fit(f: TwoAxisFit, fit: &mut [f32])
+    requires { ⌜ 6 ≤ length (now fit) ⌝ }
+    ensures { λ _. ⌜ now (fit .exit) ≡ J.fitStored f (now (fit .entry)) ⌝ }
+{
+    fit[0] = f.amp;
+    fit[1] = f.theta1;
+    fit[2] = f.theta2;
+    fit[3] = f.error1;
+    fit[4] = f.error2;
+    fit[5] = f.rms;
+}
+
+fn as_number(b: bool) -> u32
+    ensures { λ r. ⌜ r ≡ J.flag b ⌝ }
+{
+    if b {
+        return 1;
+    }
+    0
+}
+
+fn put_counts(r: RingFit, known: bool, counts: &mut [u32])
+    requires { ⌜ 4 ≤ length (now counts) ⌝ }
+    ensures { λ _. ⌜ now (counts .exit) ≡ J.countsStored r known (now (counts .entry)) ⌝ }
+{
+    let k = as_number(known);
+    counts[0] = (r.starts % 4294967296) as u32;
+    counts[1] = (r.first % 4294967296) as u32;
+    counts[2] = (r.second % 4294967296) as u32;
+    counts[3] = k;
+}
+
+fn ring_stored(a: RingAnswer, fit: &mut [f32], counts: &mut [u32]) -> u32
+    requires { ⌜ (6 ≤ length (now fit)) × (4 ≤ length (now counts)) ⌝ }
+    ensures { λ r. ⌜ _≡_ {A = J.RingReply} (record { code = r; fit = now (fit .exit); counts = now (counts .exit) }) (J.ringStored a (now (fit .entry)) (now (counts .entry))) ⌝ }
+{
+    match a {
+        RingAnswer::Fitted(r, known) => {
+            put_fit(r.fit, fit);
+            put_counts(r, known, counts);
+            0
+        }
+        RingAnswer::Refused(number, place) => (number as u32) * 65536 + place as u32,
+    }
+}
+
+// The value call of the ring: any four slices.
+#[no_mangle]
+pub extern "C" fn jb_fit_ring(
+    samples: &[f32],
+    angles: &[f32],
+    fit: &mut [f32],
+    counts: &mut [u32],
+) -> u32
+    ensures { λ r. ⌜ _≡_ {A = J.RingReply} (record { code = r; fit = now (fit .exit); counts = now (counts .exit) }) (J.ringCall (now (samples .entry)) (now (angles .entry)) (now (fit .entry)) (now (counts .entry))) ⌝ }
+{
+    if fit.len() < 6 {
+        return 65536;
+    }
+    if counts.len() < 4 {
+        return 65536;
+    }
+    ring_stored(checked::fit_ring(samples, angles), fit, counts)
 }

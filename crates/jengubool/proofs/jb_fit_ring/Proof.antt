@@ -1,0 +1,46 @@
+-- Both buffers are long enough, or nothing is touched. Assumes nothing.
+use borrow.Author.Tests.{lt-ltb, le-ltb}
+use Rattle.jengubool.specs.Calls as J
+use borrow.Author.Needs.{needs}
+use Rattle.jengubool.proofs.jb_fit_ring.Statement.{statement}
+use Rattle.jengubool.proofs.jb_fit_ring.Tie as tie
+use Rattle.jengubool.proofs.jb_fit_ring.Reads as reads
+use Rattle.jengubool.proofs.jb_fit_ring.Lts as lts
+use Rattle.checked.proofs.fit_ring.Reads as fit-ring-reads
+use Rattle.jengubool.proofs.ring_stored.Reads as ring-stored-reads
+
+returns : tie.Need-returns
+unfolding J.ringCall
+returns c = rw (lt-ltb _ _ (c .if1 .taken))
+
+returns-2 : tie.Need-returns-2
+unfolding J.ringCall
+returns-2 c = rw (le-ltb _ _ (c .before .if1 .left), lt-ltb _ _ (c .if2 .taken))
+
+fit-ring-requires : tie.Need-fit-ring-requires
+fit-ring-requires c κs = search needs
+
+ring-stored-requires : tie.Need-ring-stored-requires
+ring-stored-requires c κs = search needs
+
+same-length : tie.Need-same-length
+same-length c = search needs
+
+same-length-2 : tie.Need-same-length-2
+same-length-2 c = search needs
+
+returns-3 : tie.Need-returns-3
+unfolding J.ringCall
+returns-3 c = rw (le-ltb _ _ (c .before .before .before .before .before .before .before .before .before .if1 .left), le-ltb _ _ (c .before .before .before .before .before .before .before .before .if2 .left), ← c .before .before .before .before .before .before .before .fit-ring .ensures) (c .before .before .before .before .ring-stored .ensures)
+
+pub jb-fit-ring-spec : {M : Type 1} → statement M
+jb-fit-ring-spec =
+    tie.close
+    (tie.spec
+    returns
+    returns-2
+    fit-ring-requires
+    ring-stored-requires
+    same-length
+    same-length-2
+    returns-3)
