@@ -1,46 +1,321 @@
-//! Times the fits of the Rust text. The `libm` copy is the Rust as its users run it; the other shows what our five
-//! functions cost behind calls that the compiler can not look into.
+//! Speed of our fits beside the Rust text, in one run. Only ratios are printed: they hold on a busy machine where
+//! times do not.
+//!
+//! The frames are read beforehand; what is timed is the call of the fit alone. A repetition takes the frames block by
+//! block and the engines by turns, keeps the least time of each block (what disturbs a turn only adds to it) and
+//! adds these up. The table has the median of the repetitions' ratios, the least and the greatest.
+//!
+//! A new row is a line of GROUPS or PROGRAMS; the disks' want `ours_disk` in ENGINES as well.
 
-use crate::checked::{parse, Frame};
-use crate::generate::List;
+use crate::checked::{answer, parse, Frame, Outcome};
+use crate::generate::{Kind, List};
+use crate::wire::{push_hex, to_bits};
 use shapes::{Disk, Fit6, Fit9, Ring};
+use std::fs::File;
 use std::hint::black_box;
+use std::io;
+use std::path::{Path, PathBuf};
+use std::process::{Command, Stdio};
 use std::time::Instant;
+use support::Counts;
+
+const REPETITIONS: usize = 9;
+
+#[link(name = "jengubool", kind = "static")]
+extern "C" {
+    // As include/jengubool.h declares it.
+    fn jb_fit_ring(
+        samples: *const f32, samples_len: usize, angles: *const f32, angles_len: usize,
+        fit: *mut f32, fit_len: usize, counts: *mut u32, counts_len: usize,
+    ) -> u32;
+}
+
+fn ours_ring(ring: &Ring) -> Fit6 {
+    let (mut fit, mut counts) = ([0.0; 6], [0; 4]);
+    // SAFETY: each pointer stands with the length of its array, and no two arrays overlap.
+    let refusal = unsafe {
+        jb_fit_ring(
+            ring.samples.as_ptr(), ring.samples.len(), ring.angles.as_ptr(), ring.angles.len(),
+            fit.as_mut_ptr(), fit.len(), counts.as_mut_ptr(), counts.len(),
+        )
+    };
+    assert_eq!(refusal, 0, "our fit refuses a frame that passed the checks");
+    black_box(counts);
+    fit
+}
+
+type DiskFit = fn(&Disk, f32, f32) -> Option<Fit9>;
 
 struct Engine {
-    name: &'static str,
     ring: fn(&Ring) -> Fit6,
-    disk: fn(&Disk, f32, f32) -> Option<Fit9>,
+    /// Nothing while the library has no disk fit.
+    disk: Option<DiskFit>,
 }
 
-const ENGINES: [Engine; 2] = [
-    Engine { name: "our five functions", ring: plain::ring::robust::fit_ring, disk: plain::disk::search::best_disk_fit },
-    Engine { name: "the platform's", ring: libm::ring::robust::fit_ring, disk: libm::disk::search::best_disk_fit },
+/// Ours first; then those that it is held against.
+const ENGINES: [Engine; 3] = [
+    Engine { ring: ours_ring, disk: None },
+    Engine { ring: libm::ring::robust::fit_ring, disk: Some(libm::disk::search::best_disk_fit) },
+    Engine { ring: plain::ring::robust::fit_ring, disk: Some(plain::disk::search::best_disk_fit) },
 ];
+const LIBM: usize = 1;
+const PLAIN: usize = 2;
 
-const ROUNDS: usize = 5;
-
-/// The best of several rounds: what disturbs a run only ever makes it longer.
-pub fn bench(list: &List) -> Result<(), String> {
-    let frames: Vec<Frame> = (0..list.count).filter_map(|index| parse(&list.line(index)).ok()).collect();
-    if frames.is_empty() {
-        return Err("no frame of this list passes the checks".to_string());
-    }
-    for engine in ENGINES {
-        let best = (0..ROUNDS).map(|_| seconds(&engine, &frames)).fold(f64::INFINITY, f64::min);
-        let each = 1e9 * best / frames.len() as f64;
-        println!("{each:>12.0}  nanoseconds a frame, {} frames, {}", frames.len(), engine.name);
-    }
-    Ok(())
-}
-
-fn seconds(engine: &Engine, frames: &[Frame]) -> f64 {
-    let start = Instant::now();
-    for frame in frames {
-        match frame {
-            Frame::Ring(ring) => drop(black_box((engine.ring)(black_box(ring)))),
-            Frame::Disk(disk, bases) => drop(black_box((engine.disk)(black_box(disk), bases[0], bases[1]))),
+impl Engine {
+    fn fit(&self, frame: &Frame) {
+        match (frame, self.disk) {
+            (Frame::Ring(ring), _) => drop(black_box((self.ring)(black_box(ring)))),
+            (Frame::Disk(disk, bases), Some(fit)) => drop(black_box(fit(black_box(disk), bases[0], bases[1]))),
+            (Frame::Disk(..), None) => unreachable!("no group has disks yet"),
         }
     }
-    start.elapsed().as_secs_f64()
+
+    /// The words of the answer, a NaN as the one NaN.
+    fn words(&self, frame: &Frame) -> Vec<u32> {
+        let bits = |words: &[f32]| words.iter().map(|&x| to_bits(x)).collect();
+        match (frame, self.disk) {
+            (Frame::Ring(ring), _) => bits(&(self.ring)(ring)),
+            (Frame::Disk(disk, bases), Some(fit)) => fit(disk, bases[0], bases[1]).map_or(Vec::new(), |words| bits(&words)),
+            (Frame::Disk(..), None) => unreachable!("no group has disks yet"),
+        }
+    }
+}
+
+#[derive(Clone, Copy)]
+struct Bars {
+    bar: Option<f64>,
+    aim: Option<f64>,
+}
+
+/// Frames of one kind that went the same way.
+struct Group {
+    name: &'static str,
+    kind: Kind,
+    holds: fn(&Counts) -> bool,
+    /// Beside the libm copy; the other copy has no bar.
+    bars: Bars,
+    frames: usize,
+    block: usize,
+    turns: usize,
+}
+
+const GROUPS: [Group; 3] = [
+    Group {
+        name: "ring, clean",
+        kind: Kind::Rings,
+        holds: |counts| !counts.suspicious,
+        bars: Bars { bar: Some(0.45), aim: Some(0.3) },
+        frames: 2000,
+        block: 100,
+        turns: 12,
+    },
+    Group {
+        name: "ring, two starts",
+        kind: Kind::Rings,
+        holds: |counts| counts.starts == 2,
+        bars: Bars { bar: Some(0.7), aim: Some(0.5) },
+        frames: 1000,
+        block: 10,
+        turns: 10,
+    },
+    Group {
+        name: "ring, as they come",
+        kind: Kind::Rings,
+        holds: |_| true,
+        bars: Bars { bar: None, aim: None },
+        frames: 1000,
+        block: 20,
+        turns: 10,
+    },
+];
+
+/// A whole process on the lines of the list, beside one of the oracle's.
+struct Program {
+    kind: Kind,
+    against: &'static str,
+    command: &'static str,
+    bars: Bars,
+}
+
+const PROGRAMS: [Program; 2] = [
+    Program { kind: Kind::Rings, against: "oracle frames", command: "frames", bars: Bars { bar: Some(0.8), aim: None } },
+    Program { kind: Kind::Rings, against: "oracle once", command: "once", bars: Bars { bar: None, aim: None } },
+];
+const PROGRAM_TURNS: usize = 4;
+
+/// Prints the table. False where answers differ that must not.
+pub fn bench(list: &List, program: Option<&str>) -> Result<bool, String> {
+    let mut table = Table::default();
+    println!("{:<20} {:<26} {:>7}   {:<18} {:>5} {:>5}", "what", "beside", "ratio", "least..greatest", "bar", "aim");
+    for group in GROUPS.iter().filter(|group| group.kind == list.kind) {
+        let frames = frames_of(group, list);
+        if frames.is_empty() {
+            return Err(format!("no frame of this list is for the row {}", group.name));
+        }
+        table.fits(group, &frames);
+    }
+    if let Some(program) = program {
+        let lines = Lines::write(list).map_err(|error| format!("the file of lines: {error}"))?;
+        for row in PROGRAMS.iter().filter(|row| row.kind == list.kind) {
+            table.program(row, program, &lines).map_err(|error| format!("{program}: {error}"))?;
+        }
+    }
+    if table.notes.is_empty() {
+        return Err("there is no row for this kind of line yet".to_string());
+    }
+    println!("median of {REPETITIONS} repetitions, by turns in one run; below 1 is faster than the Rust");
+    table.notes.iter().for_each(|note| println!("{note}"));
+    match table.missed.is_empty() {
+        true => println!("all bars met"),
+        false => println!("missed: {}", table.missed.join(", ")),
+    }
+    Ok(table.right)
+}
+
+fn frames_of(group: &Group, list: &List) -> Vec<Frame> {
+    let lines = (0..list.count).map(|index| list.line(index));
+    let held = lines.filter(|line| matches!(answer(line).outcome, Outcome::Fit(_, counts) if (group.holds)(&counts)));
+    held.filter_map(|line| parse(&line).ok()).take(group.frames).collect()
+}
+
+struct Table {
+    notes: Vec<String>,
+    missed: Vec<String>,
+    right: bool,
+}
+
+impl Default for Table {
+    fn default() -> Self {
+        Self { notes: Vec::new(), missed: Vec::new(), right: true }
+    }
+}
+
+impl Table {
+    fn fits(&mut self, group: &Group, frames: &[Frame]) {
+        // The speed of a wrong answer is worth nothing.
+        let all: Vec<_> = frames.iter().map(|frame| ENGINES.map(|engine| engine.words(frame))).collect();
+        let differing = |other: usize| all.iter().filter(|words| words[0] != words[other]).count();
+        self.right &= differing(PLAIN) == 0;
+        self.notes.push(format!(
+            "{}: {} frames; answers that differ from the text with our five functions: {}, with libm: {}",
+            group.name, frames.len(), differing(PLAIN), differing(LIBM),
+        ));
+        repetition(group, frames); // warms caches and the clock of the core
+        let times: Vec<_> = (0..REPETITIONS).map(|_| repetition(group, frames)).collect();
+        let ratios = |other: usize| times.iter().map(|of| of[0] / of[other]).collect::<Vec<_>>();
+        self.row(group.name, "Rust, its own libm", ratios(LIBM), group.bars);
+        self.row(group.name, "Rust, our five functions", ratios(PLAIN), Bars { bar: None, aim: None });
+    }
+
+    fn program(&mut self, row: &Program, program: &str, lines: &Lines) -> io::Result<()> {
+        let name = Path::new(program).file_name().map_or(program.into(), |name| name.to_string_lossy());
+        let ours = || Command::new(program);
+        let theirs = || std::env::current_exe().map(|oracle| {
+            let mut command = Command::new(oracle);
+            command.arg(row.command);
+            command
+        });
+        let bytes = [lines.answers(ours())?, lines.answers(theirs()?)?];
+        let lines_differ = bytes[0].split(|&b| b == b'\n').zip(bytes[1].split(|&b| b == b'\n')).filter(|(a, b)| a != b).count();
+        // `once` has no counts and the platform's functions: there a difference is no fault.
+        self.right &= row.command == "once" || (lines_differ == 0 && bytes[0].len() == bytes[1].len());
+        if row.command != "once" {
+            self.notes.push(format!("{name}: {} lines, {lines_differ} answers differ from {}", lines.count, row.against));
+        }
+        let mut ratios = Vec::new();
+        for _ in 0..REPETITIONS {
+            let mut least = [f64::INFINITY; 2];
+            for _ in 0..PROGRAM_TURNS {
+                least[0] = least[0].min(lines.seconds(ours())?);
+                least[1] = least[1].min(lines.seconds(theirs()?)?);
+            }
+            ratios.push(least[0] / least[1]);
+        }
+        self.row(&name, row.against, ratios, row.bars);
+        Ok(())
+    }
+
+    fn row(&mut self, name: &str, against: &str, mut ratios: Vec<f64>, bars: Bars) {
+        ratios.sort_by(f64::total_cmp);
+        let (least, median, most) = (ratios[0], ratios[ratios.len() / 2], ratios[ratios.len() - 1]);
+        let show = |bar: Option<f64>| bar.map_or(String::new(), |bar| bar.to_string());
+        let met = bars.bar.map_or(true, |bar| median <= bar);
+        println!(
+            "{name:<20} {against:<26} {median:>7.3}   {:<18} {:>5} {:>5}{}",
+            format!("{least:.3}..{most:.3}"), show(bars.bar), show(bars.aim), if met { "" } else { "  MISSED" },
+        );
+        if !met {
+            self.missed.push(name.to_string());
+        }
+    }
+}
+
+/// Seconds of each engine for all frames.
+fn repetition(group: &Group, frames: &[Frame]) -> [f64; ENGINES.len()] {
+    let mut sums = [0.0; ENGINES.len()];
+    for block in frames.chunks(group.block) {
+        let mut least = [f64::INFINITY; ENGINES.len()];
+        for _ in 0..group.turns {
+            for (engine, least) in ENGINES.iter().zip(&mut least) {
+                let start = Instant::now();
+                block.iter().for_each(|frame| engine.fit(frame));
+                *least = least.min(start.elapsed().as_secs_f64());
+            }
+        }
+        sums.iter_mut().zip(least).for_each(|(sum, least)| *sum += least);
+    }
+    sums
+}
+
+/// The answer of a program that fits once with the platform's functions, as the Rust's users would write it: `frames`
+/// fits twice, to compare the counted copy with the plain one. Counts of starts and updates stay 0.
+pub fn once(line: &[u8]) -> Vec<u8> {
+    let Ok(Frame::Ring(ring)) = parse(line) else {
+        return answer(line).line;
+    };
+    let mut text = b"8100".to_vec();
+    for x in libm::ring::robust::fit_ring(&ring) {
+        push_hex(&mut text, to_bits(x), 8);
+    }
+    push_hex(&mut text, 0, 8);
+    text
+}
+
+/// The lines of a list in a file, which both programs read.
+struct Lines {
+    path: PathBuf,
+    count: u64,
+}
+
+impl Lines {
+    fn write(list: &List) -> io::Result<Self> {
+        let path = std::env::temp_dir().join(format!("oracle-bench-{}", std::process::id()));
+        let mut text = Vec::new();
+        for index in 0..list.count {
+            text.extend(list.line(index));
+            text.push(b'\n');
+        }
+        std::fs::write(&path, text)?;
+        Ok(Self { path, count: list.count })
+    }
+
+    fn answers(&self, mut command: Command) -> io::Result<Vec<u8>> {
+        let output = command.stdin(File::open(&self.path)?).stderr(Stdio::inherit()).output()?;
+        output.status.success().then_some(output.stdout).ok_or(io::Error::other("ended badly"))
+    }
+
+    /// Of the whole process, its output thrown away.
+    fn seconds(&self, mut command: Command) -> io::Result<f64> {
+        command.stdin(File::open(&self.path)?).stdout(Stdio::null());
+        let start = Instant::now();
+        let status = command.status()?;
+        let seconds = start.elapsed().as_secs_f64();
+        status.success().then_some(seconds).ok_or(io::Error::other("ended badly"))
+    }
+}
+
+impl Drop for Lines {
+    fn drop(&mut self) {
+        let _ = std::fs::remove_file(&self.path);
+    }
 }

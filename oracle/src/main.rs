@@ -20,7 +20,8 @@ const USAGE: &str = "usage: oracle frames
        oracle compare --program PATH --lines frames|functions --kind KIND --count N --seed S [--numbers LIST] [--types LIST]
        oracle list --lines frames|functions --kind KIND --count N --seed S [--numbers LIST] [--types LIST] --out DIR
        oracle paths --lines frames|functions --kind KIND --count N --seed S [--numbers LIST] [--types LIST]
-       oracle bench --kind rings|disks --count N --seed S
+       oracle bench --kind rings --count N --seed S [--program PATH]
+       oracle once
 KIND is rings, disks, bits, limits, damaged or functions; NUMBERS and LIST are such as 10-17,20-24
 a function outside --numbers is answered `?`, and a frame outside --types (01,02) as malformed";
 
@@ -79,7 +80,11 @@ fn run(words: &[String]) -> Result<bool, String> {
             compare::paths(options.lines()?, &options.list()?, &options.served()?);
             Ok(true)
         }
-        "bench" => bench::bench(&Options::read(rest)?.list()?).map(|()| true),
+        "once" if rest.is_empty() => answer_lines(bench::once).map_err(say).map(|()| true),
+        "bench" => {
+            let options = Options::read(rest)?;
+            bench::bench(&options.list()?, options.find("--program"))
+        }
         _ => Err(USAGE.to_string()),
     }
 }

@@ -24,7 +24,7 @@ impl Options {
         Ok(Self(pairs))
     }
 
-    fn find(&self, name: &str) -> Option<&str> {
+    pub fn find(&self, name: &str) -> Option<&str> {
         self.0.iter().find(|pair| pair.0 == name).map(|pair| pair.1.as_str())
     }
 

@@ -1,2 +1,3 @@
 pub mod Robust
 pub mod RobustLaws
+pub mod SoundLaws
