@@ -1,3 +1,4 @@
 pub mod Frames
 pub mod FramesLaws
 pub mod Promises
+pub mod Rows

@@ -1,0 +1,90 @@
+-- The rows that document 01 marks to be proved, as far as the ring goes: the definitions are run at the given bits, by the checker's own computation. Assumes nothing.
+use mathlib.Core.Path.{_≡_, refl}
+use mathlib.Core.Bool.{Bool, true, false, cond, not, _&&_, _||_}
+use mathlib.Core.List.{List, [], _∷_, _++_, map}
+use Prim.Native.Nat.{ℕ}
+use lib.ListN.{length, replicate}
+use lib.Dec.{ltb, eqb}
+use lib.Ieee.{Float, nan, inf, binary32, add, sub, mul, div, rem, neg, lt, le, eq, isNan, ofBits, toBits, ofInt, toUnsigned, round, size}
+use lib.Ieee.Scale.{finite}
+use Rattle.floats.specs.Ops.{lit, nought, one, pi, halfPi, quarterPi}
+use Rattle.floats.specs.Library.{negative, before, abs, max, min, remEuclid, sqrt, rootUnits, wholeRoot, floor, bin}
+use Rattle.loops.specs.Loops.{iter, range, tab}
+use Rattle.elementary.specs.Elementary.{whole, sinRest, cosRest, quadrant, sinCosNear, turn, sinCos}
+use Rattle.geometry.specs.Geometry.{signedLineDelta, lineDelta, lineSeparation, validPair}
+use Rattle.axes.specs.Canonical.{wrapToTau, arc, placed, settled, canonicalizeTrackingSwap}
+use Rattle.axes.specs.declared.Axes.{Axes}
+use Rattle.solve.specs.Solve.{Matrix, Row, augmented, larger, pivotRow, unusable, reduced, cleared, clear, topRow, columned, stopped, solve4x4, axisError, bothErrors, axisStdErrors}
+use Rattle.solve.specs.declared.Solved.{Solved}
+use Rattle.solve.specs.declared.Solved.the-variants.{Values, Failed}
+use Rattle.solve.specs.declared.Errors.{Errors}
+use Rattle.solver.specs.Solver.{degenerateFit, degenerate, fitWithSeed}
+use Rattle.seed.specs.Seed.{wavedBy, waves, harmonic, secondHarmonic}
+use Rattle.ring_fit.specs.Robust.{total, deviations, fitIsSuspicious, fitRing}
+use Rattle.checked.specs.Checked.{wildFrom, firstWild, errorsKnown, ringFitted, anglesLooked, samplesLooked, checkedRing}
+use Rattle.hex.specs.Hex.{isHex, allHex, byteOf, wordOf, valuesOf, byteText, countText, wordText, wordsText}
+use Rattle.frames.specs.Frames.{answerOf, typedLine, ringLine, ringText, textOf}
+
+abbrev bits : Float → ℕ
+bits = toBits binary32
+
+abbrev flag : Bool → ℕ
+flag b = cond b 1 0
+
+abbrev axesBits : Axes → List ℕ
+axesBits a = bits (a .theta1) ∷ bits (a .theta2) ∷ bits (a .amp) ∷ flag (a .swapped) ∷ []
+
+abbrev solvedBits : Solved → List ℕ
+solvedBits Failed = []
+solvedBits (Values a b c d) = bits a ∷ bits b ∷ bits c ∷ bits d ∷ []
+
+abbrev errorBits : Errors → List ℕ
+errorBits e = bits (e .error1) ∷ bits (e .error2) ∷ []
+
+abbrev row : List ℕ → Row
+row = map (ofBits binary32)
+
+abbrev diagonal : ℕ → Matrix
+diagonal d = map row ((d ∷ 0 ∷ 0 ∷ 0 ∷ []) ∷ (0 ∷ d ∷ 0 ∷ 0 ∷ []) ∷ (0 ∷ 0 ∷ d ∷ 0 ∷ []) ∷ (0 ∷ 0 ∷ 0 ∷ d ∷ []) ∷ [])
+
+-- the identity, but the third of the four rows is 0, 0, 1, infinity
+abbrev spoilt : Matrix
+spoilt = map row ((0x3f80_0000 ∷ 0 ∷ 0 ∷ 0 ∷ []) ∷ (0 ∷ 0x3f80_0000 ∷ 0 ∷ 0 ∷ []) ∷ (0 ∷ 0 ∷ 0x3f80_0000 ∷ 0x7f80_0000 ∷ []) ∷ (0 ∷ 0 ∷ 0 ∷ 0x3f80_0000 ∷ []) ∷ [])
+
+-- the characters 01 and 256 zeros
+abbrev zeroLine : List ℕ
+zeroLine = 48 ∷ 49 ∷ replicate 256 48
+
+-- rows 1 to 10 and 12, in their order; row 5 has two parts, and rows 6, 9 and 10 have theirs side by side
+pub rows-to-prove : (
+    axesBits (canonicalizeTrackingSwap nought pi one)
+    ∷ axesBits (canonicalizeTrackingSwap nought halfPi (lit 0xbf80_0000))
+    ∷ axesBits (canonicalizeTrackingSwap (lit 0x7fc0_0000) halfPi one)
+    ∷ (bits (remEuclid binary32 (lit 0xb089_705f) pi) ∷ [])
+    ∷ solvedBits (solve4x4 (diagonal 0) (row (replicate 4 0x3f80_0000)))
+    ∷ solvedBits (solve4x4 (diagonal 0x1e3c_e508) (row (replicate 4 0)))
+    ∷ (errorBits (axisStdErrors (diagonal 0x3f80_0000) one 4) ++ errorBits (axisStdErrors (diagonal 0x3f80_0000) one 5))
+    ∷ errorBits (axisStdErrors spoilt one 5)
+    ∷ (bits (degenerateFit nan .rms) ∷ [])
+    ∷ (bin pi ∷ bin (lit 0xbf80_0000) ∷ bin nan ∷ bin (inf false) ∷ [])
+    ∷ (flag (validPair nought nought) ∷ flag (validPair nought halfPi) ∷ flag (validPair nought quarterPi) ∷ [])
+    ∷ textOf (answerOf zeroLine)
+    ∷ []
+    )
+    ≡ (
+    (0 ∷ 0x4049_0fdb ∷ 0x3f80_0000 ∷ 1 ∷ [])
+    ∷ (0x3fc9_0fdb ∷ 0x4049_0fdb ∷ 0x3f80_0000 ∷ 1 ∷ [])
+    ∷ (0 ∷ 0x3fc9_0fdb ∷ 0x3f80_0000 ∷ 0 ∷ [])
+    ∷ (0x4049_0fdb ∷ [])
+    ∷ []
+    ∷ replicate 4 0
+    ∷ (0x4049_0fdb ∷ 0x4049_0fdb ∷ 0x3f80_0000 ∷ 0x3f80_0000 ∷ [])
+    ∷ (0 ∷ 0x3f80_0000 ∷ [])
+    ∷ (0 ∷ [])
+    ∷ (0 ∷ 0 ∷ 0 ∷ 15 ∷ [])
+    ∷ (0 ∷ 0 ∷ 1 ∷ [])
+    ∷ (56 ∷ 49 ∷ 48 ∷ 48 ∷ 48 ∷ 48 ∷ 48 ∷ 48 ∷ 48 ∷ 48 ∷ 48 ∷ 48 ∷ 48 ∷ 48 ∷ 48 ∷ 48 ∷ 48 ∷ 48 ∷ 48 ∷ 48 ∷ 51 ∷ 102 ∷ 99 ∷ 57 ∷ 48 ∷ 102 ∷ 100 ∷ 98 ∷ 52 ∷ 48 ∷ 52 ∷ 57 ∷ 48 ∷ 102 ∷ 100 ∷ 98 ∷ 52 ∷ 48 ∷ 52 ∷ 57 ∷ 48 ∷ 102 ∷ 100 ∷ 98 ∷ 48 ∷ 48 ∷ 48 ∷ 48 ∷ 48 ∷ 48 ∷ 48 ∷ 48 ∷ 48 ∷ 49 ∷ 48 ∷ 48 ∷ 48 ∷ 48 ∷ 48 ∷ 48 ∷ [])
+    ∷ []
+    )
+unfolding canonicalizeTrackingSwap settled placed wrapToTau arc remEuclid validPair lineSeparation lineDelta signedLineDelta abs negative before max min sqrt rootUnits wholeRoot degenerateFit iter range solve4x4 augmented larger pivotRow unusable reduced cleared clear topRow columned stopped axisError bothErrors axisStdErrors floor bin tab whole sinRest cosRest quadrant sinCosNear turn sinCos degenerate fitWithSeed wavedBy waves harmonic secondHarmonic total deviations fitIsSuspicious fitRing wildFrom firstWild errorsKnown ringFitted anglesLooked samplesLooked checkedRing isHex allHex byteOf wordOf valuesOf byteText countText wordText wordsText answerOf typedLine ringLine ringText finite ltb eqb toUnsigned ofBits toBits ofInt add sub mul div rem neg lt le eq isNan round size
+rows-to-prove = refl
