@@ -1,7 +1,9 @@
-/* Jengubool: verified f32 functions, as C functions of the static library libjengubool.a.
+/* Jengubool: the ring fit, its lines and the f32 functions below it, all proved, as C functions of the static library
+ * libjengubool.a.
  *
  * Common to all of them:
- *   - They are pure: no memory is read or written, no global state, no errno. Any number of threads may call them.
+ *   - No global state, no heap, no errno: any number of threads may call them. jb_answer_line and jb_fit_ring read and
+ *     write the arrays that they are given and no other memory; the others take and return values alone.
  *   - They accept every bit pattern and always return.
  *   - They expect the rounding mode that a C program starts with (to nearest, ties to even), and subnormal numbers
  *     switched on (no flush to zero). Floating-point exception flags may be raised.
@@ -10,7 +12,7 @@
  *   - Errors, "odd", "even" and "monotone" below are measured by tests/accuracy.c, against double precision: over every
  *     f32 of the range (sine and cosine beyond 64 and atan2: over many).
  *
- * A program that links the library also links the C math library (-lm). */
+ * The library needs one function of the C library, memset. */
 #ifndef JENGUBOOL_H
 #define JENGUBOOL_H
 

@@ -217,10 +217,12 @@ static void check_fit_ring(void)
     whole("jb_fit_ring of 17 angles", jb_fit_ring(samples, 16, angles, 17, fit, 7, counts, 5), 65536);
     whole("jb_fit_ring into 5 floats", jb_fit_ring(samples, 16, angles, 16, fit, 5, counts, 5), 65536);
     whole("jb_fit_ring into 3 counts", jb_fit_ring(samples, 16, angles, 16, fit, 7, counts, 3), 65536);
-    for (i = 0; i < 32; i++) {
-        float *spoilt = i < 16 ? &samples[i] : &angles[i - 16];
-        *spoilt = i % 3 == 0 ? QUIET : i % 3 == 1 ? INF : -INF;
-        whole("jb_fit_ring of a value that is not finite", jb_fit_ring(samples, 16, angles, 16, fit, 7, counts, 5), 196608ul + (unsigned long)i);
+    for (i = 0; i < 4 * 32; i++) {
+        const float wild[4] = {QUIET, OTHER_NAN, INF, -INF};
+        unsigned long place = (unsigned long)i / 4;
+        float *spoilt = place < 16 ? &samples[place] : &angles[place - 16];
+        *spoilt = wild[i % 4];
+        whole("jb_fit_ring of a value that is not finite", jb_fit_ring(samples, 16, angles, 16, fit, 7, counts, 5), 196608 + place);
         *spoilt = 0.0f;
     }
     for (i = 0; i < 7; i++) exact("fit after a refusal", fit[i], 0x40e00000u);

@@ -20,7 +20,7 @@ use Rattle.solve.specs.declared.Solved.the-variants.{Values, Failed}
 use Rattle.solve.specs.declared.Errors.{Errors}
 use Rattle.solver.specs.Solver.{degenerateFit, degenerate, fitWithSeed}
 use Rattle.seed.specs.Seed.{wavedBy, waves, harmonic, secondHarmonic}
-use Rattle.ring_fit.specs.Robust.{total, deviations, fitIsSuspicious, fitRing}
+use Rattle.ring_fit.specs.Robust.{total, deviations, fitIsSuspicious, fitRing, gridAngle}
 use Rattle.checked.specs.Checked.{wildFrom, firstWild, errorsKnown, ringFitted, anglesLooked, samplesLooked, checkedRing}
 use Rattle.hex.specs.Hex.{isHex, allHex, byteOf, wordOf, valuesOf, byteText, countText, wordText, wordsText}
 use Rattle.frames.specs.Frames.{answerOf, typedLine, ringLine, ringText, textOf}
@@ -88,3 +88,8 @@ pub rows-to-prove : (
     )
 unfolding canonicalizeTrackingSwap settled placed wrapToTau arc remEuclid validPair lineSeparation lineDelta signedLineDelta abs negative before max min sqrt rootUnits wholeRoot degenerateFit iter range solve4x4 augmented larger pivotRow unusable reduced cleared clear topRow columned stopped axisError bothErrors axisStdErrors floor bin tab whole sinRest cosRest quadrant sinCosNear turn sinCos degenerate fitWithSeed wavedBy waves harmonic secondHarmonic total deviations fitIsSuspicious fitRing wildFrom firstWild errorsKnown ringFitted anglesLooked samplesLooked checkedRing isHex allHex byteOf wordOf valuesOf byteText countText wordText wordsText answerOf typedLine ringLine ringText finite ltb eqb toUnsigned ofBits toBits ofInt add sub mul div rem neg lt le eq isNan round size
 rows-to-prove = refl
+
+-- the two pairs of the grid that stand at 12 degrees: both are allowed
+pub grid-edges : (flag (validPair (gridAngle 0) (gridAngle 21)) ∷ flag (validPair (gridAngle 1) (gridAngle 22)) ∷ []) ≡ (1 ∷ 1 ∷ [])
+unfolding remEuclid validPair lineSeparation lineDelta signedLineDelta abs negative before max min add sub mul div rem neg lt le eq isNan ofBits ofInt round size
+grid-edges = refl

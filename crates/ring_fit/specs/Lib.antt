@@ -1,3 +1,5 @@
 pub mod Robust
 pub mod RobustLaws
 pub mod SoundLaws
+pub mod Residual
+pub mod ResidualLaws

@@ -5,6 +5,7 @@ use elementary::atan2;
 use elementary::exp_neg;
 use elementary::sin_cos_near;
 use elementary::tanh;
+use roots::sqrt;
 
 fn least(a: usize, b: usize) -> usize
     ensures { λ r. ⌜ (r ≤ a) × (r ≤ b) ⌝ }
@@ -53,6 +54,16 @@ pub extern "C" fn rb_atan2(ys: &[f32], xs: &[f32], out: &mut [f32]) {
     let mut p = 0;
     while p < n {
         out[p] = atan2(ys[p], xs[p]);
+        p += 1;
+    }
+}
+
+#[no_mangle]
+pub extern "C" fn rb_sqrt(xs: &[f32], row: &mut [f32]) {
+    let n = least(xs.len(), row.len());
+    let mut p = 0;
+    while p < n {
+        row[p] = sqrt(xs[p]);
         p += 1;
     }
 }

@@ -1,0 +1,32 @@
+-- What the value call of the ring leaves of a caller's buffers where it refuses: each case of the definition gives them back as they came. Assumes nothing.
+use mathlib.Core.Path.{_≡_, refl}
+use mathlib.Core.Bool.{Bool, true, false, cond}
+use mathlib.Core.List.{List}
+use Prim.Native.Nat.{ℕ}
+use lib.ListN.{length}
+use lib.Dec.{ltb}
+use lib.Ieee.{Float}
+use Rattle.checked.specs.Checked.{checkedRing}
+use Rattle.checked.specs.declared.RingAnswer.{RingAnswer}
+use Rattle.checked.specs.declared.RingAnswer.the-variants.{Fitted, Refused}
+use Rattle.jengubool.specs.Calls.{RingReply, ringStored, ringCall}
+
+module _ (fit : List Float) (counts : List ℕ) where
+  -- the code c, and every float and every count as it was
+  abbrev refusal : ℕ → RingReply
+  refusal c = record { code = c; fit = fit; counts = counts }
+
+  stored-keeps : (a : RingAnswer) → (ringStored a fit counts .code ≡ 0 → ⊥) → ringStored a fit counts ≡ refusal (ringStored a fit counts .code)
+  unfolding ringStored
+  stored-keeps (Fitted r known) h = absurd (h refl)
+  stored-keeps (Refused number place) h = refl
+
+  short-keeps : (a b : Bool) (r : RingReply) → ((r .code ≡ 0 → ⊥) → r ≡ refusal (r .code)) → let s = cond a (refusal 65536) (cond b (refusal 65536) r) in (s .code ≡ 0 → ⊥) → s ≡ refusal (s .code)
+  short-keeps true b r f h = refl
+  short-keeps false true r f h = refl
+  short-keeps false false r f h = f h
+
+  -- a call that returns anything but 0 leaves every byte of the fit and of the counts
+  pub refused-keeps : (samples angles : List Float) → let s = ringCall samples angles fit counts in (s .code ≡ 0 → ⊥) → s ≡ refusal (s .code)
+  unfolding ringCall
+  refused-keeps samples angles = short-keeps (ltb (length fit) 6) (ltb (length counts) 4) _ (stored-keeps (checkedRing samples angles))
