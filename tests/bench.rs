@@ -12,6 +12,7 @@ extern "C" {
     fn rb_exp_row(xs: *const f32, nx: usize, row: *mut f32, nr: usize);
     fn rb_sin_cos(xs: *const f32, nx: usize, ss: *mut f32, ns: usize, cs: *mut f32, nc: usize);
     fn rb_atan2(ys: *const f32, ny: usize, xs: *const f32, nx: usize, out: *mut f32, n: usize);
+    fn jb_sqrt(x: f32) -> f32;
     fn rb_sqrt(xs: *const f32, nx: usize, out: *mut f32, n: usize);
 }
 
@@ -22,6 +23,7 @@ const TURNS: usize = 60;
 const CALLS: usize = 40; // in one turn, so that the clock's own cost does not count
 
 /// Inputs and both sides' results. `second` is used where there are two arguments or two results.
+#[derive(Clone)]
 struct Data {
     first: Vec<f32>,
     second: Vec<f32>,
@@ -115,6 +117,14 @@ fn atan2_rust(d: &mut Data) {
     }
 }
 
+/// Through the library, a call for each root.
+#[inline(never)]
+fn sqrt_called(d: &mut Data) {
+    for (r, x) in d.ours[0].iter_mut().zip(&d.first) {
+        *r = unsafe { jb_sqrt(*x) };
+    }
+}
+
 #[inline(never)]
 fn sqrt_ours(d: &mut Data) {
     let n = d.first.len();
@@ -142,7 +152,8 @@ fn rows() -> Vec<Row> {
         Row { name: "exp row of 200", bar: 0.6, data: falling, ours: exp_ours, rust: exp_rust },
         Row { name: "sin and cos of 16 angles", bar: 0.8, data: angles, ours: sin_cos_ours, rust: sin_cos_rust },
         Row { name: "atan2 of 200 pairs", bar: 1.0, data: pairs, ours: atan2_ours, rust: atan2_rust },
-        Row { name: "square root of 200", bar: 8.0, data: squares, ours: sqrt_ours, rust: sqrt_rust },
+        Row { name: "200 calls of jb_sqrt", bar: 8.0, data: squares.clone(), ours: sqrt_called, rust: sqrt_rust },
+        Row { name: "square root in a loop", bar: 8.0, data: squares, ours: sqrt_ours, rust: sqrt_rust },
     ]
 }
 

@@ -1,8 +1,9 @@
 -- Lines of a buffer. Definitions only.
 use mathlib.Core.Bool.{Bool, true, false, cond, _||_}
+use mathlib.Core.Path.{_≡_}
 use mathlib.Core.List.{List}
 use Prim.Native.Nat.{ℕ, zero, suc, _+_, _-_, _≤_, _<_}
-use lib.ListN.{getD}
+use lib.ListN.{getD, take, drop}
 use lib.Dec.{eqb, ltb}
 use Rattle.lines.specs.declared.Feed.{Feed}
 use Rattle.lines.specs.declared.Found.{Found}
@@ -19,6 +20,30 @@ unfolding endFrom
 foundOf l f =
     let e = endFrom l (f .total - f .from) (f .from) in
     cond (ltb e (f .total)) (Line e) (cond (f .ended) (cond (ltb (f .from) (f .total) || f .skip) (Last (f .total)) Done) More)
+
+-- nothing read yet; and the line before a place answered
+unfoldable pub begun : Feed
+begun = record { from = 0; total = 0; skip = false; ended = false }
+
+unfoldable pub passed : Feed → ℕ → Feed
+passed f at = record { from = at; total = f .total; skip = false; ended = f .ended }
+
+-- an unfinished line over the limit loses its start; of any other every byte is kept
+unfoldable pub isGone : Feed → ℕ → Bool
+isGone f limit = f .skip || ltb limit (f .total - f .from)
+
+unfoldable pub keptOf : Feed → ℕ → ℕ
+keptOf f limit = cond (isGone f limit) 0 (f .total - f .from)
+
+-- n bytes have come behind what is kept; none is the input's end
+unfoldable pub filled : Feed → ℕ → ℕ → Feed
+filled f limit n = record { from = 0; total = keptOf f limit + n; skip = isGone f limit; ended = eqb n 0 }
+
+-- a block came into the buffer l, which is m now: some n bytes, and in front of them what was kept
+pub record Filled (f : Feed) (limit : ℕ) (l m : List ℕ) (r : Feed) : Type 0 where
+  pub came : ℕ
+  pub feed : r ≡ filled f limit came
+  pub front : take (keptOf f limit) m ≡ take (keptOf f limit) (drop (f .from) l)
 
 -- where a found line ends
 abbrev pub Within : Feed → Found → Type 0

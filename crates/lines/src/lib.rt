@@ -6,7 +6,7 @@ use libc::STDOUT_FILENO;
 ghost use mathlib.Core.Path.{_≡_};
 ghost use Prim.Native.Nat.{_+_, _-_, _≤_, _<_};
 ghost use lib.ListN.{length, take, drop};
-ghost use Rattle.lines.specs.Lines.{endFrom, foundOf, Within};
+ghost use Rattle.lines.specs.Lines.{Filled, begun, endFrom, foundOf, isGone, keptOf, passed, Within};
 
 // What is left of the buffer: the bytes from `from` up to `total`; whether the start of the line
 // there is gone; whether the input has ended.
@@ -26,7 +26,7 @@ pub enum Found {
 }
 
 pub fn start() -> Feed
-    ensures { λ r. ⌜ (r .from ≡ 0) × (r .total ≡ 0) ⌝ }
+    ensures { λ r. ⌜ (r .from ≡ 0) × (r .total ≡ 0) × (r ≡ begun) ⌝ }
 {
     Feed {
         from: 0,
@@ -75,7 +75,7 @@ pub fn find(buf: &[u8], f: Feed) -> Found
 // The line before `from` has been answered.
 pub fn past(f: Feed, from: usize) -> Feed
     requires { ⌜ from ≤ f .total ⌝ }
-    ensures { λ r. ⌜ (r .from ≡ from) × (r .total ≡ f .total) ⌝ }
+    ensures { λ r. ⌜ (r .from ≡ from) × (r .total ≡ f .total) × (r ≡ passed f from) ⌝ }
 {
     Feed {
         from,
@@ -102,7 +102,7 @@ fn keep(buf: &mut [u8], at: usize, total: usize) -> usize
 // already or its start is gone.
 fn kept(buf: &mut [u8], f: Feed, limit: usize) -> usize
     requires { ⌜ (f .from ≤ f .total) × (f .total ≤ length (now buf)) ⌝ }
-    ensures { λ r. ⌜ r ≤ limit ⌝ }
+    ensures { λ r. ⌜ (r ≤ limit) × (r ≤ length (now (buf .entry))) × (r ≡ keptOf f limit) × (take r (now (buf .exit)) ≡ take r (drop (f .from) (now (buf .entry)))) ⌝ }
 {
     let from = f.from;
     let total = f.total;
@@ -117,6 +117,7 @@ fn kept(buf: &mut [u8], f: Feed, limit: usize) -> usize
 
 fn gone(f: Feed, limit: usize) -> bool
     requires { ⌜ f .from ≤ f .total ⌝ }
+    ensures { λ r. ⌜ r ≡ isGone f limit ⌝ }
 {
     if f.skip {
         return true;
@@ -127,7 +128,7 @@ fn gone(f: Feed, limit: usize) -> bool
 // The next block of standard input, behind what is kept.
 pub fn fill(buf: &mut [u8], f: Feed, limit: usize) -> Feed
     requires { ⌜ (f .from ≤ f .total) × (f .total ≤ length (now buf)) × (limit < length (now buf)) ⌝ }
-    ensures { λ r. ⌜ (r .from ≤ r .total) × (r .total ≤ length (now (buf .entry))) ⌝ }
+    ensures { λ r. ⌜ (r .from ≤ r .total) × (r .total ≤ length (now (buf .entry))) × Filled f limit (now (buf .entry)) (now (buf .exit)) r ⌝ }
 {
     let skip = gone(f, limit);
     let have = kept(buf, f, limit);

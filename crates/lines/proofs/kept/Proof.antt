@@ -1,0 +1,25 @@
+-- A line whose start is gone keeps nothing; of any other `keep` moves every byte to the front. Assumes nothing.
+use mathlib.Core.Path.{refl}
+use borrow.Author.Tests.{lt-ltb, le-ltb}
+use Rattle.lines.specs.Lines.{isGone, keptOf}
+use borrow.Author.Needs.{needs}
+use Rattle.lines.proofs.kept.Statement.{statement}
+use Rattle.lines.proofs.kept.Tie as tie
+
+returns : tie.Need-returns
+unfolding keptOf isGone
+returns c = search needs
+
+returns-2 : tie.Need-returns-2
+unfolding keptOf isGone
+returns-2 c = (search needs, search needs, rw (c .before .if1 .left, lt-ltb _ _ (c .if2 .taken)), refl)
+
+returns-3 : tie.Need-returns-3
+unfolding keptOf isGone
+returns-3 c = (search needs, search needs, rw (c .before .before .before .before .before .if1 .left, le-ltb _ _ (c .before .before .before .before .if2 .left)) (c .before .before .keep .ensures .0), rw (c .before .before .keep .ensures .0) (c .before .before .keep .ensures .1))
+
+pub kept-spec : {M : Type 1} → statement M
+kept-spec =
+    tie.close
+    (tie.spec
+    returns (λ c. search needs) returns-2 (λ c κs. search needs) (λ c. search needs) returns-3)
