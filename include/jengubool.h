@@ -1,9 +1,10 @@
-/* Jengubool: the ring fit, its lines and the f32 functions below it, all proved, as C functions of the static library
- * libjengubool.a.
+/* Jengubool: the ring fit, the disk fit, their lines and the f32 functions below them, all proved, as C functions of
+ * the static library libjengubool.a.
  *
  * Common to all of them:
- *   - No global state, no heap, no errno: any number of threads may call them. jb_answer_line and jb_fit_ring read and
- *     write the arrays that they are given and no other memory; the others take and return values alone.
+ *   - No global state, no heap, no errno: any number of threads may call them. jb_answer_line, jb_fit_ring and
+ *     jb_fit_disk read and write the arrays that they are given and no other memory; the others take and return values
+ *     alone.
  *   - They accept every bit pattern and always return.
  *   - They expect the rounding mode that a C program starts with (to nearest, ties to even), and subnormal numbers
  *     switched on (no flush to zero). Floating-point exception flags may be raised.
@@ -12,7 +13,7 @@
  *   - Errors, "odd", "even" and "monotone" below are measured by tests/accuracy.c, against double precision: over every
  *     f32 of the range (sine and cosine beyond 64 and atan2: over many).
  *
- * The library needs one function of the C library, memset. */
+ * The library needs three functions of the C library: memset, memcpy and memmove. */
 #ifndef JENGUBOOL_H
 #define JENGUBOOL_H
 
@@ -62,9 +63,10 @@ float jb_sqrt(float x);
 float jb_narrow(double x);
 
 /* The answer to one frame line, without its line feed, as text into `out`.
- * Returns 0 for a fit (60 characters are written), else the number of the refusal (8 characters are written), and
- * 1 if `out` is under 98 bytes: nothing is written then. Bytes of `out` past the answer keep their value; no byte
- * outside `out` is touched, and `line` is not changed. Every line is answered; `line` and `out` must not overlap.
+ * Returns 0 for a fit (60 characters are written for a ring, 98 for a disk), else the number of the refusal (8
+ * characters are written), and 1 if `out` is under 98 bytes: nothing is written then. Bytes of `out` past the answer
+ * keep their value; no byte outside `out` is touched, and `line` is not changed. Every line is answered; `line` and
+ * `out` must not overlap.
  * The characters are those of the project's frame lines: lower-case hexadecimal, with a NaN as 7fc00000. */
 uint32_t jb_answer_line(const uint8_t *line, size_t line_len, uint8_t *out, size_t out_len);
 
@@ -78,6 +80,29 @@ uint32_t jb_answer_line(const uint8_t *line, size_t line_len, uint8_t *out, size
  *   196608 + place (3)     a value that is not finite: place 0 to 15 a sample, 16 to 31 an angle, the first one
  * The four arrays must not overlap. */
 uint32_t jb_fit_ring(const float *samples, size_t samples_len, const float *angles, size_t angles_len,
+                     float *fit, size_t fit_len, uint32_t *counts, size_t counts_len);
+
+/* The disk fit of n pixels, 1 to 320, around a corner at (0, 0): element i of the five slices belongs to pixel i.
+ * In: xs and ys, the place of a pixel; vals_centered, its brightness less the mean of all; grad_angles, the direction
+ * of the edge there, which is the gradient's turned by PI/2 (radians, modulo PI); grad_weights, the gradient's size.
+ * val_energy is the sum of the squares of vals_centered, and base0 and base1 are a first guess of the axes (radians),
+ * such as a ring fit's. The function takes all of these as they come and checks none against another.
+ * Returns 0 for a fit: fit[0..10] = theta1, theta2, width of the edges (0.35, 0.7, 1.4 or 2.8), amplitude, rms,
+ * relative rms, correlation, edge score, objective, error of theta1, error of theta2; counts[0..1] = trials (at most
+ * 144), 1 if the errors are known else 0. Then 0 <= theta1 < PI, theta1 <= theta2 < 2 PI and both errors lie from 0 to
+ * PI; the amplitude is not below 0, or NaN after an overflow. Elements behind those written keep their value.
+ * Otherwise returns number * 65536 + place, and neither buffer is changed. The first of these that applies:
+ *   65536 (number 1)       `fit` under 11 or `counts` under 2 elements
+ *   131072 (2)             xs has no element, or more than 320
+ *   65536 (1)              another slice is not as long as xs
+ *   196608 + place (3)     a value that is not finite, the first one: place 0 to 2 are val_energy, base0 and base1;
+ *                          then come xs from 3 on, ys, vals_centered, grad_angles and grad_weights, n places each
+ *   262144 + place (4)     the search finds no fit, as for a disk without contrast; the place is its number of trials
+ * The seven arrays must not overlap. */
+uint32_t jb_fit_disk(float val_energy, float base0, float base1, const float *xs, size_t xs_len,
+                     const float *ys, size_t ys_len, const float *vals_centered, size_t vals_centered_len,
+                     const float *grad_angles, size_t grad_angles_len,
+                     const float *grad_weights, size_t grad_weights_len,
                      float *fit, size_t fit_len, uint32_t *counts, size_t counts_len);
 
 #ifdef __cplusplus

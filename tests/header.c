@@ -236,6 +236,100 @@ static void check_fit_ring(void)
     whole("the count behind the counts", counts[4], 7);
 }
 
+/* A disk of n pixels, all of them 0: a disk without contrast. The arrays hold one pixel more than the fit takes. */
+static float disk_head[3], disk_runs[5][321];
+
+static unsigned long fit_disk(size_t n, size_t ys_len, float *fit, size_t fit_len, uint32_t *counts, size_t counts_len)
+{
+    return jb_fit_disk(disk_head[0], disk_head[1], disk_head[2], disk_runs[0], n, disk_runs[1], ys_len, disk_runs[2], n,
+                       disk_runs[3], n, disk_runs[4], n, fit, fit_len, counts, counts_len);
+}
+
+/* Each value of a disk of three pixels in turn, with a later one spoilt as well: the first counts. */
+static void check_disk_places(float *fit, uint32_t *counts)
+{
+    const float wild[4] = {QUIET, OTHER_NAN, INF, -INF};
+    int i;
+    for (i = 0; i < 18; i++) {
+        float *spoilt = i < 3 ? &disk_head[i] : &disk_runs[(i - 3) / 3][(i - 3) % 3], kept = *spoilt;
+        *spoilt = wild[i % 4];
+        disk_runs[4][2] = QUIET;
+        whole("jb_fit_disk of a value that is not finite", fit_disk(3, 3, fit, 12, counts, 3), 196608 + (unsigned long)i);
+        *spoilt = kept;
+        disk_runs[4][2] = 0.0f;
+    }
+}
+
+/* Document 01's order of refusals. Its example, one pixel of 0 and axes 0 and PI/2, is refused after 96 trials. */
+static void check_disk_refusals(void)
+{
+    float fit[12];
+    uint32_t counts[3];
+    int i;
+    for (i = 0; i < 12; i++) fit[i] = 7.0f;
+    for (i = 0; i < 3; i++) counts[i] = 7;
+    disk_head[2] = float_of(0x3fc90fdbu);
+    whole("jb_fit_disk into 10 floats", fit_disk(0, 0, fit, 10, counts, 3), 65536);
+    whole("jb_fit_disk into 1 count", fit_disk(0, 0, fit, 12, counts, 1), 65536);
+    whole("jb_fit_disk of no pixel", fit_disk(0, 3, fit, 12, counts, 3), 131072);
+    whole("jb_fit_disk of 321 pixels", fit_disk(321, 320, fit, 12, counts, 3), 131072);
+    disk_head[0] = QUIET;
+    whole("jb_fit_disk of 3 and 2 pixels", fit_disk(3, 2, fit, 12, counts, 3), 65536);
+    whole("jb_fit_disk of 3 and 4 pixels", fit_disk(3, 4, fit, 12, counts, 3), 65536);
+    disk_head[0] = 0.0f;
+    check_disk_places(fit, counts);
+    whole("jb_fit_disk of a pixel of 0", fit_disk(1, 1, fit, 12, counts, 3), 262144 + 96);
+    whole("jb_fit_disk of 320 pixels of 0", fit_disk(320, 320, fit, 12, counts, 3), 262144 + 96);
+    for (i = 0; i < 12; i++) exact("fit after a refused disk", fit[i], 0x40e00000u);
+    for (i = 0; i < 3; i++) whole("counts after a refused disk", counts[i], 7);
+}
+
+/* One pixel of a corner with axes at 30 and 120 degrees and edges 0.7 wide; its gradients are the model's. */
+static void put_pixel(size_t i, float x, float y)
+{
+    const float sine = 0.5f, cosine = 0.8660254f;
+    float h1 = tanhf((cosine * y - sine * x) / 0.7f), h2 = tanhf((-sine * y - cosine * x) / 0.7f);
+    float k1 = (1.0f - h1 * h1) * h2, k2 = h1 * (1.0f - h2 * h2);
+    float gx = -k1 * sine - k2 * cosine, gy = k1 * cosine - k2 * sine;
+    float angle = atan2f(gy, gx) + float_of(0x3fc90fdbu);
+    disk_runs[0][i] = x;
+    disk_runs[1][i] = y;
+    disk_runs[2][i] = 60.0f * h1 * h2;
+    disk_runs[3][i] = angle < 0.0f ? angle + float_of(0x40490fdbu) : angle;
+    disk_runs[4][i] = sqrtf(gx * gx + gy * gy);
+    disk_head[0] += disk_runs[2][i] * disk_runs[2][i];
+}
+
+/* 196 pixels, whose mean is 0 since the corner turned by a quarter is its own negative. */
+static void check_fit_disk(void)
+{
+    float fit[12];
+    uint32_t counts[3] = {7, 7, 7};
+    size_t n = 0;
+    int i;
+    check_disk_refusals();
+    for (i = 0; i < 17 * 17; i++) {
+        float x = (float)(i % 17 - 8), y = (float)(i / 17 - 8);
+        if (x * x + y * y >= 1.0f && x * x + y * y <= 64.0f) put_pixel(n++, x, y);
+    }
+    disk_head[1] = 0.4f;
+    disk_head[2] = 2.2f;
+    fit[11] = 7.0f;
+    whole("jb_fit_disk of a corner", fit_disk(n, n, fit, 12, counts, 3), 0);
+    near_to("theta1 of a corner", fit[0], 0.523599, 0.02);
+    near_to("theta2 of a corner", fit[1], 2.094395, 0.02);
+    exact("the width", fit[2], 0x3f333333u);
+    near_to("the amplitude", fit[3], 60.0, 2.0);
+    near_to("the correlation", fit[6], 1.0, 0.01);
+    near_to("the objective", fit[8], fit[5] - 1.25f * fit[7], 0.0);
+    near_to("the first error", fit[9], 0.01, 0.01);
+    near_to("the second error", fit[10], 0.01, 0.01);
+    exact("the float behind the disk fit", fit[11], 0x40e00000u);
+    whole("trials over 144", counts[0] > 144, 0);
+    whole("known", counts[1], 1);
+    whole("the count behind the disk's counts", counts[2], 7);
+}
+
 static void check_answer_line(void)
 {
     static const char want[] = "810000000000000000003fc90fdb40490fdb40490fdb0000000001000000";
@@ -269,6 +363,7 @@ int main(void)
     check_sqrt();
     check_narrow();
     check_fit_ring();
+    check_fit_disk();
     check_answer_line();
     printf("%d checks of the header's functions\n", checks);
     return 0;

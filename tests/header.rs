@@ -21,6 +21,25 @@ extern "C" {
         counts: *mut u32,
         counts_len: usize,
     ) -> u32;
+    fn jb_fit_disk(
+        val_energy: f32,
+        base0: f32,
+        base1: f32,
+        xs: *const f32,
+        xs_len: usize,
+        ys: *const f32,
+        ys_len: usize,
+        vals_centered: *const f32,
+        vals_centered_len: usize,
+        grad_angles: *const f32,
+        grad_angles_len: usize,
+        grad_weights: *const f32,
+        grad_weights_len: usize,
+        fit: *mut f32,
+        fit_len: usize,
+        counts: *mut u32,
+        counts_len: usize,
+    ) -> u32;
 }
 
 const INF: f32 = f32::INFINITY;
@@ -218,6 +237,13 @@ fn fit_ring(samples: &[f32], angles: &[f32], fit: &mut [f32], counts: &mut [u32]
     unsafe { jb_fit_ring(samples.as_ptr(), samples.len(), angles.as_ptr(), angles.len(), fit.as_mut_ptr(), f, counts.as_mut_ptr(), c) }
 }
 
+fn fit_disk(head: [f32; 3], runs: [&[f32]; 5], fit: &mut [f32], counts: &mut [u32]) -> u32 {
+    let [e, b0, b1] = head;
+    let [x, y, v, a, w] = runs.map(|run| (run.as_ptr(), run.len()));
+    let (f, c) = (fit.len(), counts.len());
+    unsafe { jb_fit_disk(e, b0, b1, x.0, x.1, y.0, y.1, v.0, v.1, a.0, a.1, w.0, w.1, fit.as_mut_ptr(), f, counts.as_mut_ptr(), c) }
+}
+
 fn answer_line(line: &[u8], out: &mut [u8]) -> u32 {
     unsafe { jb_answer_line(line.as_ptr(), line.len(), out.as_mut_ptr(), out.len()) }
 }
@@ -243,6 +269,57 @@ fn check_fit_ring() {
     judge(counts == [1, 0, 0, 0, 7], || format!("the counts of zeros are {counts:?}"));
 }
 
+/// A disk without contrast, refused in each way. Document 01's example, a pixel of 0, is refused after 96 trials.
+fn check_fit_disk() {
+    let (mut fit, mut counts) = ([7.0f32; 12], [7u32; 3]);
+    let head = [0.0, 0.0, bits(0x3fc9_0fdb)];
+    let zeros = [0.0f32; 321];
+    for i in 0..18 {
+        let mut values = [0.0f32; 18];
+        values[i] = [f32::NAN, INF, -INF][i % 3];
+        let runs = std::array::from_fn(|r| &values[3 + 3 * r..6 + 3 * r]);
+        let wild = fit_disk([values[0], values[1], values[2]], runs, &mut fit, &mut counts);
+        whole("jb_fit_disk of a value that is not finite", wild, 196608 + i as u32);
+    }
+    for i in 1..5 {
+        let mut runs = [&zeros[..3]; 5];
+        runs[i] = &zeros[..4];
+        whole("jb_fit_disk of 3 and 4 pixels", fit_disk(head, runs, &mut fit, &mut counts), 65536);
+    }
+    whole("jb_fit_disk of no pixel", fit_disk(head, [&[]; 5], &mut fit, &mut counts), 131072);
+    whole("jb_fit_disk of 321 pixels", fit_disk(head, [&zeros; 5], &mut fit, &mut counts), 131072);
+    whole("jb_fit_disk into 10 floats", fit_disk(head, [&[]; 5], &mut fit[..10], &mut counts), 65536);
+    whole("jb_fit_disk into 1 count", fit_disk(head, [&[]; 5], &mut fit, &mut counts[..1]), 65536);
+    whole("jb_fit_disk of a pixel of 0", fit_disk(head, [&zeros[..1]; 5], &mut fit, &mut counts), 262144 + 96);
+    judge(fit == [7.0; 12] && counts == [7; 3], || "a refused jb_fit_disk changed a buffer".to_string());
+    check_a_corner(&mut fit, &mut counts);
+}
+
+/// The corner of header.c, with gradients of size 1 along its axes in the place of the model's.
+fn check_a_corner(fit: &mut [f32; 12], counts: &mut [u32; 3]) {
+    let (axis1, axis2) = (30.0f32.to_radians(), 120.0f32.to_radians());
+    let mut runs: [Vec<f32>; 5] = Default::default();
+    for (x, y) in (0..289).map(|i| ((i % 17 - 8) as f32, (i / 17 - 8) as f32)) {
+        let (d1, d2) = (axis1.cos() * y - axis1.sin() * x, axis2.cos() * y - axis2.sin() * x);
+        let nearer = if d1.abs() < d2.abs() { axis1 } else { axis2 };
+        let edge = d1.abs().min(d2.abs()) < 1.0;
+        if (1.0..=64.0).contains(&(x * x + y * y)) {
+            let pixel = [x, y, 60.0 * (d1 / 0.7).tanh() * (d2 / 0.7).tanh(), nearer, edge as u8 as f32];
+            runs.iter_mut().zip(pixel).for_each(|(run, value)| run.push(value));
+        }
+    }
+    let energy = runs[2].iter().map(|v| v * v).sum();
+    let code = fit_disk([energy, 0.4, 2.2], std::array::from_fn(|r| &runs[r][..]), fit, counts);
+    whole("jb_fit_disk of a corner", code, 0);
+    near("theta1 of a corner", fit[0], axis1 as f64, 0.02);
+    near("theta2 of a corner", fit[1], axis2 as f64, 0.02);
+    exact("the width", fit[2], 0x3f33_3333);
+    near("the amplitude", fit[3], 60.0, 2.0);
+    near("the correlation", fit[6], 1.0, 0.01);
+    exact("the float behind the disk fit", fit[11], 0x40e0_0000);
+    judge(counts[0] <= 144 && counts[1] == 1 && counts[2] == 7, || format!("the counts of a corner are {counts:?}"));
+}
+
 fn check_answer_line() {
     let mut line = [b'0'; 258];
     line[1] = b'1';
@@ -265,6 +342,7 @@ fn main() {
     check_sqrt();
     check_narrow();
     check_fit_ring();
+    check_fit_disk();
     check_answer_line();
     println!("{} checks of the header's functions", CHECKS.load(std::sync::atomic::Ordering::Relaxed));
 }

@@ -5,7 +5,8 @@
 //! block and the engines by turns, keeps the least time of each block (what disturbs a turn only adds to it) and
 //! adds these up. The table has the median of the repetitions' ratios, the least and the greatest.
 //!
-//! A new row is a line of GROUPS or PROGRAMS; the disks' want `ours_disk` in ENGINES as well.
+//! A new row is a line of GROUPS or PROGRAMS. A disk's fit is timed with the errors of its axes, which our call
+//! answers too.
 
 use crate::checked::{answer, parse, Frame, Outcome};
 use crate::generate::{Kind, List};
@@ -28,6 +29,11 @@ extern "C" {
         samples: *const f32, samples_len: usize, angles: *const f32, angles_len: usize,
         fit: *mut f32, fit_len: usize, counts: *mut u32, counts_len: usize,
     ) -> u32;
+    fn jb_fit_disk(
+        val_energy: f32, base0: f32, base1: f32, xs: *const f32, xs_len: usize, ys: *const f32, ys_len: usize,
+        vals: *const f32, vals_len: usize, angles: *const f32, angles_len: usize, weights: *const f32, weights_len: usize,
+        fit: *mut f32, fit_len: usize, counts: *mut u32, counts_len: usize,
+    ) -> u32;
 }
 
 fn ours_ring(ring: &Ring) -> Fit6 {
@@ -44,39 +50,70 @@ fn ours_ring(ring: &Ring) -> Fit6 {
     fit
 }
 
-type DiskFit = fn(&Disk, f32, f32) -> Option<Fit9>;
+/// The nine words of a disk's fit and the errors of its axes.
+type Fit11 = [f32; 11];
+
+fn ours_disk(disk: &Disk, base0: f32, base1: f32) -> Option<Fit11> {
+    let (mut fit, mut counts) = ([0.0; 11], [0; 2]);
+    let n = disk.count;
+    let [xs, ys, vals, angles, weights] = &disk.runs;
+    // SAFETY: as above; each run has at least `n` elements.
+    let refusal = unsafe {
+        jb_fit_disk(
+            disk.val_energy, base0, base1, xs.as_ptr(), n, ys.as_ptr(), n, vals.as_ptr(), n, angles.as_ptr(), n,
+            weights.as_ptr(), n, fit.as_mut_ptr(), fit.len(), counts.as_mut_ptr(), counts.len(),
+        )
+    };
+    black_box(counts);
+    assert!(refusal == 0 || refusal >> 16 == 4, "our fit refuses a frame that passed the checks");
+    (refusal == 0).then_some(fit)
+}
+
+fn with_errors(fit: Option<Fit9>, errors: impl FnOnce(Fit9) -> [f32; 2]) -> Option<Fit11> {
+    fit.map(|fit| {
+        let mut all = [0.0; 11];
+        all[..9].copy_from_slice(&fit);
+        all[9..].copy_from_slice(&errors(fit));
+        all
+    })
+}
+
+fn libm_disk(disk: &Disk, base0: f32, base1: f32) -> Option<Fit11> {
+    with_errors(libm::disk::search::best_disk_fit(disk, base0, base1), |fit| libm::disk::score::fit_std_errors(disk, fit))
+}
+
+fn plain_disk(disk: &Disk, base0: f32, base1: f32) -> Option<Fit11> {
+    with_errors(plain::disk::search::best_disk_fit(disk, base0, base1), |fit| plain::disk::score::fit_std_errors(disk, fit))
+}
 
 struct Engine {
     ring: fn(&Ring) -> Fit6,
-    /// Nothing while the library has no disk fit.
-    disk: Option<DiskFit>,
+    disk: fn(&Disk, f32, f32) -> Option<Fit11>,
 }
 
 /// Ours first; then those that it is held against.
 const ENGINES: [Engine; 3] = [
-    Engine { ring: ours_ring, disk: None },
-    Engine { ring: libm::ring::robust::fit_ring, disk: Some(libm::disk::search::best_disk_fit) },
-    Engine { ring: plain::ring::robust::fit_ring, disk: Some(plain::disk::search::best_disk_fit) },
+    Engine { ring: ours_ring, disk: ours_disk },
+    Engine { ring: libm::ring::robust::fit_ring, disk: libm_disk },
+    Engine { ring: plain::ring::robust::fit_ring, disk: plain_disk },
 ];
 const LIBM: usize = 1;
 const PLAIN: usize = 2;
 
 impl Engine {
     fn fit(&self, frame: &Frame) {
-        match (frame, self.disk) {
-            (Frame::Ring(ring), _) => drop(black_box((self.ring)(black_box(ring)))),
-            (Frame::Disk(disk, bases), Some(fit)) => drop(black_box(fit(black_box(disk), bases[0], bases[1]))),
-            (Frame::Disk(..), None) => unreachable!("no group has disks yet"),
+        match frame {
+            Frame::Ring(ring) => drop(black_box((self.ring)(black_box(ring)))),
+            Frame::Disk(disk, bases) => drop(black_box((self.disk)(black_box(disk), bases[0], bases[1]))),
         }
     }
 
     /// The words of the answer, a NaN as the one NaN.
     fn words(&self, frame: &Frame) -> Vec<u32> {
         let bits = |words: &[f32]| words.iter().map(|&x| to_bits(x)).collect();
-        match (frame, self.disk) {
-            (Frame::Ring(ring), _) => bits(&(self.ring)(ring)),
-            (Frame::Disk(disk, bases), Some(fit)) => fit(disk, bases[0], bases[1]).map_or(Vec::new(), |words| bits(&words)),
-            (Frame::Disk(..), None) => unreachable!("no group has disks yet"),
+        match frame {
+            Frame::Ring(ring) => bits(&(self.ring)(ring)),
+            Frame::Disk(disk, bases) => (self.disk)(disk, bases[0], bases[1]).map_or(Vec::new(), |words| bits(&words)),
         }
     }
 }
@@ -92,6 +129,8 @@ struct Group {
     name: &'static str,
     kind: Kind,
     holds: fn(&Counts) -> bool,
+    /// The numbers of pixels, least and greatest; of a ring 0.
+    pixels: [usize; 2],
     /// Beside the libm copy; the other copy has no bar.
     bars: Bars,
     frames: usize,
@@ -99,11 +138,12 @@ struct Group {
     turns: usize,
 }
 
-const GROUPS: [Group; 3] = [
+const GROUPS: [Group; 7] = [
     Group {
         name: "ring, clean",
         kind: Kind::Rings,
         holds: |counts| !counts.suspicious,
+        pixels: [0, 0],
         bars: Bars { bar: Some(0.45), aim: Some(0.3) },
         frames: 2000,
         block: 100,
@@ -113,6 +153,7 @@ const GROUPS: [Group; 3] = [
         name: "ring, two starts",
         kind: Kind::Rings,
         holds: |counts| counts.starts == 2,
+        pixels: [0, 0],
         bars: Bars { bar: Some(0.7), aim: Some(0.5) },
         frames: 1000,
         block: 10,
@@ -122,12 +163,21 @@ const GROUPS: [Group; 3] = [
         name: "ring, as they come",
         kind: Kind::Rings,
         holds: |_| true,
+        pixels: [0, 0],
         bars: Bars { bar: None, aim: None },
         frames: 1000,
         block: 20,
         turns: 10,
     },
+    disks("disk, 50 pixels", [45, 55], None, None),
+    disks("disk, 100 pixels", [90, 110], None, None),
+    disks("disk, 200 pixels", [185, 215], Some(0.3), Some(0.2)),
+    disks("disk, 320 pixels", [300, 320], None, None),
 ];
+
+const fn disks(name: &'static str, pixels: [usize; 2], bar: Option<f64>, aim: Option<f64>) -> Group {
+    Group { name, kind: Kind::Disks, holds: |_| true, pixels, bars: Bars { bar, aim }, frames: 120, block: 4, turns: 4 }
+}
 
 /// A whole process on the lines of the list, beside one of the oracle's.
 struct Program {
@@ -137,9 +187,11 @@ struct Program {
     bars: Bars,
 }
 
-const PROGRAMS: [Program; 2] = [
+const PROGRAMS: [Program; 4] = [
     Program { kind: Kind::Rings, against: "oracle frames", command: "frames", bars: Bars { bar: Some(0.8), aim: None } },
     Program { kind: Kind::Rings, against: "oracle once", command: "once", bars: Bars { bar: None, aim: None } },
+    Program { kind: Kind::Disks, against: "oracle frames", command: "frames", bars: Bars { bar: Some(0.8), aim: None } },
+    Program { kind: Kind::Disks, against: "oracle once", command: "once", bars: Bars { bar: None, aim: None } },
 ];
 const PROGRAM_TURNS: usize = 4;
 
@@ -165,6 +217,7 @@ pub fn bench(list: &List, program: Option<&str>) -> Result<bool, String> {
     }
     println!("median of {REPETITIONS} repetitions, by turns in one run; below 1 is faster than the Rust");
     table.notes.iter().for_each(|note| println!("{note}"));
+    table.growth();
     match table.missed.is_empty() {
         true => println!("all bars met"),
         false => println!("missed: {}", table.missed.join(", ")),
@@ -174,19 +227,29 @@ pub fn bench(list: &List, program: Option<&str>) -> Result<bool, String> {
 
 fn frames_of(group: &Group, list: &List) -> Vec<Frame> {
     let lines = (0..list.count).map(|index| list.line(index));
-    let held = lines.filter(|line| matches!(answer(line).outcome, Outcome::Fit(_, counts) if (group.holds)(&counts)));
+    let sized = lines.filter(|line| matches!(pixels_of(line), Some(n) if group.pixels[0] <= n && n <= group.pixels[1]));
+    let held = sized.filter(|line| matches!(answer(line).outcome, Outcome::Fit(_, counts) if (group.holds)(&counts)));
     held.filter_map(|line| parse(&line).ok()).take(group.frames).collect()
+}
+
+fn pixels_of(line: &[u8]) -> Option<usize> {
+    match parse(line).ok()? {
+        Frame::Ring(_) => Some(0),
+        Frame::Disk(disk, _) => Some(disk.count),
+    }
 }
 
 struct Table {
     notes: Vec<String>,
+    /// Seconds a frame of each engine, of the groups of disks.
+    costs: Vec<[f64; ENGINES.len()]>,
     missed: Vec<String>,
     right: bool,
 }
 
 impl Default for Table {
     fn default() -> Self {
-        Self { notes: Vec::new(), missed: Vec::new(), right: true }
+        Self { notes: Vec::new(), costs: Vec::new(), missed: Vec::new(), right: true }
     }
 }
 
@@ -202,6 +265,10 @@ impl Table {
         ));
         repetition(group, frames); // warms caches and the clock of the core
         let times: Vec<_> = (0..REPETITIONS).map(|_| repetition(group, frames)).collect();
+        if group.pixels[0] > 0 {
+            let least = |engine: usize| times.iter().map(|of| of[engine]).fold(f64::INFINITY, f64::min) / frames.len() as f64;
+            self.costs.push(std::array::from_fn(least));
+        }
         let ratios = |other: usize| times.iter().map(|of| of[0] / of[other]).collect::<Vec<_>>();
         self.row(group.name, "Rust, its own libm", ratios(LIBM), group.bars);
         self.row(group.name, "Rust, our five functions", ratios(PLAIN), Bars { bar: None, aim: None });
@@ -233,6 +300,15 @@ impl Table {
         }
         self.row(&name, row.against, ratios, row.bars);
         Ok(())
+    }
+
+    /// How the cost of a disk grows with its pixels, each engine beside its own at the first group.
+    fn growth(&self) {
+        let names = ["ours", "Rust, its own libm", "Rust, our five functions"];
+        for (engine, name) in names.iter().enumerate().filter(|_| !self.costs.is_empty()) {
+            let grown: Vec<_> = self.costs.iter().map(|cost| format!("{:.2}", cost[engine] / self.costs[0][engine])).collect();
+            println!("cost at 50, 100, 200 and 320 pixels, {name}: {}", grown.join(" "));
+        }
     }
 
     fn row(&mut self, name: &str, against: &str, mut ratios: Vec<f64>, bars: Bars) {
@@ -270,14 +346,19 @@ fn repetition(group: &Group, frames: &[Frame]) -> [f64; ENGINES.len()] {
 /// The answer of a program that fits once with the platform's functions, as the Rust's users would write it: `frames`
 /// fits twice, to compare the counted copy with the plain one. Counts of starts and updates stay 0.
 pub fn once(line: &[u8]) -> Vec<u8> {
-    let Ok(Frame::Ring(ring)) = parse(line) else {
-        return answer(line).line;
+    let (head, words, tail): (&[u8], Vec<f32>, u32) = match parse(line) {
+        Ok(Frame::Ring(ring)) => (b"8100", libm::ring::robust::fit_ring(&ring).to_vec(), 8),
+        Ok(Frame::Disk(disk, bases)) => match libm_disk(&disk, bases[0], bases[1]) {
+            Some(fit) => (b"8200", fit.to_vec(), 6),
+            None => return b"82040000".to_vec(),
+        },
+        Err(_) => return answer(line).line,
     };
-    let mut text = b"8100".to_vec();
-    for x in libm::ring::robust::fit_ring(&ring) {
+    let mut text = head.to_vec();
+    for x in words {
         push_hex(&mut text, to_bits(x), 8);
     }
-    push_hex(&mut text, 0, 8);
+    push_hex(&mut text, 0, tail);
     text
 }
 
@@ -291,12 +372,14 @@ impl Lines {
     fn write(list: &List) -> io::Result<Self> {
         let path = std::env::temp_dir().join(format!("oracle-bench-{}", std::process::id()));
         let mut text = Vec::new();
-        for index in 0..list.count {
+        // A disk costs as much as a hundred rings.
+        let count = if list.kind == Kind::Disks { list.count.min(400) } else { list.count };
+        for index in 0..count {
             text.extend(list.line(index));
             text.push(b'\n');
         }
         std::fs::write(&path, text)?;
-        Ok(Self { path, count: list.count })
+        Ok(Self { path, count })
     }
 
     fn answers(&self, mut command: Command) -> io::Result<Vec<u8>> {

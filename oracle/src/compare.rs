@@ -14,19 +14,13 @@ pub enum Lines {
     Functions,
 }
 
-/// What the compared program serves: a function outside these numbers is answered `?`, and a frame of a type
-/// outside these as a malformed line.
+/// The frame types that the compared program serves: a line of another is answered as a malformed one.
 #[derive(Clone)]
 pub struct Served {
-    pub numbers: Vec<u8>,
     pub types: Vec<String>,
 }
 
 impl Served {
-    fn number(&self, line: &[u8]) -> bool {
-        functions::function_number(line.get(..2).unwrap_or(b"")).is_some_and(|number| self.numbers.contains(&number))
-    }
-
     fn frame(&self, line: &[u8]) -> bool {
         line.len() < 2 || self.types.iter().any(|kind| line.starts_with(kind.as_bytes()))
     }
@@ -46,7 +40,6 @@ impl Oracle {
 
     pub fn answer(&mut self, line: &[u8]) -> Vec<u8> {
         match self.lines {
-            Lines::Functions if !self.served.number(line) => b"?".to_vec(),
             Lines::Functions => functions::answer(line),
             Lines::Frames if !self.served.frame(line) => checked::malformed(),
             Lines::Frames => {

@@ -37,7 +37,7 @@ fn answer_words(line: &[u8]) -> Option<Answer> {
 }
 
 /// The two digits as they are written in the table.
-pub fn function_number(characters: &[u8]) -> Option<u8> {
+fn function_number(characters: &[u8]) -> Option<u8> {
     if characters.len() != 2 || !characters.iter().all(u8::is_ascii_digit) {
         return None;
     }

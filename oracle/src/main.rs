@@ -20,10 +20,10 @@ const USAGE: &str = "usage: oracle frames
        oracle compare --program PATH --lines frames|functions --kind KIND --count N --seed S [--numbers LIST] [--types LIST]
        oracle list --lines frames|functions --kind KIND --count N --seed S [--numbers LIST] [--types LIST] --out DIR
        oracle paths --lines frames|functions --kind KIND --count N --seed S [--numbers LIST] [--types LIST]
-       oracle bench --kind rings --count N --seed S [--program PATH]
+       oracle bench --kind rings|disks --count N --seed S [--program PATH]
        oracle once
 KIND is rings, disks, bits, limits, damaged or functions; NUMBERS and LIST are such as 10-17,20-24
-a function outside --numbers is answered `?`, and a frame outside --types (01,02) as malformed";
+--numbers chooses the functions that lines are made for; a frame outside --types (01,02) is answered as malformed";
 
 fn answer_lines(answer: impl Fn(&[u8]) -> Vec<u8>) -> io::Result<()> {
     let mut input = io::stdin().lock();
@@ -68,16 +68,16 @@ fn run(words: &[String]) -> Result<bool, String> {
         "compare" => {
             let options = Options::read(rest)?;
             let program = options.need("--program")?;
-            compare::compare(program, options.lines()?, &options.list()?, &options.served()?).map_err(|error| format!("{program}: {error}"))
+            compare::compare(program, options.lines()?, &options.list()?, &options.served()).map_err(|error| format!("{program}: {error}"))
         }
         "list" => {
             let options = Options::read(rest)?;
             let folder = options.need("--out")?;
-            compare::write_list(options.lines()?, &options.list()?, &options.served()?, folder).map_err(say).map(|()| true)
+            compare::write_list(options.lines()?, &options.list()?, &options.served(), folder).map_err(say).map(|()| true)
         }
         "paths" => {
             let options = Options::read(rest)?;
-            compare::paths(options.lines()?, &options.list()?, &options.served()?);
+            compare::paths(options.lines()?, &options.list()?, &options.served());
             Ok(true)
         }
         "once" if rest.is_empty() => answer_lines(bench::once).map_err(say).map(|()| true),

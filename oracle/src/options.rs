@@ -40,10 +40,10 @@ impl Options {
         }
     }
 
-    /// The numbers that are made are those that are served; all frame types are, unless some are named.
-    pub fn served(&self) -> Result<Served, String> {
+    /// All frame types are served, unless some are named.
+    pub fn served(&self) -> Served {
         let types = self.find("--types").unwrap_or("01,02");
-        Ok(Served { numbers: self.list()?.numbers, types: types.split(',').map(str::to_string).collect() })
+        Served { types: types.split(',').map(str::to_string).collect() }
     }
 
     pub fn list(&self) -> Result<List, String> {

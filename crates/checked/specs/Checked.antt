@@ -1,17 +1,27 @@
 -- The checked entries (document 01, "Numbers of refusal"): what is refused by number and place, and what is answered. Definitions only.
-use mathlib.Core.Bool.{Bool, true, false, cond, not, _&&_}
+use mathlib.Core.Bool.{Bool, true, false, cond, not, _&&_, _||_}
 use mathlib.Core.List.{List, [], _∷_}
-use Prim.Native.Nat.{ℕ, zero, suc, _+_}
+use Prim.Native.Nat.{ℕ, zero, suc, _+_, _*_}
 use lib.ListN.{length, getD}
-use lib.Dec.{eqb}
+use lib.Dec.{eqb, ltb}
 use lib.Ieee.{Float, nan, binary32, eq, toBits}
 use lib.Ieee.Scale.{finite}
 use Rattle.floats.specs.Ops.{pi}
 use Rattle.ring_fit.specs.Robust.{fitRing}
 use Rattle.ring_fit.specs.declared.RingFit.{RingFit}
 use Rattle.solver.specs.declared.TwoAxisFit.{TwoAxisFit}
+use Rattle.solve.specs.declared.Errors.{Errors}
+use Rattle.score.specs.Score.{fitStdErrors}
+use Rattle.score.specs.declared.Fit.{Fit}
+use Rattle.refine.specs.Refine.{Disk}
+use Rattle.search.specs.Search.{bestDiskFit}
+use Rattle.search.specs.declared.DiskFit.{DiskFit}
+use Rattle.search.specs.declared.DiskFit.the-variants.{Best, Missing}
 use Rattle.checked.specs.declared.Wild.{Wild}
 use Rattle.checked.specs.declared.Wild.the-variants.{At, Clean}
+use Rattle.checked.specs.declared.Measured.{Measured}
+use Rattle.checked.specs.declared.DiskAnswer.{DiskAnswer}
+use Rattle.checked.specs.declared.DiskAnswer.the-variants as Disks
 use Rattle.checked.specs.declared.RingAnswer.{RingAnswer}
 use Rattle.checked.specs.declared.RingAnswer.the-variants.{Fitted, Refused}
 
@@ -66,3 +76,78 @@ flag b = cond b 1 0
 unfoldable pub ringCounts : RingAnswer → List ℕ
 ringCounts (Fitted r k) = r .starts ∷ r .first ∷ r .second ∷ flag k ∷ []
 ringCounts (Refused number place) = []
+
+-- ---- the disk: 2 for the number of pixels, 1 for lengths that differ, 3 for the first value that is not finite, 4 where the search answers nothing
+-- the values in their order: val_energy, base0, base1, then xs, ys, vals_centered, grad_angles, grad_weights
+unfoldable pub shifted : Wild → ℕ → Wild → Wild
+shifted (At i) off next = At (off + i)
+shifted Clean off next = next
+
+-- a lone value as one of a list
+unfoldable pub lone : Float → ℕ → Wild → Wild
+lone x place next = cond (finite x) next (At place)
+
+unfoldable pub diskWild : Float → Float → Float → List Float → List Float → List Float → List Float → List Float → Wild
+diskWild energy base0 base1 xs ys vals angles weights =
+    let n = length xs in
+    lone energy 0 (lone base0 1 (lone base1 2
+    (shifted (firstWild xs) 3
+    (shifted (firstWild ys) (3 + n)
+    (shifted (firstWild vals) (3 + 2 * n)
+    (shifted (firstWild angles) (3 + 3 * n)
+    (shifted (firstWild weights) (3 + 4 * n) Clean)))))))
+
+unfoldable pub bothKnown : Errors → Bool
+bothKnown e = not (eq (e .error1) pi && eq (e .error2) pi)
+
+-- the fit with its errors, or that there is none after so many trials
+unfoldable pub measuredOf : ℕ → List Float → List Float → List Float → Fit → ℕ → DiskAnswer
+measuredOf n xs ys vals f trials =
+    let e = fitStdErrors n xs ys vals f in
+    Disks.Fitted (record { fit = f; error1 = e .error1; error2 = e .error2; trials = trials }) (bothKnown e)
+
+unfoldable pub diskMeasured : Disk → DiskFit → DiskAnswer
+diskMeasured D (Missing trials) = Disks.Refused 4 trials
+diskMeasured D (Best f trials) = measuredOf (D .n) (D .xs) (D .ys) (D .vals) f trials
+
+unfoldable pub diskFitted : Disk → Float → Float → DiskAnswer
+diskFitted D base0 base1 = diskMeasured D (bestDiskFit D base0 base1)
+
+unfoldable pub diskLooked : Disk → Float → Float → Wild → DiskAnswer
+diskLooked D base0 base1 (At i) = Disks.Refused 3 i
+diskLooked D base0 base1 Clean = diskFitted D base0 base1
+
+unfoldable pub sameLengths : Disk → Bool
+sameLengths D =
+    eqb (length (D .ys)) (D .n) && (eqb (length (D .vals)) (D .n) && (eqb (length (D .angles)) (D .n) && eqb (length (D .weights)) (D .n)))
+
+-- D .n is the length of xs
+unfoldable pub checkedDisk : Disk → Float → Float → DiskAnswer
+checkedDisk D base0 base1 =
+    cond (eqb (D .n) 0 || ltb 320 (D .n)) (Disks.Refused 2 0)
+    (cond (sameLengths D)
+    (diskLooked D base0 base1 (diskWild (D .energy) base0 base1 (D .xs) (D .ys) (D .vals) (D .angles) (D .weights)))
+    (Disks.Refused 1 0))
+
+unfoldable pub diskNumber : DiskAnswer → ℕ
+diskNumber (Disks.Fitted m k) = 0
+diskNumber (Disks.Refused number place) = number
+
+unfoldable pub diskPlace : DiskAnswer → ℕ
+diskPlace (Disks.Fitted m k) = 0
+diskPlace (Disks.Refused number place) = place
+
+-- theta1, theta2, width, amp, rms, rel_rms, corr, edge_score, objective, both errors; nothing of a refusal
+abbrev pub measuredValues : Measured → List Float
+measuredValues m =
+    m .fit .theta1 ∷ m .fit .theta2 ∷ m .fit .width ∷ m .fit .amp ∷ m .fit .rms ∷ m .fit .rel ∷ m .fit .corr ∷ m .fit .edge ∷
+    m .fit .objective ∷ m .error1 ∷ m .error2 ∷ []
+
+unfoldable pub diskValues : DiskAnswer → List Float
+diskValues (Disks.Fitted m k) = measuredValues m
+diskValues (Disks.Refused number place) = []
+
+-- trials, known
+unfoldable pub diskCounts : DiskAnswer → List ℕ
+diskCounts (Disks.Fitted m k) = m .trials ∷ flag k ∷ []
+diskCounts (Disks.Refused number place) = []

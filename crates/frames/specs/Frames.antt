@@ -1,17 +1,21 @@
 -- What a frame line is answered (document 01, "Frame lines"), in the order of the refusals. Definitions only.
-use mathlib.Core.Bool.{Bool, true, false, cond}
+use mathlib.Core.Bool.{Bool, true, false, cond, _||_}
 use mathlib.Core.List.{List, [], _∷_, _++_}
 use Prim.Native.Nat.{ℕ, _+_, _*_, _%_}
 use lib.ListN.{length}
 use lib.Dec.{ltb, eqb}
-use lib.Ieee.{Float, binary32, toBits}
-use Rattle.hex.specs.Hex.{allHex, byteOf, valuesOf, byteText, countText, wordsText, put}
+use lib.Ieee.{Float, binary32, toBits, ofBits}
+use Rattle.hex.specs.Hex.{allHex, byteOf, wordOf, valuesOf, byteText, countText, wordsText, put}
 use Rattle.ring_fit.specs.declared.RingFit.{RingFit}
-use Rattle.checked.specs.Checked.{checkedRing, flag}
+use Rattle.refine.specs.Refine.{Disk}
+use Rattle.checked.specs.Checked.{checkedRing, checkedDisk, flag}
 use Rattle.checked.specs.declared.RingAnswer.{RingAnswer}
-use Rattle.checked.specs.declared.RingAnswer.the-variants as Checked
+use Rattle.checked.specs.declared.RingAnswer.the-variants as Rings
+use Rattle.checked.specs.declared.DiskAnswer.{DiskAnswer}
+use Rattle.checked.specs.declared.DiskAnswer.the-variants as Disks
+use Rattle.checked.specs.declared.Measured.{Measured}
 use Rattle.frames.specs.declared.Answer.{Answer}
-use Rattle.frames.specs.declared.Answer.the-variants.{Ring, Refused}
+use Rattle.frames.specs.declared.Answer.the-variants.{Ring, Sector, Refused}
 
 -- ---- the answer to a line
 -- number 5 has the type ff
@@ -20,15 +24,47 @@ malformed = Refused 0xff 5 0
 
 -- a refusal's type is the frame's plus 80
 abbrev pub ringAnswered : RingAnswer → Answer
-ringAnswered (Checked.Fitted r known) = Ring r known
-ringAnswered (Checked.Refused number place) = Refused 0x81 number place
+ringAnswered (Rings.Fitted r known) = Ring r known
+ringAnswered (Rings.Refused number place) = Refused 0x81 number place
 
 -- 16 words of samples behind the type, and 16 of angles
 unfoldable pub ringLine : List ℕ → Answer
 ringLine l = cond (eqb (length l) 258) (ringAnswered (checkedRing (valuesOf l 2 16) (valuesOf l 130 16))) malformed
 
+abbrev pub diskAnswered : DiskAnswer → Answer
+diskAnswered (Disks.Fitted m known) = Sector m known
+diskAnswered (Disks.Refused number place) = Refused 0x82 number place
+
+-- the count of four digits, three values and five runs of n values behind the type
+abbrev pub valueOf : List ℕ → ℕ → Float
+valueOf l p = ofBits binary32 (wordOf l p)
+
+abbrev pub pixelsOf : List ℕ → ℕ
+pixelsOf l = byteOf l 2 * 256 + byteOf l 4
+
+unfoldable pub diskOfLine : List ℕ → ℕ → Disk
+diskOfLine l n =
+    record {
+      n = n;
+      energy = valueOf l 6;
+      xs = valuesOf l 30 n;
+      ys = valuesOf l (30 + 8 * n) n;
+      vals = valuesOf l (30 + 16 * n) n;
+      angles = valuesOf l (30 + 24 * n) n;
+      weights = valuesOf l (30 + 32 * n) n;
+    }
+
+-- a count of 0 or above 320 is refused before the length is looked at
+unfoldable pub countedLine : List ℕ → ℕ → Answer
+countedLine l n =
+    cond (eqb n 0 || ltb 320 n) (Refused 0x82 2 0)
+    (cond (eqb (length l) (30 + 40 * n)) (diskAnswered (checkedDisk (diskOfLine l n) (valueOf l 14) (valueOf l 22))) malformed)
+
+unfoldable pub diskLine : List ℕ → Answer
+diskLine l = cond (ltb (length l) 30) malformed (countedLine l (pixelsOf l))
+
 unfoldable pub typedLine : List ℕ → Answer
-typedLine l = cond (eqb (byteOf l 0) 1) (ringLine l) malformed
+typedLine l = cond (eqb (byteOf l 0) 1) (ringLine l) (cond (eqb (byteOf l 0) 2) (diskLine l) malformed)
 
 -- too long; a foreign character; under 2 characters; another type; and then by the type
 unfoldable pub answerOf : List ℕ → Answer
@@ -52,15 +88,28 @@ ringWords r known =
 unfoldable pub ringText : RingFit → Bool → List ℕ
 ringText r known = countText 0x8100 ++ wordsText (ringWords r known) 7
 
+-- theta1, theta2, width, amp, rms, rel_rms, corr, edge_score, objective, both errors
+abbrev pub diskWords : Measured → List ℕ
+diskWords m =
+    toBits binary32 (m .fit .theta1) ∷ toBits binary32 (m .fit .theta2) ∷ toBits binary32 (m .fit .width) ∷ toBits binary32 (m .fit .amp) ∷
+    toBits binary32 (m .fit .rms) ∷ toBits binary32 (m .fit .rel) ∷ toBits binary32 (m .fit .corr) ∷ toBits binary32 (m .fit .edge) ∷
+    toBits binary32 (m .fit .objective) ∷ toBits binary32 (m .error1) ∷ toBits binary32 (m .error2) ∷ []
+
+-- 8200, then eleven words, the trials in four digits and known: 98 characters
+unfoldable pub diskText : Measured → Bool → List ℕ
+diskText m known = countText 0x8200 ++ (wordsText (diskWords m) 11 ++ (countText (m .trials % 65536) ++ byteText (flag known)))
+
 unfoldable pub refusalText : ℕ → ℕ → ℕ → List ℕ
 refusalText kind number place = byteText kind ++ (byteText number ++ countText place)
 
 abbrev pub textOf : Answer → List ℕ
 textOf (Ring r known) = ringText r known
+textOf (Sector m known) = diskText m known
 textOf (Refused kind number place) = refusalText kind number place
 
 abbrev pub numberOf : Answer → ℕ
 numberOf (Ring r known) = 0
+numberOf (Sector m known) = 0
 numberOf (Refused kind number place) = number
 
 -- ---- the line call: the number that it returns, and the whole of the lent buffer afterwards

@@ -1,4 +1,5 @@
 pub mod Frames
 pub mod FramesLaws
+pub mod RunsLaws
 pub mod Promises
 pub mod Rows

@@ -1,4 +1,4 @@
--- The rows that document 01 marks to be proved, as far as the ring goes: the definitions are run at the given bits, by the checker's own computation. Assumes nothing.
+-- The rows that document 01 marks to be proved: the definitions are run at the given bits, by the checker's own computation. Assumes nothing.
 use mathlib.Core.Path.{_≡_, refl}
 use mathlib.Core.Bool.{Bool, true, false, cond, not, _&&_, _||_}
 use mathlib.Core.List.{List, [], _∷_, _++_, map}
@@ -22,8 +22,9 @@ use Rattle.solver.specs.Solver.{degenerateFit, degenerate, fitWithSeed}
 use Rattle.seed.specs.Seed.{wavedBy, waves, harmonic, secondHarmonic}
 use Rattle.ring_fit.specs.Robust.{total, deviations, fitIsSuspicious, fitRing, gridAngle}
 use Rattle.checked.specs.Checked.{wildFrom, firstWild, errorsKnown, ringFitted, anglesLooked, samplesLooked, checkedRing}
+use Rattle.candidates.specs.Candidates.{combineEdgePair}
 use Rattle.hex.specs.Hex.{isHex, allHex, byteOf, wordOf, valuesOf, byteText, countText, wordText, wordsText}
-use Rattle.frames.specs.Frames.{answerOf, typedLine, ringLine, ringText, textOf}
+use Rattle.frames.specs.Frames.{answerOf, typedLine, ringLine, ringText, diskLine, countedLine, refusalText, textOf}
 
 abbrev bits : Float → ℕ
 bits = toBits binary32
@@ -51,11 +52,14 @@ diagonal d = map row ((d ∷ 0 ∷ 0 ∷ 0 ∷ []) ∷ (0 ∷ d ∷ 0 ∷ 0 ∷ 
 abbrev spoilt : Matrix
 spoilt = map row ((0x3f80_0000 ∷ 0 ∷ 0 ∷ 0 ∷ []) ∷ (0 ∷ 0x3f80_0000 ∷ 0 ∷ 0 ∷ []) ∷ (0 ∷ 0 ∷ 0x3f80_0000 ∷ 0x7f80_0000 ∷ []) ∷ (0 ∷ 0 ∷ 0 ∷ 0x3f80_0000 ∷ []) ∷ [])
 
+abbrev two : Float
+two = lit 0x4000_0000
+
 -- the characters 01 and 256 zeros
 abbrev zeroLine : List ℕ
 zeroLine = 48 ∷ 49 ∷ replicate 256 48
 
--- rows 1 to 10 and 12, in their order; row 5 has two parts, and rows 6, 9 and 10 have theirs side by side
+-- the twelve rows in their order; row 5 has two parts, and rows 6, 9, 10 and 11 have theirs side by side
 pub rows-to-prove : (
     axesBits (canonicalizeTrackingSwap nought pi one)
     ∷ axesBits (canonicalizeTrackingSwap nought halfPi (lit 0xbf80_0000))
@@ -68,6 +72,7 @@ pub rows-to-prove : (
     ∷ (bits (degenerateFit nan .rms) ∷ [])
     ∷ (bin pi ∷ bin (lit 0xbf80_0000) ∷ bin nan ∷ bin (inf false) ∷ [])
     ∷ (flag (validPair nought nought) ∷ flag (validPair nought halfPi) ∷ flag (validPair nought quarterPi) ∷ [])
+    ∷ (bits (combineEdgePair one one two) ∷ bits (combineEdgePair nought two two) ∷ [])
     ∷ textOf (answerOf zeroLine)
     ∷ []
     )
@@ -83,13 +88,24 @@ pub rows-to-prove : (
     ∷ (0 ∷ [])
     ∷ (0 ∷ 0 ∷ 0 ∷ 15 ∷ [])
     ∷ (0 ∷ 0 ∷ 1 ∷ [])
+    ∷ (0x3f80_0000 ∷ 0 ∷ [])
     ∷ (56 ∷ 49 ∷ 48 ∷ 48 ∷ 48 ∷ 48 ∷ 48 ∷ 48 ∷ 48 ∷ 48 ∷ 48 ∷ 48 ∷ 48 ∷ 48 ∷ 48 ∷ 48 ∷ 48 ∷ 48 ∷ 48 ∷ 48 ∷ 51 ∷ 102 ∷ 99 ∷ 57 ∷ 48 ∷ 102 ∷ 100 ∷ 98 ∷ 52 ∷ 48 ∷ 52 ∷ 57 ∷ 48 ∷ 102 ∷ 100 ∷ 98 ∷ 52 ∷ 48 ∷ 52 ∷ 57 ∷ 48 ∷ 102 ∷ 100 ∷ 98 ∷ 48 ∷ 48 ∷ 48 ∷ 48 ∷ 48 ∷ 48 ∷ 48 ∷ 48 ∷ 48 ∷ 49 ∷ 48 ∷ 48 ∷ 48 ∷ 48 ∷ 48 ∷ 48 ∷ [])
     ∷ []
     )
-unfolding canonicalizeTrackingSwap settled placed wrapToTau arc remEuclid validPair lineSeparation lineDelta signedLineDelta abs negative before max min sqrt rootUnits wholeRoot degenerateFit iter range solve4x4 augmented larger pivotRow unusable reduced cleared clear topRow columned stopped axisError bothErrors axisStdErrors floor bin tab whole sinRest cosRest quadrant sinCosNear turn sinCos degenerate fitWithSeed wavedBy waves harmonic secondHarmonic total deviations fitIsSuspicious fitRing wildFrom firstWild errorsKnown ringFitted anglesLooked samplesLooked checkedRing isHex allHex byteOf wordOf valuesOf byteText countText wordText wordsText answerOf typedLine ringLine ringText finite ltb eqb toUnsigned ofBits toBits ofInt add sub mul div rem neg lt le eq isNan round size
+unfolding combineEdgePair canonicalizeTrackingSwap settled placed wrapToTau arc remEuclid validPair lineSeparation lineDelta signedLineDelta abs negative before max min sqrt rootUnits wholeRoot degenerateFit iter range solve4x4 augmented larger pivotRow unusable reduced cleared clear topRow columned stopped axisError bothErrors axisStdErrors floor bin tab whole sinRest cosRest quadrant sinCosNear turn sinCos degenerate fitWithSeed wavedBy waves harmonic secondHarmonic total deviations fitIsSuspicious fitRing wildFrom firstWild errorsKnown ringFitted anglesLooked samplesLooked checkedRing isHex allHex byteOf wordOf valuesOf byteText countText wordText wordsText answerOf typedLine ringLine ringText finite ltb eqb toUnsigned ofBits toBits ofInt add sub mul div rem neg lt le eq isNan round size
 rows-to-prove = refl
 
 -- the two pairs of the grid that stand at 12 degrees: both are allowed
 pub grid-edges : (flag (validPair (gridAngle 0) (gridAngle 21)) ∷ flag (validPair (gridAngle 1) (gridAngle 22)) ∷ []) ≡ (1 ∷ 1 ∷ [])
 unfolding remEuclid validPair lineSeparation lineDelta signedLineDelta abs negative before max min add sub mul div rem neg lt le eq isNan ofBits ofInt round size
 grid-edges = refl
+
+-- document 01's line with 321 pixels: 020141 and 24 zeros, answered 82020000
+pub pixels-321 : textOf (answerOf (48 ∷ 50 ∷ 48 ∷ 49 ∷ 52 ∷ 49 ∷ replicate 24 48)) ≡ (56 ∷ 50 ∷ 48 ∷ 50 ∷ 48 ∷ 48 ∷ 48 ∷ 48 ∷ [])
+unfolding answerOf typedLine diskLine countedLine refusalText isHex allHex byteOf byteText countText iter ltb eqb
+pixels-321 = refl
+
+-- an empty line, answered ff050000
+pub empty-line : textOf (answerOf []) ≡ (102 ∷ 102 ∷ 48 ∷ 53 ∷ 48 ∷ 48 ∷ 48 ∷ 48 ∷ [])
+unfolding answerOf refusalText isHex allHex byteText countText iter ltb eqb
+empty-line = refl

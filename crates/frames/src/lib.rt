@@ -1,17 +1,21 @@
 // Frame lines: a line of text in, the answer's text into a lent buffer, and the number back.
+use checked::DiskAnswer;
+use checked::Measured;
 use checked::RingAnswer;
 use ring_fit::RingFit;
 ghost use mathlib.Core.Path.{_≡_};
-ghost use Prim.Native.Nat.{_+_, _≤_, _<_};
+ghost use Prim.Native.Nat.{_+_, _*_, _≤_, _<_};
 ghost use lib.ListN.{length};
 ghost use Rattle.hex.specs.Hex.{put};
-ghost use Rattle.checked.specs.Checked.{flag};
+ghost use Rattle.checked.specs.Checked.{checkedDisk, flag};
 ghost use Rattle.frames.specs.Frames as F;
+ghost use Rattle.frames.specs.RunsLaws.{diskOfRuns};
 
-// What a line is answered: a ring's fit with whether its errors are known, or a refusal with its
-// type, its number and its place.
+// What a line is answered: a ring's or a disk's fit with whether its errors are known, or a refusal
+// with its type, its number and its place.
 pub enum Answer {
     Ring(RingFit, bool),
+    Sector(Measured, bool),
     Refused(u8, u8, u16),
 }
 
@@ -43,12 +47,105 @@ fn ring_line(line: &[u8]) -> Answer
     malformed()
 }
 
+fn disk_answered(a: DiskAnswer) -> Answer
+    ensures { λ r. ⌜ r ≡ F.diskAnswered a ⌝ }
+{
+    match a {
+        DiskAnswer::Fitted(m, known) => Answer::Sector(m, known),
+        DiskAnswer::Refused(number, place) => Answer::Refused(130, number, place),
+    }
+}
+
+fn value_at(line: &[u8], at: usize) -> f32
+    requires { ⌜ at + 8 ≤ length (now line) ⌝ }
+    ensures { λ r. ⌜ r ≡ F.valueOf (now (line .entry)) at ⌝ }
+{
+    floats::from_bits(hex::word_at(line, at))
+}
+
+// The answer to a disk's values: five runs of n in one slice.
+fn runs_answered(energy: f32, base0: f32, base1: f32, vs: &[f32], n: usize) -> Answer
+    requires { ⌜ (n ≤ 320) × (length (now vs) ≡ 5 * n) ⌝ }
+    ensures { λ r. ⌜ r ≡ F.diskAnswered (checkedDisk (diskOfRuns energy (now (vs .entry)) n) base0 base1) ⌝ }
+{
+    let a = 0usize;
+    let b = n;
+    let c = 2 * n;
+    let d = 3 * n;
+    let e = 4 * n;
+    let f = 5 * n;
+    disk_answered(checked::fit_disk(
+        energy,
+        base0,
+        base1,
+        &vs[a..b],
+        &vs[b..c],
+        &vs[c..d],
+        &vs[d..e],
+        &vs[e..f],
+    ))
+}
+
+// The values of a disk whose line has the right length, read into a lent row of 5 n places.
+fn runs_line(line: &[u8], n: usize, vs: &mut [f32]) -> Answer
+    requires { ⌜ (n ≤ 320) × (length (now line) ≡ 30 + 40 * n) × (length (now vs) ≡ 5 * n) ⌝ }
+    ensures { λ r. ⌜ r ≡ F.diskAnswered (checkedDisk (F.diskOfLine (now (line .entry)) n) (F.valueOf (now (line .entry)) 14) (F.valueOf (now (line .entry)) 22)) ⌝ }
+{
+    let energy = value_at(line, 6);
+    let base0 = value_at(line, 14);
+    let base1 = value_at(line, 22);
+    hex::values(line, 30, vs);
+    runs_answered(energy, base0, base1, vs, n)
+}
+
+// The same, with the row on this call's stack.
+fn pixels_line(line: &[u8], n: usize) -> Answer
+    requires { ⌜ (n ≤ 320) × (length (now line) ≡ 30 + 40 * n) ⌝ }
+    ensures { λ r. ⌜ r ≡ F.diskAnswered (checkedDisk (F.diskOfLine (now (line .entry)) n) (F.valueOf (now (line .entry)) 14) (F.valueOf (now (line .entry)) 22)) ⌝ }
+{
+    let mut vs = [0.0f32; 1600];
+    let from = 0usize;
+    let m = 5 * n;
+    runs_line(line, n, &mut vs[from..m])
+}
+
+fn counted_line(line: &[u8], n: usize) -> Answer
+    requires { ⌜ (30 ≤ length (now line)) × (n < 65536) ⌝ }
+    ensures { λ r. ⌜ r ≡ F.countedLine (now (line .entry)) n ⌝ }
+{
+    if n == 0 {
+        return Answer::Refused(130, 2, 0);
+    }
+    if n > 320 {
+        return Answer::Refused(130, 2, 0);
+    }
+    if line.len() == 30 + 40 * n {
+        return pixels_line(line, n);
+    }
+    malformed()
+}
+
+fn disk_line(line: &[u8]) -> Answer
+    requires { ⌜ 2 ≤ length (now line) ⌝ }
+    ensures { λ r. ⌜ r ≡ F.diskLine (now (line .entry)) ⌝ }
+{
+    if line.len() < 30 {
+        return malformed();
+    }
+    let n = hex::byte_at(line, 2) * 256 + hex::byte_at(line, 4);
+    counted_line(line, n as usize)
+}
+
 fn typed_line(line: &[u8]) -> Answer
     requires { ⌜ 2 ≤ length (now line) ⌝ }
     ensures { λ r. ⌜ r ≡ F.typedLine (now (line .entry)) ⌝ }
 {
-    if hex::byte_at(line, 0) == 1 {
+    let kind = hex::byte_at(line, 0);
+    if kind == 1 {
         return ring_line(line);
+    }
+    if kind == 2 {
+        return disk_line(line);
     }
     malformed()
 }
@@ -112,6 +209,39 @@ fn write_ring(r: RingFit, known: bool, out: &mut [u8], at: usize) -> u32
     0
 }
 
+// The words of a disk's fit, after its first four digits.
+fn disk_words(m: Measured) -> [u32; 11]
+    ensures { λ x. ⌜ (x ≡ F.diskWords m) × (11 ≡ length x) ⌝ }
+{
+    let f = m.fit;
+    let a = floats::to_bits(f.theta1);
+    let b = floats::to_bits(f.theta2);
+    let c = floats::to_bits(f.width);
+    let d = floats::to_bits(f.amp);
+    let e = floats::to_bits(f.rms);
+    let g = floats::to_bits(f.rel);
+    let h = floats::to_bits(f.corr);
+    let i = floats::to_bits(f.edge);
+    let j = floats::to_bits(f.objective);
+    let k = floats::to_bits(m.error1);
+    let l = floats::to_bits(m.error2);
+    [a, b, c, d, e, g, h, i, j, k, l]
+}
+
+fn write_disk(m: Measured, known: bool, out: &mut [u8], at: usize) -> u32
+    requires { ⌜ at + 98 ≤ length (now out) ⌝ }
+    ensures { λ n. ⌜ (n ≡ 0) × (now (out .exit) ≡ put (now (out .entry)) at (F.diskText m known)) ⌝ }
+{
+    let ws = disk_words(m);
+    let trials = (m.trials % 65536) as u32;
+    let k = as_number(known);
+    hex::put_count(out, at, 0x8200);
+    hex::put_words(out, at + 4, &ws);
+    hex::put_count(out, at + 92, trials);
+    hex::put_byte(out, at + 96, k);
+    0
+}
+
 fn write_refusal(kind: u8, number: u8, place: u16, out: &mut [u8], at: usize) -> u32
     requires { ⌜ at + 98 ≤ length (now out) ⌝ }
     ensures { λ r. ⌜ (r ≡ number) × (now (out .exit) ≡ put (now (out .entry)) at (F.refusalText kind number place)) ⌝ }
@@ -128,6 +258,7 @@ pub fn write_answer(a: Answer, out: &mut [u8], at: usize) -> u32
 {
     match a {
         Answer::Ring(r, known) => write_ring(r, known, out, at),
+        Answer::Sector(m, known) => write_disk(m, known, out, at),
         Answer::Refused(kind, number, place) => write_refusal(kind, number, place, out, at),
     }
 }
@@ -152,10 +283,11 @@ fn kept_answer(skip: bool, line: &[u8]) -> Answer
 }
 
 fn text_len(a: Answer) -> usize
-    ensures { λ r. ⌜ (r ≤ 60) × (r ≡ length (F.textOf a)) ⌝ }
+    ensures { λ r. ⌜ (r ≤ 98) × (r ≡ length (F.textOf a)) ⌝ }
 {
     match a {
         Answer::Ring(_, _) => 60,
+        Answer::Sector(_, _) => 98,
         Answer::Refused(_, _, _) => 8,
     }
 }

@@ -5,7 +5,6 @@ use lines::Feed;
 use lines::Found;
 
 mod library;
-mod ring;
 
 ghost use mathlib.Core.Path.{_≡_};
 ghost use Prim.Native.Nat.{_+_, _*_, _≤_, _<_};
@@ -54,23 +53,21 @@ fn library_line(number: u32, w: &[u32], out: &mut [u32]) -> usize
 // How many words the answer has, which stand in `out`; none where there is no such function, or not
 // of that many arguments.
 fn call(number: u32, w: &[u32], out: &mut [u32]) -> usize
-    requires { ⌜ (16 < length (now out)) × (length (now w) ≤ 2304) ⌝ }
-    ensures { λ r. ⌜ r ≤ 16 ⌝ }
+    requires { ⌜ (length (now out) ≡ 1105) × (length (now w) ≤ 2304) ⌝ }
+    ensures { λ r. ⌜ r ≤ 1105 ⌝ }
 {
     match number / 16 {
         1 | 2 => library_line(number, w, out),
-        3 => ring::geometry_line(number, w, out),
-        4 => ring::solver_line(number, w, out),
-        5 => ring::seed_line(number, w, out),
-        6 => ring::ring_fit_line(number, w, out),
+        3 | 4 | 5 | 6 => ringlines::ring_line(number, w, out),
+        7 | 8 | 9 => disklines::disk_line(number, w, out),
         _ => 0,
     }
 }
 
 // How many words the answer to a line has.
 fn answered(line: &[u8], words: &mut [u32], out: &mut [u32]) -> usize
-    requires { ⌜ (length (now words) ≡ 2304) × (16 < length (now out)) ⌝ }
-    ensures { λ r. ⌜ r ≤ 16 ⌝ }
+    requires { ⌜ (length (now words) ≡ 2304) × (length (now out) ≡ 1105) ⌝ }
+    ensures { λ r. ⌜ r ≤ 1105 ⌝ }
 {
     let n = line.len();
     if n < 2 {

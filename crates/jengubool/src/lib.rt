@@ -1,5 +1,7 @@
 // The library for C and Rust callers: libjengubool.a. Each function is one call of a proved one;
 // include/jengubool.h declares them, with what each promises.
+use checked::DiskAnswer;
+use checked::Measured;
 use checked::RingAnswer;
 use ring_fit::RingFit;
 use solver::TwoAxisFit;
@@ -7,6 +9,7 @@ ghost use mathlib.Core.Path.{_≡_};
 ghost use Prim.Native.Nat.{_≤_};
 ghost use lib.ListN.{length};
 ghost use lib.Ieee.{binary32};
+ghost use Rattle.refine.specs.RefineLaws.{diskOf};
 ghost use Rattle.frames.specs.Frames as F;
 ghost use Rattle.jengubool.specs.Calls as J;
 ghost use Rattle.floats.specs.Library as L;
@@ -104,7 +107,7 @@ fn put_counts(r: RingFit, known: bool, counts: &mut [u32])
 
 fn ring_stored(a: RingAnswer, fit: &mut [f32], counts: &mut [u32]) -> u32
     requires { ⌜ (6 ≤ length (now fit)) × (4 ≤ length (now counts)) ⌝ }
-    ensures { λ r. ⌜ _≡_ {A = J.RingReply} (record { code = r; fit = now (fit .exit); counts = now (counts .exit) }) (J.ringStored a (now (fit .entry)) (now (counts .entry))) ⌝ }
+    ensures { λ r. ⌜ _≡_ {A = J.Stored} (record { code = r; fit = now (fit .exit); counts = now (counts .exit) }) (J.ringStored a (now (fit .entry)) (now (counts .entry))) ⌝ }
 {
     match a {
         RingAnswer::Fitted(r, known) => {
@@ -124,7 +127,7 @@ pub extern "C" fn jb_fit_ring(
     fit: &mut [f32],
     counts: &mut [u32],
 ) -> u32
-    ensures { λ r. ⌜ _≡_ {A = J.RingReply} (record { code = r; fit = now (fit .exit); counts = now (counts .exit) }) (J.ringCall (now (samples .entry)) (now (angles .entry)) (now (fit .entry)) (now (counts .entry))) ⌝ }
+    ensures { λ r. ⌜ _≡_ {A = J.Stored} (record { code = r; fit = now (fit .exit); counts = now (counts .exit) }) (J.ringCall (now (samples .entry)) (now (angles .entry)) (now (fit .entry)) (now (counts .entry))) ⌝ }
 {
     if fit.len() < 6 {
         return 65536;
@@ -133,4 +136,75 @@ pub extern "C" fn jb_fit_ring(
         return 65536;
     }
     ring_stored(checked::fit_ring(samples, angles), fit, counts)
+}
+
+// The eleven values of a disk's fit.
+fn put_disk(m: Measured, fit: &mut [f32])
+    requires { ⌜ 11 ≤ length (now fit) ⌝ }
+    ensures { λ _. ⌜ now (fit .exit) ≡ J.diskFitStored m (now (fit .entry)) ⌝ }
+{
+    let f = m.fit;
+    fit[0] = f.theta1;
+    fit[1] = f.theta2;
+    fit[2] = f.width;
+    fit[3] = f.amp;
+    fit[4] = f.rms;
+    fit[5] = f.rel;
+    fit[6] = f.corr;
+    fit[7] = f.edge;
+    fit[8] = f.objective;
+    fit[9] = m.error1;
+    fit[10] = m.error2;
+}
+
+fn put_trials(m: Measured, known: bool, counts: &mut [u32])
+    requires { ⌜ 2 ≤ length (now counts) ⌝ }
+    ensures { λ _. ⌜ now (counts .exit) ≡ J.diskCountsStored m known (now (counts .entry)) ⌝ }
+{
+    let k = as_number(known);
+    counts[0] = (m.trials % 4294967296) as u32;
+    counts[1] = k;
+}
+
+fn disk_stored(a: DiskAnswer, fit: &mut [f32], counts: &mut [u32]) -> u32
+    requires { ⌜ (11 ≤ length (now fit)) × (2 ≤ length (now counts)) ⌝ }
+    ensures { λ r. ⌜ _≡_ {A = J.Stored} (record { code = r; fit = now (fit .exit); counts = now (counts .exit) }) (J.diskStored a (now (fit .entry)) (now (counts .entry))) ⌝ }
+{
+    match a {
+        DiskAnswer::Fitted(m, known) => {
+            put_disk(m, fit);
+            put_trials(m, known, counts);
+            0
+        }
+        DiskAnswer::Refused(number, place) => (number as u32) * 65536 + place as u32,
+    }
+}
+
+// The value call of the disk: any seven slices.
+#[no_mangle]
+pub extern "C" fn jb_fit_disk(
+    energy: f32,
+    base0: f32,
+    base1: f32,
+    xs: &[f32],
+    ys: &[f32],
+    vals: &[f32],
+    angles: &[f32],
+    weights: &[f32],
+    fit: &mut [f32],
+    counts: &mut [u32],
+) -> u32
+    ensures { λ r. ⌜ _≡_ {A = J.Stored} (record { code = r; fit = now (fit .exit); counts = now (counts .exit) }) (J.diskCall (diskOf energy (now (xs .entry)) (now (ys .entry)) (now (vals .entry)) (now (angles .entry)) (now (weights .entry))) base0 base1 (now (fit .entry)) (now (counts .entry))) ⌝ }
+{
+    if fit.len() < 11 {
+        return 65536;
+    }
+    if counts.len() < 2 {
+        return 65536;
+    }
+    disk_stored(
+        checked::fit_disk(energy, base0, base1, xs, ys, vals, angles, weights),
+        fit,
+        counts,
+    )
 }

@@ -1,0 +1,15 @@
+-- The steps are the definition's. Assumes nothing.
+use Rattle.candidates.specs.Candidates as C
+use borrow.Author.Needs.{needs}
+use Rattle.candidates.proofs.bin_angle.Statement.{statement}
+use Rattle.candidates.proofs.bin_angle.Tie as tie
+
+returns : tie.Need-returns
+unfolding C.binAngle
+returns c = rw (c .count-f32 .ensures)
+
+pub bin-angle-spec : {M : Type 1} → statement M
+bin-angle-spec =
+    tie.close
+    (tie.spec
+    (λ c κs. search needs) returns)

@@ -1,0 +1,23 @@
+-- The search, and its errors or its trials; these are at most 96 where nothing is answered. Assumes nothing.
+use Rattle.checked.specs.CheckedLaws.{refused-place}
+use Rattle.search.specs.BillLaws.{missing-trials}
+use Rattle.checked.specs.Checked as C
+use mathlib.Core.Path.{sym, _∙_}
+use borrow.Author.Needs.{needs}
+use Rattle.checked.proofs.disk_fitted.Statement.{statement}
+use Rattle.checked.proofs.disk_fitted.Tie as tie
+
+returns : tie.Need-returns
+unfolding C.diskFitted C.diskMeasured
+returns c = rw (← c .before .before .before .before .best-disk-fit .ensures, c .before .before .found .given .1) (c .with-errors .ensures)
+
+returns-2 : tie.Need-returns-2
+unfolding C.diskFitted C.diskMeasured
+returns-2 c = let m = missing-trials _ _ _ _ (sym (c .before .before .before .best-disk-fit .ensures) ∙ c .before .found2 .given .1) in rw (← c .before .before .before .best-disk-fit .ensures, c .before .found2 .given .1) (refused-place _ m)
+
+pub disk-fitted-spec : {M : Type 1} → statement M
+disk-fitted-spec =
+    tie.close
+    (tie.spec
+    (λ c κs. search needs) (λ c. search needs) (λ c κs. search needs) (λ c. search needs) (λ c. search needs) returns
+    returns-2)

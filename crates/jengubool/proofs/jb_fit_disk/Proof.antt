@@ -1,0 +1,24 @@
+-- Both buffers are long enough, or nothing is touched. Assumes nothing.
+use Rattle.jengubool.specs.Calls as J
+use borrow.Author.Tests.{lt-ltb, le-ltb}
+use borrow.Author.Needs.{needs}
+use Rattle.jengubool.proofs.jb_fit_disk.Statement.{statement}
+use Rattle.jengubool.proofs.jb_fit_disk.Tie as tie
+
+returns : tie.Need-returns
+unfolding J.diskCall
+returns c = rw (lt-ltb _ _ (c .if1 .taken))
+
+returns-2 : tie.Need-returns-2
+unfolding J.diskCall
+returns-2 c = rw (le-ltb _ _ (c .before .if1 .left), lt-ltb _ _ (c .if2 .taken))
+
+returns-3 : tie.Need-returns-3
+unfolding J.diskCall
+returns-3 c = rw (le-ltb _ _ (c .before .before .before .before .before .before .before .before .before .if1 .left), le-ltb _ _ (c .before .before .before .before .before .before .before .before .if2 .left), ← c .before .before .before .before .before .before .before .fit-disk .ensures) (c .before .before .before .before .disk-stored .ensures)
+
+pub jb-fit-disk-spec : {M : Type 1} → statement M
+jb-fit-disk-spec =
+    tie.close
+    (tie.spec
+    returns returns-2 (λ c κs. search needs) (λ c κs. search needs) (λ c. search needs) (λ c. search needs) returns-3)

@@ -1,0 +1,4 @@
+pub mod Ranking
+pub mod RankingLaws
+pub mod SinkLaws
+pub mod WithinLaws

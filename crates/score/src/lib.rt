@@ -1,0 +1,366 @@
+// The score of a pair of axes, the order of fits and the errors of a fit: disk_sector/score.rs.
+use candidates::CandidateSet;
+use elementary::SinCos;
+use solve::Errors;
+use solve::Solved;
+ghost use mathlib.Core.Path.{_≡_};
+ghost use Prim.Native.Nat.{_≤_};
+ghost use lib.ListN.{length};
+ghost use Rattle.solve.specs.Solve as E;
+ghost use Rattle.score.specs.Score as S;
+
+// What a pair of axes at one width is worth.
+pub struct Fit {
+    pub theta1: f32,
+    pub theta2: f32,
+    pub width: f32,
+    pub amp: f32,
+    pub rms: f32,
+    pub rel: f32,
+    pub corr: f32,
+    pub edge: f32,
+    pub objective: f32,
+}
+
+// A scored pair, or nothing.
+pub enum Scored {
+    Found(Fit),
+    Nothing,
+}
+
+// The sums of a pair: of q, of its square, and of its product with the centred values.
+pub struct Sums {
+    pub q: f32,
+    pub q2: f32,
+    pub dot: f32,
+}
+
+// A pixel's model, its slopes by the two axes, and its error.
+pub struct Slopes {
+    pub q: f32,
+    pub j1: f32,
+    pub j2: f32,
+    pub e: f32,
+}
+
+// The sums over the pixels that the errors are made of.
+pub struct Moments {
+    pub sq: f64,
+    pub sqq: f64,
+    pub sj1: f64,
+    pub sj2: f64,
+    pub sqj1: f64,
+    pub sqj2: f64,
+    pub sj11: f64,
+    pub sj12: f64,
+    pub sj22: f64,
+    pub see: f64,
+}
+
+fn pair_sums(vals: &[f32], h0: &[f32], h1: &[f32]) -> Sums
+    requires { ⌜ (length (now h0) ≡ length (now vals)) × (length (now h1) ≡ length (now vals)) ⌝ }
+    ensures { λ r. ⌜ r ≡ S.pairSums (length (now (vals .entry))) (now (vals .entry)) (now (h0 .entry)) (now (h1 .entry)) ⌝ }
+{
+    let n = vals.len();
+    let mut s = Sums {
+        q: 0.0,
+        q2: 0.0,
+        dot: 0.0,
+    };
+    for p in 0..n {
+        let q = h0[p] * h1[p];
+        s.q += q;
+        s.q2 += q * q;
+        s.dot += q * vals[p];
+    }
+    s
+}
+
+// At the least-squares optimum the residual is the energy less dot * dot / denom; rounding can push
+// it below 0.
+fn fit_of(
+    energy: f32,
+    ninv: f32,
+    dot: f32,
+    denom: f32,
+    theta0: f32,
+    theta1: f32,
+    width: f32,
+    edge: f32,
+) -> Fit
+    ensures { λ r. ⌜ r ≡ S.fitOf energy ninv dot denom theta0 theta1 width edge ⌝ }
+{
+    let amp = dot / denom;
+    let ssr = floats::max(energy - dot * dot / denom, 0.0);
+    let rms = roots::sqrt(ssr * ninv);
+    let corr = floats::abs(dot) / roots::sqrt(denom * energy);
+    let rel = rms / floats::max(floats::abs(amp), 1.0);
+    let a = axes::canonicalize_tracking_swap(theta0, theta1, amp);
+    Fit {
+        theta1: a.theta1,
+        theta2: a.theta2,
+        width,
+        amp: a.amp,
+        rms,
+        rel,
+        corr,
+        edge,
+        objective: rel - 1.25 * edge,
+    }
+}
+
+fn scored_sums(
+    energy: f32,
+    ninv: f32,
+    s: Sums,
+    theta0: f32,
+    theta1: f32,
+    width: f32,
+    edge: f32,
+) -> Scored
+    ensures { λ r. ⌜ r ≡ S.scoredSums energy ninv s theta0 theta1 width edge ⌝ }
+{
+    let denom = s.q2 - s.q * s.q * ninv;
+    if denom <= 1e-9 {
+        return Scored::Nothing;
+    }
+    Scored::Found(fit_of(energy, ninv, s.dot, denom, theta0, theta1, width, edge))
+}
+
+// The score of two axes from their rows of tanh.
+pub fn score_pair_cached(
+    energy: f32,
+    vals: &[f32],
+    theta0: f32,
+    theta1: f32,
+    width: f32,
+    edge: f32,
+    h0: &[f32],
+    h1: &[f32],
+) -> Scored
+    requires { ⌜ (length (now h0) ≡ length (now vals)) × (length (now h1) ≡ length (now vals)) × (length (now vals) ≤ 320) ⌝ }
+    ensures { λ r. ⌜ r ≡ S.scorePairCached (length (now (vals .entry))) energy (now (vals .entry)) theta0 theta1 width edge (now (h0 .entry)) (now (h1 .entry)) ⌝ }
+{
+    if geometry::valid_pair(theta0, theta1) {} else {
+        return Scored::Nothing;
+    }
+    if energy <= 1e-9 {
+        return Scored::Nothing;
+    }
+    let s = pair_sums(vals, h0, h1);
+    let ninv = 1.0 / floats::count_f32(vals.len());
+    scored_sums(energy, ninv, s, theta0, theta1, width, edge)
+}
+
+// The candidates' edge sums into `out`, and the weights' total; `terms` is lent as scratch.
+pub fn precompute_edge_alignments(
+    angles: &[f32],
+    weights: &[f32],
+    set: CandidateSet,
+    terms: &mut [f32],
+    out: &mut [f32],
+) -> f32
+    requires { ⌜ (length (now weights) ≡ length (now angles)) × (length (now terms) ≡ length (now angles)) × (set .n ≤ length (now out)) × (length (now out) ≤ 64) ⌝ }
+    ensures { λ r. ⌜ (r ≡ S.alignedTotal (length (now (angles .entry))) (now (weights .entry))) × (now (out .exit) ≡ S.alignedSums (length (now (angles .entry))) (now (angles .entry)) (now (weights .entry)) set (now (out .entry))) ⌝ }
+{
+    let total = edges::edge_weight_total(weights);
+    if total <= 1e-9 {
+        return 0.0;
+    }
+    let n = set.n;
+    for c in 0..n {
+        out[c] = edges::ranked_sum(angles, weights, set.angles[c], terms);
+    }
+    total
+}
+
+fn lower(a: f32, b: f32, next: bool) -> bool
+    ensures { λ r. ⌜ r ≡ S.lower a b next ⌝ }
+{
+    if a < b - 1e-9 {
+        return true;
+    }
+    if floats::abs(a - b) > 1e-9 {
+        return false;
+    }
+    next
+}
+
+fn higher(a: f32, b: f32, next: bool) -> bool
+    ensures { λ r. ⌜ r ≡ S.higher a b next ⌝ }
+{
+    if a > b + 1e-9 {
+        return true;
+    }
+    if floats::abs(a - b) > 1e-9 {
+        return false;
+    }
+    next
+}
+
+// Lower objective, lower rel, higher edge, narrower width, smaller theta1, smaller theta2: the first
+// key that tells by more than 1e-9 decides. With these margins it is no order.
+pub fn fit_is_better(a: Fit, b: Fit) -> bool
+    ensures { λ r. ⌜ r ≡ S.fitIsBetter a b ⌝ }
+{
+    let t = lower(a.theta1, b.theta1, a.theta2 < b.theta2);
+    let w = lower(a.width, b.width, t);
+    let e = higher(a.edge, b.edge, w);
+    let r = lower(a.rel, b.rel, e);
+    lower(a.objective, b.objective, r)
+}
+
+fn slopes_at(amp: f32, invw: f32, t1: SinCos, t2: SinCos, x: f32, y: f32, v: f32) -> Slopes
+    ensures { λ r. ⌜ r ≡ S.slopesAt amp invw t1 t2 x y v ⌝ }
+{
+    let h1 = elementary::tanh((-t1.s * x + t1.c * y) * invw);
+    let h2 = elementary::tanh((-t2.s * x + t2.c * y) * invw);
+    let q = h1 * h2;
+    Slopes {
+        q,
+        j1: amp * (1.0 - h1 * h1) * invw * (-t1.c * x - t1.s * y) * h2,
+        j2: amp * h1 * (1.0 - h2 * h2) * invw * (-t2.c * x - t2.s * y),
+        e: v - amp * q,
+    }
+}
+
+fn gathered(t: Slopes, m: Moments) -> Moments
+    ensures { λ r. ⌜ r ≡ S.gathered t m ⌝ }
+{
+    let q = floats::widen(t.q);
+    let j1 = floats::widen(t.j1);
+    let j2 = floats::widen(t.j2);
+    let e = floats::widen(t.e);
+    Moments {
+        sq: m.sq + q,
+        sqq: m.sqq + q * q,
+        sj1: m.sj1 + j1,
+        sj2: m.sj2 + j2,
+        sqj1: m.sqj1 + q * j1,
+        sqj2: m.sqj2 + q * j2,
+        sj11: m.sj11 + j1 * j1,
+        sj12: m.sj12 + j1 * j2,
+        sj22: m.sj22 + j2 * j2,
+        see: m.see + e * e,
+    }
+}
+
+fn no_moments() -> Moments
+    ensures { λ r. ⌜ r ≡ S.noMoments ⌝ }
+{
+    Moments {
+        sq: 0.0,
+        sqq: 0.0,
+        sj1: 0.0,
+        sj2: 0.0,
+        sqj1: 0.0,
+        sqj2: 0.0,
+        sj11: 0.0,
+        sj12: 0.0,
+        sj22: 0.0,
+        see: 0.0,
+    }
+}
+
+fn moments_of(xs: &[f32], ys: &[f32], vals: &[f32], f: Fit) -> Moments
+    requires { ⌜ (length (now ys) ≡ length (now xs)) × (length (now vals) ≡ length (now xs)) ⌝ }
+    ensures { λ r. ⌜ r ≡ S.momentsOf (length (now (xs .entry))) (now (xs .entry)) (now (ys .entry)) (now (vals .entry)) f ⌝ }
+{
+    let n = xs.len();
+    let amp = f.amp;
+    let invw = 1.0 / f.width;
+    let t1 = elementary::sin_cos(f.theta1);
+    let t2 = elementary::sin_cos(f.theta2);
+    let mut m = no_moments();
+    for p in 0..n {
+        let t = slopes_at(amp, invw, t1, t2, xs[p], ys[p], vals[p]);
+        m = gathered(t, m);
+    }
+    m
+}
+
+fn residual(n: usize, amp: f32, m: Moments) -> f64
+    requires { ⌜ n ≤ 320 ⌝ }
+    ensures { λ r. ⌜ r ≡ S.residual n amp m ⌝ }
+{
+    let count = floats::count_f64(n);
+    let a = floats::widen(amp) * m.sq / count;
+    floats::max_f64(m.see - count * a * a, 0.0)
+}
+
+fn normal(n: usize, m: Moments) -> [[f32; 4]; 4]
+    requires { ⌜ n ≤ 320 ⌝ }
+    ensures { λ r. ⌜ r ≡ S.normal n m ⌝ }
+{
+    let c = narrowing::narrow(floats::count_f64(n));
+    let sq = narrowing::narrow(m.sq);
+    let sqq = narrowing::narrow(m.sqq);
+    let sj1 = narrowing::narrow(m.sj1);
+    let sj2 = narrowing::narrow(m.sj2);
+    let sqj1 = narrowing::narrow(m.sqj1);
+    let sqj2 = narrowing::narrow(m.sqj2);
+    let sj11 = narrowing::narrow(m.sj11);
+    let sj12 = narrowing::narrow(m.sj12);
+    let sj22 = narrowing::narrow(m.sj22);
+    [
+        [c, sq, sj1, sj2],
+        [sq, sqq, sqj1, sqj2],
+        [sj1, sqj1, sj11, sj12],
+        [sj2, sqj2, sj12, sj22],
+    ]
+}
+
+fn unknown() -> Errors
+    ensures { λ r. ⌜ r ≡ E.unknown ⌝ }
+{
+    Errors {
+        error1: floats::PI,
+        error2: floats::PI,
+    }
+}
+
+fn axis_error(v: f32, c: f32) -> f32
+    ensures { λ r. ⌜ r ≡ E.axisError v c ⌝ }
+{
+    floats::min(roots::sqrt(v * floats::max(c, 0.0)), floats::PI)
+}
+
+// Both columns of the inverse that matter, as in `solve`. With a second caller the compiler no longer
+// puts that function into the ring fit, whose stack would pass 4096 bytes; so the disk has its own.
+fn both_errors(jtj: &[[f32; 4]; 4], v: f32) -> Errors
+    ensures { λ r. ⌜ r ≡ E.bothErrors v (E.solve4x4 (now (jtj .entry)) E.unit2) (E.solve4x4 (now (jtj .entry)) E.unit3) ⌝ }
+{
+    let e2 = [0.0f32, 0.0, 1.0, 0.0];
+    let Solved::Values(_, _, c2, _) = solve::solve_4x4(jtj, &e2) else {
+        return unknown();
+    };
+    let e3 = [0.0f32, 0.0, 0.0, 1.0];
+    let Solved::Values(_, _, _, c3) = solve::solve_4x4(jtj, &e3) else {
+        return unknown();
+    };
+    let error1 = axis_error(v, c2);
+    let error2 = axis_error(v, c3);
+    Errors { error1, error2 }
+}
+
+fn errors_of(jtj: &[[f32; 4]; 4], ssr: f32, n: usize) -> Errors
+    requires { ⌜ n ≤ 320 ⌝ }
+    ensures { λ r. ⌜ r ≡ E.axisStdErrors (now (jtj .entry)) ssr n ⌝ }
+{
+    if n <= 4 {
+        return unknown();
+    }
+    both_errors(jtj, ssr / floats::count_f32(n - 4))
+}
+
+// The standard errors of a fit's two axes, from one pass at its own angles and width.
+pub fn fit_std_errors(xs: &[f32], ys: &[f32], vals: &[f32], f: Fit) -> Errors
+    requires { ⌜ (length (now ys) ≡ length (now xs)) × (length (now vals) ≡ length (now xs)) × (length (now xs) ≤ 320) ⌝ }
+    ensures { λ r. ⌜ r ≡ S.fitStdErrors (length (now (xs .entry))) (now (xs .entry)) (now (ys .entry)) (now (vals .entry)) f ⌝ }
+{
+    let n = xs.len();
+    let m = moments_of(xs, ys, vals, f);
+    let jtj = normal(n, m);
+    let ssr = narrowing::narrow(residual(n, f.amp, m));
+    errors_of(&jtj, ssr, n)
+}

@@ -1,0 +1,60 @@
+-- The bill of a disk search: k ranked pairs tried at each of the four widths, and m leaders refined by 24 trials each. Definitions only.
+use mathlib.Core.Bool.{cond}
+use mathlib.Core.List.{List, []}
+use Prim.Native.Nat.{ℕ, _+_}
+use lib.ListN.{length, getD}
+use lib.Dec.{eqb, ltb}
+use lib.Ieee.{Float}
+use Rattle.candidates.specs.declared.PairScore.{PairScore}
+use Rattle.candidates.specs.declared.Pool.{Pool}
+use Rattle.loops.specs.Loops.{iter}
+use Rattle.ranking.specs.Ranking.{blank, ranked}
+use Rattle.score.specs.declared.Scored.{Scored}
+use Rattle.score.specs.declared.Scored.the-variants.{Found, Nothing}
+use Rattle.refine.specs.Refine.{Disk}
+use Rattle.search.specs.declared.Leaders.{Leaders}
+use Rattle.search.specs.declared.DiskFit.{DiskFit}
+use Rattle.search.specs.declared.DiskFit.the-variants.{Best, Missing}
+use Rattle.search.specs.Search.{pairScored, triedAll, widthAt, candidatesOf, poolBy}
+
+-- the trials that an answer reports
+abbrev pub trialsOf : DiskFit → ℕ
+trialsOf (Best f t) = t
+trialsOf (Missing t) = t
+
+-- 1 where a fit stands, 0 where none does
+abbrev pub filled : Scored → ℕ
+filled Nothing = 0
+filled (Found f) = 1
+
+module _ (D : Disk) (base0 base1 : Float) where
+  -- the allowed pairs of candidates; poolOf .n is their number
+  unfoldable pub poolOf : Pool
+  poolOf = poolBy (D .n) (D .angles) (D .weights) (candidatesOf D base0 base1) base0 base1
+
+  -- the ranked pairs that are tried: none where there are fewer than two candidates, or where no pair of them is allowed
+  unfoldable pub pairsTried : List PairScore
+  pairsTried = cond (ltb (candidatesOf D base0 base1 .n) 2) [] (cond (eqb (poolOf .n) 0) [] (ranked poolOf))
+
+  -- k
+  unfoldable pub pairsKept : ℕ
+  pairsKept = length pairsTried
+
+  -- one trial: a ranked pair at a width
+  unfoldable pub trial : Float → ℕ → Scored
+  trial width r = pairScored (D .n) (D .energy) (D .xs) (D .ys) (D .vals) (candidatesOf D base0 base1) width (getD pairsTried r blank)
+
+  -- of the 4 k trials, those that answered a fit
+  unfoldable pub answeredAt : Float → ℕ → ℕ
+  answeredAt width c = iter (λ r c. c + filled (trial width r)) c pairsKept
+
+  unfoldable pub answeredTrials : ℕ
+  answeredTrials = iter (λ w. answeredAt (widthAt w)) 0 4
+
+  -- what the 4 k trials leave
+  unfoldable pub leadersOf : Leaders
+  leadersOf = triedAll (D .n) (D .energy) (D .xs) (D .ys) (D .vals) (candidatesOf D base0 base1) pairsTried
+
+  -- m: how many of the two places hold a fit
+  unfoldable pub leadersKept : ℕ
+  leadersKept = filled (leadersOf .top .first) + filled (leadersOf .top .second)
