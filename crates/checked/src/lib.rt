@@ -9,7 +9,7 @@ ghost use mathlib.Core.Path.{_≡_};
 ghost use Prim.Native.Nat.{_<_, _≤_};
 ghost use lib.ListN.{length};
 ghost use Rattle.ring_fit.specs.Robust.{fitRing};
-ghost use Rattle.refine.specs.RefineLaws.{diskOf};
+ghost use Rattle.refine.specs.Refine.{diskOf};
 ghost use Rattle.checked.specs.Checked as C;
 ghost use Rattle.checked.specs.CheckedLaws.{Below};
 

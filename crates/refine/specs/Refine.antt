@@ -3,7 +3,7 @@
 use mathlib.Core.Bool.{Bool, cond, _&&_}
 use mathlib.Core.List.{List, [], _∷_}
 use Prim.Native.Nat.{ℕ, _+_}
-use lib.ListN.{getD}
+use lib.ListN.{length, getD}
 use lib.Ieee.{Float, nan, neg, eq}
 use Rattle.floats.specs.Ops.{_⊕_, _⊗_, _⊘_, lit, nought}
 use Rattle.floats.specs.Library.{toRadians}
@@ -33,6 +33,11 @@ pub record Disk : Type 0 where
   pub vals : Row
   pub angles : Row
   pub weights : Row
+
+-- the disk of five slices; the first says how many pixels there are
+abbrev pub diskOf : Float → Row → Row → Row → Row → Row → Disk
+diskOf energy xs ys vals angles weights =
+    record { n = length xs; energy = energy; xs = xs; ys = ys; vals = vals; angles = angles; weights = weights }
 
 -- ---- build_axis_rows
 -- d = -s * x + c * y, and then (d / width).tanh()

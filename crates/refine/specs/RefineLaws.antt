@@ -22,7 +22,6 @@ use Rattle.remainders.specs.RemainderLaws.{same-val}
 use Rattle.candidates.specs.Candidates.{combineEdgePair}
 use Rattle.edges.specs.Edges.{edgeWeightTotal, refinedSum}
 use Rattle.loops.specs.Loops.{iter}
-use Rattle.loops.specs.IterLaws.{iter-keeps}
 use Rattle.loops.specs.TabLaws.{tab-length, part-kept, part-same}
 use Rattle.score.specs.Score.{scorePairCached, fitIsBetter}
 use Rattle.score.specs.ScoreLaws.{scored-width}
@@ -30,11 +29,7 @@ use Rattle.score.specs.declared.Fit.{Fit}
 use Rattle.score.specs.declared.Scored.{Scored}
 use Rattle.score.specs.declared.Scored.the-variants.{Found, Nothing}
 use Rattle.refine.specs.declared.Refined.{Refined}
-use Rattle.refine.specs.Refine.{Row, at, Disk, axisRow, stepOf, offsetsBy, isCentre, judged, neighbour, scored, tried, around, refineFit}
-
-abbrev pub diskOf : Float → Row → Row → Row → Row → Row → Disk
-diskOf energy xs ys vals angles weights =
-    record { n = length xs; energy = energy; xs = xs; ys = ys; vals = vals; angles = angles; weights = weights }
+use Rattle.refine.specs.Refine.{Row, at, Disk, diskOf, axisRow, stepOf, offsetsBy, isCentre, judged, neighbour, scored, tried, around, refineFit}
 
 -- at most 320 pixels, all slices as long as the first, and a row of scratch
 pub record Sized (xs ys angles weights terms : Row) : Type 0 where
@@ -298,31 +293,6 @@ judged-keeps P (Found f) s h p = by (fitIsBetter f (s .best))
     by : (t : Bool) → P (cond t f (s .best))
     by true = h f refl
     by false = p
-
-module _ (P : Fit → Type 0) (D : Disk) (h : (theta0 theta1 width edge : Float) (h0 h1 : Row) (f : Fit) → scorePairCached (D .n) (D .energy) (D .vals) theta0 theta1 width edge h0 h1 ≡ Found f → P f) where
-  abbrev Best : Refined → Type 0
-  Best s = P (s .best)
-
-  tried-keeps : (total : Float) (offs : Row) (i0 i1 : ℕ) (s : Refined) → Best s → Best (tried D total offs i0 i1 s)
-  unfolding tried scored neighbour
-  tried-keeps total offs i0 i1 s p = by (isCentre (at offs i0) (at offs i1))
-    where
-      by : (t : Bool) → Best (cond t s (scored D total offs i0 i1 s))
-      by true = p
-      by false = judged-keeps P (neighbour D total offs (s .best) i0 i1) s (λ f e. h _ _ _ _ _ _ f e) p
-
-  around-keeps : (total : Float) (offs : Row) (s : Refined) → Best s → Best (around D total offs s)
-  unfolding around
-  around-keeps total offs s p =
-      iter-keeps Best (λ i0 s. iter (tried D total offs i0) s 3) s 3 p
-      (λ i0 s p. iter-keeps Best (tried D total offs i0) s 3 p (λ i1 s. tried-keeps total offs i0 i1 s))
-
-pub refined-keeps : (P : Fit → Type 0) (D : Disk) (seed : Fit) → ((theta0 theta1 width edge : Float) (h0 h1 : Row) (f : Fit) → scorePairCached (D .n) (D .energy) (D .vals) theta0 theta1 width edge h0 h1 ≡ Found f → P f) → P seed → P ((refineFit D seed) .best)
-unfolding refineFit
-refined-keeps P D seed h p =
-    let total = edgeWeightTotal (D .n) (D .weights) in
-    iter-keeps (Best P D h) (λ k s. around D total (offsetsBy (stepOf k)) s) (record { best = seed; trials = 0 }) 3 p
-    (λ k s. around-keeps P D h total (offsetsBy (stepOf k)) s)
 
 -- ---- the best keeps its width
 best-width : (D : Disk) (total : Float) (offs : Row) (i0 i1 : ℕ) (s : Refined) → (scored D total offs i0 i1 s) .best .width ≡ s .best .width

@@ -10,7 +10,8 @@ ghost use lib.ListN.{length};
 ghost use lib.Ieee.{lt};
 ghost use Rattle.floats.specs.Ops.{nought};
 ghost use Rattle.refine.specs.Refine as R;
-ghost use Rattle.refine.specs.RefineLaws.{diskOf, Sized, Room, Rows, Stands, Filled, Kept, Holds, heldOf};
+ghost use Rattle.refine.specs.Refine.{diskOf};
+ghost use Rattle.refine.specs.RefineLaws.{Sized, Room, Rows, Stands, Filled, Kept, Holds, heldOf};
 
 // The best so far, and how many neighbours were scored.
 pub struct Refined {

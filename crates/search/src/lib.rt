@@ -9,7 +9,8 @@ use score::Scored;
 ghost use mathlib.Core.Path.{_≡_};
 ghost use Prim.Native.Nat.{_+_, _*_, _≤_, _<_};
 ghost use lib.ListN.{length, take, drop};
-ghost use Rattle.refine.specs.RefineLaws.{diskOf, Sized, Room};
+ghost use Rattle.refine.specs.Refine.{diskOf};
+ghost use Rattle.refine.specs.RefineLaws.{Sized, Room};
 ghost use Rattle.search.specs.Search as S;
 ghost use Rattle.search.specs.SearchLaws.{Cached, Keeps, Listed, cachedScore};
 

@@ -1,5 +1,6 @@
 -- Three steps of the search, from empty slots; the weights are as many as the pixels, and the number of trials is a law of the definition. Assumes nothing.
-use Rattle.refine.specs.RefineLaws.{diskOf, Sized, Holds, kept-none, refined-is, trials-are}
+use Rattle.refine.specs.Refine.{diskOf}
+use Rattle.refine.specs.RefineLaws.{Sized, Holds, kept-none, refined-is, trials-are}
 use Rattle.refine.specs.Refine.{around, offsetsBy, stepOf}
 use Rattle.refine.specs.declared.Refined.{Refined}
 use Rattle.loops.specs.IterLaws.{iter-zero, iter-more}

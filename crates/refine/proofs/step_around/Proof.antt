@@ -1,5 +1,6 @@
 -- Two nested loops, each the definition's own; the slots keep what their keys say. Assumes nothing.
-use Rattle.refine.specs.RefineLaws.{diskOf, Sized, Holds, tried-centre, tried-other}
+use Rattle.refine.specs.Refine.{diskOf}
+use Rattle.refine.specs.RefineLaws.{Sized, Holds, tried-centre, tried-other}
 use Rattle.refine.specs.Refine.{tried, around}
 use Rattle.loops.specs.IterLaws.{iter-zero, iter-more}
 use Rattle.loops.specs.Loops.{iter}

@@ -1,5 +1,6 @@
 -- Both rows stand in their slots by then, so that the held score is the neighbour's; its width is the best's own, so that the slots stay right. Assumes nothing.
-use Rattle.refine.specs.RefineLaws.{diskOf, scored-held, holds-on, one-more}
+use Rattle.refine.specs.Refine.{diskOf}
+use Rattle.refine.specs.RefineLaws.{scored-held, holds-on, one-more}
 use native.Mathlib.Omega.{arith}
 use mathlib.Core.Path.{_∙_}
 use borrow.Author.Needs.{needs}
