@@ -42,7 +42,7 @@ pub struct Tops {
 pub struct PairScore {
     pub i: u16,
     pub j: u16,
-    pub edge: f32,
+    pub edge_score: f32,
     pub forced: bool,
 }
 
@@ -401,7 +401,7 @@ fn no_pairs() -> Pool
     let p = PairScore {
         i: 0,
         j: 0,
-        edge: 0.0,
+        edge_score: 0.0,
         forced: false,
     };
     let pairs = [p; 276];
@@ -428,12 +428,12 @@ fn pair_score(
     requires { ⌜ (i < length (now edges)) × (j < length (now edges)) × (i < 65536) × (j < 65536) ⌝ }
     ensures { λ r. ⌜ r ≡ C.pairScore (now (edges .entry)) total seed hist i j ⌝ }
 {
-    let edge = combine_edge_pair(edges[i], edges[j], total);
+    let edge_score = combine_edge_pair(edges[i], edges[j], total);
     let forced = is_forced(seed, hist, i, j);
     PairScore {
         i: i as u16,
         j: j as u16,
-        edge,
+        edge_score,
         forced,
     }
 }

@@ -1,15 +1,15 @@
 // The checked entries: what a caller gets who may hand over anything. Wrong lengths and values that
 // are not finite are refused by number and place; everything else is fitted.
-use ring_fit::RingFit;
+use robust::RingFit;
 use score::Fit;
 use search::DiskFit;
-use solve::Errors;
 use solver::TwoAxisFit;
+use solver_elimination::Errors;
 ghost use mathlib.Core.Path.{_≡_};
 ghost use Prim.Native.Nat.{_<_, _≤_};
 ghost use lib.ListN.{length};
-ghost use Rattle.ring_fit.specs.Robust.{fitRing};
-ghost use Rattle.refine.specs.Refine.{diskOf};
+ghost use Rattle.robust.specs.Robust.{fitRing};
+ghost use Rattle.search_refine.specs.Refine.{diskOf};
 ghost use Rattle.checked.specs.Checked as C;
 ghost use Rattle.checked.specs.CheckedLaws.{Below};
 
@@ -42,8 +42,8 @@ pub fn first_wild(xs: &[f32]) -> Wild
 pub fn errors_known(f: TwoAxisFit) -> bool
     ensures { λ r. ⌜ r ≡ C.errorsKnown f ⌝ }
 {
-    if f.error1 == floats::PI {
-        if f.error2 == floats::PI {
+    if f.fit_std_error_theta1 == floats::PI {
+        if f.fit_std_error_theta2 == floats::PI {
             return false;
         }
     }
@@ -62,7 +62,7 @@ fn fit_16(samples: &[f32], angles: &[f32]) -> RingFit
     let mut d1s = [0.0f32; 16];
     let mut d2s = [0.0f32; 16];
     let mut h = [0.0f32; 552];
-    ring_fit::fit_samples(
+    robust::fit_samples(
         samples,
         angles,
         &mut ss,
@@ -122,8 +122,8 @@ pub fn fit_ring(samples: &[f32], angles: &[f32]) -> RingAnswer
 // A disk's fit with the errors of its axes, and the number of trials.
 pub struct Measured {
     pub fit: Fit,
-    pub error1: f32,
-    pub error2: f32,
+    pub fit_std_error_theta1: f32,
+    pub fit_std_error_theta2: f32,
     pub trials: usize,
 }
 
@@ -194,8 +194,8 @@ fn with_errors(xs: &[f32], ys: &[f32], vals: &[f32], f: Fit, trials: usize) -> D
     let known = both_known(e);
     let m = Measured {
         fit: f,
-        error1: e.error1,
-        error2: e.error2,
+        fit_std_error_theta1: e.error1,
+        fit_std_error_theta2: e.error2,
         trials,
     };
     DiskAnswer::Fitted(m, known)

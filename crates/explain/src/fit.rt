@@ -3,20 +3,20 @@
 use crate::warn::Flags;
 use crate::warn::Reading;
 use crate::warn::Shape;
-use words::fit::labelled;
-use words::fit::warned;
+use explain_words::fit::labelled;
+use explain_words::fit::warned;
 
 // What a ring's answer and a disk's have both.
 fn common(text: &mut [u8], at: usize, r: Reading) -> usize {
-    let p = words::fit::axes(text, at, r.theta1, r.theta2);
-    let p = words::fit::errors(text, p, r.known, r.error1, r.error2);
+    let p = explain_words::fit::axes(text, at, r.theta1, r.theta2);
+    let p = explain_words::fit::errors(text, p, r.known, r.error1, r.error2);
     let p = labelled(text, p, b"  amplitude   ", r.amp);
-    words::fit::residual(text, p, r.rms, r.amp)
+    explain_words::fit::residual(text, p, r.rms, r.amp)
 }
 
 pub fn ring(text: &mut [u8], at: usize, r: Reading) -> usize {
     let p = common(text, at, r);
-    words::fit::starts(text, p, r.starts, r.first, r.second)
+    explain_words::fit::starts(text, p, r.starts, r.first, r.second)
 }
 
 pub fn disk(text: &mut [u8], at: usize, r: Reading, s: Shape) -> usize {
@@ -26,7 +26,7 @@ pub fn disk(text: &mut [u8], at: usize, r: Reading, s: Shape) -> usize {
     let p = labelled(text, p, b"  correlation ", r.corr);
     let p = labelled(text, p, b"  edge score  ", s.edge);
     let p = labelled(text, p, b"  objective   ", s.objective);
-    words::fit::trials(text, p, s.trials)
+    explain_words::fit::trials(text, p, s.trials)
 }
 
 fn residual_warnings(text: &mut [u8], at: usize, w: Flags) -> usize {

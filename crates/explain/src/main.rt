@@ -4,14 +4,14 @@
 // Proved as equations with specs/Explain.antt are the words that an answer's line has, and which
 // warnings they call for (`warn`). The writing of the text is proved safe and ending, no more, and so
 // is the loop here.
+use explain_sentences::bad::Fault;
+use explain_sentences::refusal::Before;
+use explain_words::count;
 use lines::Feed;
 use lines::Found;
-use sentences::bad::Fault;
-use sentences::refusal::Before;
 use sort::Sort;
 use warn::Reading;
 use warn::Shape;
-use words::count;
 
 mod fit;
 mod sort;
@@ -49,14 +49,14 @@ fn ring_told(text: &mut [u8], at: usize, line: u64, r: Reading, b: Before) -> us
     let p = count(text, at, b"line #: ring fit\n", line, 0);
     let p = fit::ring(text, p, r);
     let p = fit::warnings(text, p, warn::warnings(r));
-    sentences::refusal::mismatch(text, p, b, 129)
+    explain_sentences::refusal::mismatch(text, p, b, 129)
 }
 
 fn disk_told(text: &mut [u8], at: usize, line: u64, r: Reading, s: Shape, b: Before) -> usize {
     let p = count(text, at, b"line #: disk fit\n", line, 0);
     let p = fit::disk(text, p, r, s);
     let p = fit::warnings(text, p, warn::warnings(r));
-    sentences::refusal::mismatch(text, p, b, 130)
+    explain_sentences::refusal::mismatch(text, p, b, 130)
 }
 
 fn answered(put: usize) -> Said {
@@ -75,14 +75,14 @@ fn framed(
     b: Before,
     next: Before,
 ) -> Said {
-    words::say(held, 0, line);
+    explain_words::say(held, 0, line);
     let put = unanswered(text, at, b);
     Said { put, before: next }
 }
 
 fn bad_told(line: &[u8], text: &mut [u8], at: usize, b: Before, k: u64, fault: Fault) -> Said {
     let p = unanswered(text, at, b);
-    let put = sentences::bad::told(text, p, k, line, fault);
+    let put = explain_sentences::bad::told(text, p, k, line, fault);
     Said {
         put,
         before: Before::Bad(k),
@@ -105,7 +105,7 @@ fn explained(
         Sort::Disk(n) => framed(line, held, text, at, b, Before::Disk(k, n)),
         Sort::RingFit(r) => answered(ring_told(text, at, k, r, b)),
         Sort::DiskFit(r, s) => answered(disk_told(text, at, k, r, s, b)),
-        Sort::Refused(a) => answered(sentences::refusal::told(text, at, k, a, b, held)),
+        Sort::Refused(a) => answered(explain_sentences::refusal::told(text, at, k, a, b, held)),
         Sort::Bad(fault) => bad_told(line, text, at, b, k, fault),
     }
 }

@@ -2,8 +2,8 @@
 use crate::warn;
 use crate::warn::Reading;
 use crate::warn::Shape;
-use sentences::bad::Fault;
-use sentences::refusal::Refusal;
+use explain_sentences::bad::Fault;
+use explain_sentences::refusal::Refusal;
 ghost use Prim.Native.Nat.{_≤_};
 ghost use lib.ListN.{length};
 

@@ -12,15 +12,15 @@ use Rattle.floats.specs.Library.{negative, before, abs, max, min, remEuclid, sq
 use Rattle.loops.specs.Loops.{iter, range, tab}
 use Rattle.elementary.specs.Elementary.{whole, sinRest, cosRest, quadrant, sinCosNear, turn, sinCos}
 use Rattle.geometry.specs.Geometry.{signedLineDelta, lineDelta, lineSeparation, validPair}
-use Rattle.axes.specs.Canonical.{wrapToTau, arc, placed, settled, canonicalizeTrackingSwap}
-use Rattle.axes.specs.declared.Axes.{Axes}
-use Rattle.solve.specs.Solve.{Matrix, Row, augmented, larger, pivotRow, unusable, reduced, cleared, clear, topRow, columned, stopped, solve4x4, axisError, bothErrors, axisStdErrors}
-use Rattle.solve.specs.declared.Solved.{Solved}
-use Rattle.solve.specs.declared.Solved.the-variants.{Values, Failed}
-use Rattle.solve.specs.declared.Errors.{Errors}
+use Rattle.solver_axes.specs.Canonical.{wrapToTau, arc, placed, settled, canonicalizeTrackingSwap}
+use Rattle.solver_axes.specs.declared.Axes.{Axes}
+use Rattle.solver_elimination.specs.Solve.{Matrix, Row, augmented, larger, pivotRow, unusable, reduced, cleared, clear, topRow, columned, stopped, solve4x4, axisError, bothErrors, axisStdErrors}
+use Rattle.solver_elimination.specs.declared.Solved.{Solved}
+use Rattle.solver_elimination.specs.declared.Solved.the-variants.{Values, Failed}
+use Rattle.solver_elimination.specs.declared.Errors.{Errors}
 use Rattle.solver.specs.Solver.{degenerateFit, degenerate, fitWithSeed}
 use Rattle.seed.specs.Seed.{wavedBy, waves, harmonic, secondHarmonic}
-use Rattle.ring_fit.specs.Robust.{total, deviations, fitIsSuspicious, fitRing, gridAngle}
+use Rattle.robust.specs.Robust.{total, deviations, fitIsSuspicious, fitRing, gridAngle}
 use Rattle.checked.specs.Checked.{wildFrom, firstWild, errorsKnown, ringFitted, anglesLooked, samplesLooked, checkedRing}
 use Rattle.candidates.specs.Candidates.{combineEdgePair}
 use Rattle.hex.specs.Hex.{isHex, allHex, byteOf, wordOf, valuesOf, byteText, countText, wordText, wordsText}

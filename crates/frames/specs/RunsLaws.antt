@@ -9,7 +9,7 @@ use lib.Ieee.{Float}
 use Rattle.loops.specs.Loops.{tab}
 use Rattle.loops.specs.TabLaws.{tab-length, tab-same}
 use Rattle.hex.specs.Hex.{valuesOf}
-use Rattle.refine.specs.Refine.{Disk, diskOf}
+use Rattle.search_refine.specs.Refine.{Disk, diskOf}
 use Rattle.frames.specs.Frames.{valueOf, diskOfLine}
 
 module _ {A : Type 0} where

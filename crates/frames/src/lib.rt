@@ -2,7 +2,7 @@
 use checked::DiskAnswer;
 use checked::Measured;
 use checked::RingAnswer;
-use ring_fit::RingFit;
+use robust::RingFit;
 ghost use mathlib.Core.Path.{_≡_};
 ghost use Prim.Native.Nat.{_+_, _*_, _≤_, _<_};
 ghost use lib.ListN.{length};
@@ -192,8 +192,8 @@ fn ring_words(r: RingFit, known: bool) -> [u32; 7]
     let a = floats::to_bits(f.amp);
     let b = floats::to_bits(f.theta1);
     let c = floats::to_bits(f.theta2);
-    let d = floats::to_bits(f.error1);
-    let e = floats::to_bits(f.error2);
+    let d = floats::to_bits(f.fit_std_error_theta1);
+    let e = floats::to_bits(f.fit_std_error_theta2);
     let g = floats::to_bits(f.rms);
     let w = counts_word(r, known);
     [a, b, c, d, e, g, w]
@@ -219,12 +219,12 @@ fn disk_words(m: Measured) -> [u32; 11]
     let c = floats::to_bits(f.width);
     let d = floats::to_bits(f.amp);
     let e = floats::to_bits(f.rms);
-    let g = floats::to_bits(f.rel);
+    let g = floats::to_bits(f.rel_rms);
     let h = floats::to_bits(f.corr);
-    let i = floats::to_bits(f.edge);
+    let i = floats::to_bits(f.edge_score);
     let j = floats::to_bits(f.objective);
-    let k = floats::to_bits(m.error1);
-    let l = floats::to_bits(m.error2);
+    let k = floats::to_bits(m.fit_std_error_theta1);
+    let l = floats::to_bits(m.fit_std_error_theta2);
     [a, b, c, d, e, g, h, i, j, k, l]
 }
 

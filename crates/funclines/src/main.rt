@@ -58,8 +58,8 @@ fn call(number: u32, w: &[u32], out: &mut [u32]) -> usize
 {
     match number / 16 {
         1 | 2 => library_line(number, w, out),
-        3 | 4 | 5 | 6 => ringlines::ring_line(number, w, out),
-        7 | 8 | 9 => disklines::disk_line(number, w, out),
+        3 | 4 | 5 | 6 => funclines_ring::ring_line(number, w, out),
+        7 | 8 | 9 => funclines_disk::disk_line(number, w, out),
         _ => 0,
     }
 }

@@ -6,7 +6,7 @@ use Prim.Native.Nat.{ℕ}
 use lib.ListN.{length}
 use lib.Dec.{ltb}
 use lib.Ieee.{Float}
-use Rattle.refine.specs.Refine.{Disk}
+use Rattle.search_refine.specs.Refine.{Disk}
 use Rattle.checked.specs.Checked.{checkedRing, checkedDisk}
 use Rattle.checked.specs.declared.DiskAnswer.{DiskAnswer}
 use Rattle.checked.specs.declared.DiskAnswer.the-variants as Disks

@@ -3,13 +3,13 @@
 use checked::DiskAnswer;
 use checked::Measured;
 use checked::RingAnswer;
-use ring_fit::RingFit;
+use robust::RingFit;
 use solver::TwoAxisFit;
 ghost use mathlib.Core.Path.{_≡_};
 ghost use Prim.Native.Nat.{_≤_};
 ghost use lib.ListN.{length};
 ghost use lib.Ieee.{binary32};
-ghost use Rattle.refine.specs.Refine.{diskOf};
+ghost use Rattle.search_refine.specs.Refine.{diskOf};
 ghost use Rattle.frames.specs.Frames as F;
 ghost use Rattle.jengubool.specs.Calls as J;
 ghost use Rattle.floats.specs.Library as L;
@@ -80,8 +80,8 @@ fn put_fit(f: TwoAxisFit, fit: &mut [f32])
     fit[0] = f.amp;
     fit[1] = f.theta1;
     fit[2] = f.theta2;
-    fit[3] = f.error1;
-    fit[4] = f.error2;
+    fit[3] = f.fit_std_error_theta1;
+    fit[4] = f.fit_std_error_theta2;
     fit[5] = f.rms;
 }
 
@@ -149,12 +149,12 @@ fn put_disk(m: Measured, fit: &mut [f32])
     fit[2] = f.width;
     fit[3] = f.amp;
     fit[4] = f.rms;
-    fit[5] = f.rel;
+    fit[5] = f.rel_rms;
     fit[6] = f.corr;
-    fit[7] = f.edge;
+    fit[7] = f.edge_score;
     fit[8] = f.objective;
-    fit[9] = m.error1;
-    fit[10] = m.error2;
+    fit[9] = m.fit_std_error_theta1;
+    fit[10] = m.fit_std_error_theta2;
 }
 
 fn put_trials(m: Measured, known: bool, counts: &mut [u32])

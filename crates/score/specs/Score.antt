@@ -11,11 +11,11 @@ use Rattle.floats.specs.Library.{abs, max, sqrt, narrow}
 use Rattle.elementary.specs.Elementary.{sinCos, tanh}
 use Rattle.elementary.specs.declared.SinCos.{SinCos}
 use Rattle.geometry.specs.Geometry.{validPair}
-use Rattle.axes.specs.Canonical.{canonicalizeTrackingSwap}
-use Rattle.solve.specs.Solve.{Matrix, axisStdErrors}
-use Rattle.solve.specs.declared.Errors.{Errors}
+use Rattle.solver_axes.specs.Canonical.{canonicalizeTrackingSwap}
+use Rattle.solver_elimination.specs.Solve.{Matrix, axisStdErrors}
+use Rattle.solver_elimination.specs.declared.Errors.{Errors}
 use Rattle.candidates.specs.declared.CandidateSet.{CandidateSet}
-use Rattle.edges.specs.Edges.{edgeWeightTotal, rankedSum}
+use Rattle.score_edges.specs.Edges.{edgeWeightTotal, rankedSum}
 use Rattle.loops.specs.Loops.{iter}
 use Rattle.score.specs.declared.Fit.{Fit}
 use Rattle.score.specs.declared.Scored.{Scored}
@@ -51,12 +51,12 @@ pairSums n vals h0 h1 = iter (summed vals h0 h1) zeros n
 
 -- nInv is one over the number of pixels
 unfoldable pub fitOf : Float → Float → Float → Float → Float → Float → Float → Float → Fit
-fitOf energy nInv dot denom theta0 theta1 width edge =
+fitOf energy nInv dot denom theta0 theta1 width edge_score =
     let amp = dot ⊘ denom in
     let ssr = max (energy ⊖ dot ⊗ dot ⊘ denom) nought in
     let rms = sqrt binary32 (ssr ⊗ nInv) in
     let corr = abs dot ⊘ sqrt binary32 (denom ⊗ energy) in
-    let rel = rms ⊘ max (abs amp) one in
+    let rel_rms = rms ⊘ max (abs amp) one in
     let a = canonicalizeTrackingSwap theta0 theta1 amp in
     record {
       theta1 = a .theta1;
@@ -64,22 +64,22 @@ fitOf energy nInv dot denom theta0 theta1 width edge =
       width = width;
       amp = a .amp;
       rms = rms;
-      rel = rel;
+      rel_rms = rel_rms;
       corr = corr;
-      edge = edge;
-      objective = rel ⊖ lit 0x3fa0_0000 ⊗ edge;
+      edge_score = edge_score;
+      objective = rel_rms ⊖ lit 0x3fa0_0000 ⊗ edge_score;
     }
 
 unfoldable pub scoredSums : Float → Float → Sums → Float → Float → Float → Float → Scored
-scoredSums energy nInv s theta0 theta1 width edge =
+scoredSums energy nInv s theta0 theta1 width edge_score =
     let denom = s .q2 ⊖ s .q ⊗ s .q ⊗ nInv in
-    cond (le denom margin) Nothing (Found (fitOf energy nInv (s .dot) denom theta0 theta1 width edge))
+    cond (le denom margin) Nothing (Found (fitOf energy nInv (s .dot) denom theta0 theta1 width edge_score))
 
 -- a pair that is not allowed, and a disk without energy, answer nothing
 unfoldable pub scorePairCached : ℕ → Float → Row → Float → Float → Float → Float → Row → Row → Scored
-scorePairCached n energy vals theta0 theta1 width edge h0 h1 =
+scorePairCached n energy vals theta0 theta1 width edge_score h0 h1 =
     cond (validPair theta0 theta1)
-    (cond (le energy margin) Nothing (scoredSums energy (one ⊘ count n) (pairSums n vals h0 h1) theta0 theta1 width edge))
+    (cond (le energy margin) Nothing (scoredSums energy (one ⊘ count n) (pairSums n vals h0 h1) theta0 theta1 width edge_score))
     Nothing
 
 -- ---- precompute_edge_alignments: a disk without weight leaves the sums as they are, and its total counts as 0
@@ -101,8 +101,8 @@ higher a b next = cond (lt (b ⊕ margin) a) true (cond (lt margin (abs (a ⊖ b
 unfoldable pub fitIsBetter : Fit → Fit → Bool
 fitIsBetter a b =
     lower (a .objective) (b .objective)
-    (lower (a .rel) (b .rel)
-    (higher (a .edge) (b .edge)
+    (lower (a .rel_rms) (b .rel_rms)
+    (higher (a .edge_score) (b .edge_score)
     (lower (a .width) (b .width)
     (lower (a .theta1) (b .theta1) (lt (a .theta2) (b .theta2))))))
 

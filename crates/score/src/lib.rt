@@ -1,12 +1,12 @@
 // The score of a pair of axes, the order of fits and the errors of a fit: disk_sector/score.rs.
 use candidates::CandidateSet;
 use elementary::SinCos;
-use solve::Errors;
-use solve::Solved;
+use solver_elimination::Errors;
+use solver_elimination::Solved;
 ghost use mathlib.Core.Path.{_≡_};
 ghost use Prim.Native.Nat.{_≤_};
 ghost use lib.ListN.{length};
-ghost use Rattle.solve.specs.Solve as E;
+ghost use Rattle.solver_elimination.specs.Solve as E;
 ghost use Rattle.score.specs.Score as S;
 
 // What a pair of axes at one width is worth.
@@ -16,9 +16,9 @@ pub struct Fit {
     pub width: f32,
     pub amp: f32,
     pub rms: f32,
-    pub rel: f32,
+    pub rel_rms: f32,
     pub corr: f32,
-    pub edge: f32,
+    pub edge_score: f32,
     pub objective: f32,
 }
 
@@ -86,26 +86,26 @@ fn fit_of(
     theta0: f32,
     theta1: f32,
     width: f32,
-    edge: f32,
+    edge_score: f32,
 ) -> Fit
-    ensures { λ r. ⌜ r ≡ S.fitOf energy ninv dot denom theta0 theta1 width edge ⌝ }
+    ensures { λ r. ⌜ r ≡ S.fitOf energy ninv dot denom theta0 theta1 width edge_score ⌝ }
 {
     let amp = dot / denom;
     let ssr = floats::max(energy - dot * dot / denom, 0.0);
     let rms = roots::sqrt(ssr * ninv);
     let corr = floats::abs(dot) / roots::sqrt(denom * energy);
-    let rel = rms / floats::max(floats::abs(amp), 1.0);
-    let a = axes::canonicalize_tracking_swap(theta0, theta1, amp);
+    let rel_rms = rms / floats::max(floats::abs(amp), 1.0);
+    let a = solver_axes::canonicalize_tracking_swap(theta0, theta1, amp);
     Fit {
         theta1: a.theta1,
         theta2: a.theta2,
         width,
         amp: a.amp,
         rms,
-        rel,
+        rel_rms,
         corr,
-        edge,
-        objective: rel - 1.25 * edge,
+        edge_score,
+        objective: rel_rms - 1.25 * edge_score,
     }
 }
 
@@ -116,15 +116,24 @@ fn scored_sums(
     theta0: f32,
     theta1: f32,
     width: f32,
-    edge: f32,
+    edge_score: f32,
 ) -> Scored
-    ensures { λ r. ⌜ r ≡ S.scoredSums energy ninv s theta0 theta1 width edge ⌝ }
+    ensures { λ r. ⌜ r ≡ S.scoredSums energy ninv s theta0 theta1 width edge_score ⌝ }
 {
     let denom = s.q2 - s.q * s.q * ninv;
     if denom <= 1e-9 {
         return Scored::Nothing;
     }
-    Scored::Found(fit_of(energy, ninv, s.dot, denom, theta0, theta1, width, edge))
+    Scored::Found(fit_of(
+        energy,
+        ninv,
+        s.dot,
+        denom,
+        theta0,
+        theta1,
+        width,
+        edge_score,
+    ))
 }
 
 // The score of two axes from their rows of tanh.
@@ -134,12 +143,12 @@ pub fn score_pair_cached(
     theta0: f32,
     theta1: f32,
     width: f32,
-    edge: f32,
+    edge_score: f32,
     h0: &[f32],
     h1: &[f32],
 ) -> Scored
     requires { ⌜ (length (now h0) ≡ length (now vals)) × (length (now h1) ≡ length (now vals)) × (length (now vals) ≤ 320) ⌝ }
-    ensures { λ r. ⌜ r ≡ S.scorePairCached (length (now (vals .entry))) energy (now (vals .entry)) theta0 theta1 width edge (now (h0 .entry)) (now (h1 .entry)) ⌝ }
+    ensures { λ r. ⌜ r ≡ S.scorePairCached (length (now (vals .entry))) energy (now (vals .entry)) theta0 theta1 width edge_score (now (h0 .entry)) (now (h1 .entry)) ⌝ }
 {
     if geometry::valid_pair(theta0, theta1) {} else {
         return Scored::Nothing;
@@ -149,7 +158,7 @@ pub fn score_pair_cached(
     }
     let s = pair_sums(vals, h0, h1);
     let ninv = 1.0 / floats::count_f32(vals.len());
-    scored_sums(energy, ninv, s, theta0, theta1, width, edge)
+    scored_sums(energy, ninv, s, theta0, theta1, width, edge_score)
 }
 
 // The candidates' edge sums into `out`, and the weights' total; `terms` is lent as scratch.
@@ -163,13 +172,13 @@ pub fn precompute_edge_alignments(
     requires { ⌜ (length (now weights) ≡ length (now angles)) × (length (now terms) ≡ length (now angles)) × (set .n ≤ length (now out)) × (length (now out) ≤ 64) ⌝ }
     ensures { λ r. ⌜ (r ≡ S.alignedTotal (length (now (angles .entry))) (now (weights .entry))) × (now (out .exit) ≡ S.alignedSums (length (now (angles .entry))) (now (angles .entry)) (now (weights .entry)) set (now (out .entry))) ⌝ }
 {
-    let total = edges::edge_weight_total(weights);
+    let total = score_edges::edge_weight_total(weights);
     if total <= 1e-9 {
         return 0.0;
     }
     let n = set.n;
     for c in 0..n {
-        out[c] = edges::ranked_sum(angles, weights, set.angles[c], terms);
+        out[c] = score_edges::ranked_sum(angles, weights, set.angles[c], terms);
     }
     total
 }
@@ -205,8 +214,8 @@ pub fn fit_is_better(a: Fit, b: Fit) -> bool
 {
     let t = lower(a.theta1, b.theta1, a.theta2 < b.theta2);
     let w = lower(a.width, b.width, t);
-    let e = higher(a.edge, b.edge, w);
-    let r = lower(a.rel, b.rel, e);
+    let e = higher(a.edge_score, b.edge_score, w);
+    let r = lower(a.rel_rms, b.rel_rms, e);
     lower(a.objective, b.objective, r)
 }
 
@@ -331,11 +340,11 @@ fn both_errors(jtj: &[[f32; 4]; 4], v: f32) -> Errors
     ensures { λ r. ⌜ r ≡ E.bothErrors v (E.solve4x4 (now (jtj .entry)) E.unit2) (E.solve4x4 (now (jtj .entry)) E.unit3) ⌝ }
 {
     let e2 = [0.0f32, 0.0, 1.0, 0.0];
-    let Solved::Values(_, _, c2, _) = solve::solve_4x4(jtj, &e2) else {
+    let Solved::Values(_, _, c2, _) = solver_elimination::solve_4x4(jtj, &e2) else {
         return unknown();
     };
     let e3 = [0.0f32, 0.0, 0.0, 1.0];
-    let Solved::Values(_, _, _, c3) = solve::solve_4x4(jtj, &e3) else {
+    let Solved::Values(_, _, _, c3) = solver_elimination::solve_4x4(jtj, &e3) else {
         return unknown();
     };
     let error1 = axis_error(v, c2);

@@ -13,7 +13,7 @@ use Rattle.geometry.specs.Geometry.{wrapPi}
 use Rattle.loops.specs.IterLaws.{iter-keeps}
 use Rattle.candidates.specs.Candidates.{Row, at, newSet, isNear, appended, pushUnique, Picking, bestBin, binAngle, tooLow, degrees4, degree1, picked, left, pick, unpicked, peaks, greatest, histogramPeaks, around, coarse, histogramCandidates}
 use Rattle.candidates.specs.declared.CandidateSet.{CandidateSet}
-use Rattle.refine.specs.Refine.{Disk}
+use Rattle.search_refine.specs.Refine.{Disk}
 use Rattle.search.specs.Search.{candidatesOf}
 
 wrapped-fits : (x : Float) → T (fits binary32 x) → T (fits binary32 (wrapPi x))

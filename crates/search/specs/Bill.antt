@@ -8,10 +8,10 @@ use lib.Ieee.{Float}
 use Rattle.candidates.specs.declared.PairScore.{PairScore}
 use Rattle.candidates.specs.declared.Pool.{Pool}
 use Rattle.loops.specs.Loops.{iter}
-use Rattle.ranking.specs.Ranking.{blank, ranked}
+use Rattle.search_ranking.specs.Ranking.{blank, ranked}
 use Rattle.score.specs.declared.Scored.{Scored}
 use Rattle.score.specs.declared.Scored.the-variants.{Found, Nothing}
-use Rattle.refine.specs.Refine.{Disk}
+use Rattle.search_refine.specs.Refine.{Disk}
 use Rattle.search.specs.declared.Leaders.{Leaders}
 use Rattle.search.specs.declared.DiskFit.{DiskFit}
 use Rattle.search.specs.declared.DiskFit.the-variants.{Best, Missing}

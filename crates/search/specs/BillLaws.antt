@@ -16,15 +16,15 @@ use Rattle.candidates.specs.declared.PairScore.{PairScore}
 use Rattle.candidates.specs.declared.Pool.{Pool}
 use Rattle.loops.specs.Loops.{iter}
 use Rattle.loops.specs.IterLaws.{range-start}
-use Rattle.ranking.specs.Ranking.{sorted, ranked}
-use Rattle.ranking.specs.RankingLaws.{sorted-length}
+use Rattle.search_ranking.specs.Ranking.{sorted, ranked}
+use Rattle.search_ranking.specs.RankingLaws.{sorted-length}
 use Rattle.score.specs.Score.{fitIsBetter}
 use Rattle.score.specs.declared.Fit.{Fit}
 use Rattle.score.specs.declared.Scored.{Scored}
 use Rattle.score.specs.declared.Scored.the-variants.{Found, Nothing}
-use Rattle.refine.specs.Refine.{Disk}
-use Rattle.refine.specs.RefineLaws.{trials-are}
-use Rattle.refine.specs.declared.Refined.{Refined}
+use Rattle.search_refine.specs.Refine.{Disk}
+use Rattle.search_refine.specs.RefineLaws.{trials-are}
+use Rattle.search_refine.specs.declared.Refined.{Refined}
 use Rattle.search.specs.declared.Top.{Top}
 use Rattle.search.specs.declared.Leaders.{Leaders}
 use Rattle.search.specs.declared.DiskFit.the-variants.{Best, Missing}

@@ -12,13 +12,13 @@ use Rattle.candidates.specs.declared.CandidateSet.{CandidateSet}
 use Rattle.candidates.specs.declared.PairScore.{PairScore}
 use Rattle.candidates.specs.declared.Pool.{Pool}
 use Rattle.loops.specs.Loops.{iter}
-use Rattle.ranking.specs.Ranking.{blank, ranked}
+use Rattle.search_ranking.specs.Ranking.{blank, ranked}
 use Rattle.score.specs.Score.{alignedTotal, alignedSums, scorePairCached, fitIsBetter}
 use Rattle.score.specs.declared.Fit.{Fit}
 use Rattle.score.specs.declared.Scored.{Scored}
 use Rattle.score.specs.declared.Scored.the-variants.{Found, Nothing}
-use Rattle.refine.specs.Refine.{Row, at, Disk, axisRow, refineFit}
-use Rattle.refine.specs.declared.Refined.{Refined}
+use Rattle.search_refine.specs.Refine.{Row, at, Disk, axisRow, refineFit}
+use Rattle.search_refine.specs.declared.Refined.{Refined}
 use Rattle.search.specs.declared.Top.{Top}
 use Rattle.search.specs.declared.Leaders.{Leaders}
 use Rattle.search.specs.declared.DiskFit.{DiskFit}
@@ -54,7 +54,7 @@ module _ (n : ℕ) (energy : Float) (xs ys vals : Row) (s : CandidateSet) where
   pairScored width p =
       let a0 = at (s .angles) (p .i) in
       let a1 = at (s .angles) (p .j) in
-      scorePairCached n energy vals a0 a1 width (p .edge) (axisRow n xs ys a0 width) (axisRow n xs ys a1 width)
+      scorePairCached n energy vals a0 a1 width (p .edge_score) (axisRow n xs ys a0 width) (axisRow n xs ys a1 width)
 
   -- the ranked pairs in their order, at one width
   unfoldable pub triedAt : List PairScore → Float → Leaders → Leaders

@@ -8,18 +8,18 @@ use lib.ListN.{length, getD}
 use lib.Dec.{T}
 use lib.Ieee.{Float, binary32, fits}
 use lib.Ieee.Fits.{add-fits}
-use Rattle.edges.specs.Edges.{edgeWeightTotal}
+use Rattle.score_edges.specs.Edges.{edgeWeightTotal}
 use Rattle.loops.specs.Loops.{iter}
 use Rattle.loops.specs.IterLaws.{iter-keeps}
-use Rattle.ranking.specs.Ranking.{blank}
-use Rattle.ranking.specs.WithinLaws.{iter-keeps-below}
+use Rattle.search_ranking.specs.Ranking.{blank}
+use Rattle.search_ranking.specs.WithinLaws.{iter-keeps-below}
 use Rattle.score.specs.Score.{scorePairCached, fitIsBetter}
 use Rattle.score.specs.ScoreLaws.{SoundFit, scored-sound, scored-width}
 use Rattle.score.specs.declared.Fit.{Fit}
 use Rattle.score.specs.declared.Scored.{Scored}
 use Rattle.score.specs.declared.Scored.the-variants.{Found, Nothing}
-use Rattle.refine.specs.Refine.{Row, at, Disk, offsetsBy, stepOf, isCentre, judged, neighbour, scored, tried, around, refineFit}
-use Rattle.refine.specs.declared.Refined.{Refined}
+use Rattle.search_refine.specs.Refine.{Row, at, Disk, offsetsBy, stepOf, isCentre, judged, neighbour, scored, tried, around, refineFit}
+use Rattle.search_refine.specs.declared.Refined.{Refined}
 use Rattle.search.specs.declared.Top.{Top}
 use Rattle.search.specs.declared.Leaders.{Leaders}
 use Rattle.search.specs.declared.DiskFit.{DiskFit}
@@ -132,7 +132,7 @@ module _ (P : Fit → Type 0) where
 
 -- what every score of two axes that f32 holds has, the answer has
 pub search-keeps : (D : Disk) (base0 base1 : Float) (P : Fit → Type 0) →
-    ((theta0 theta1 width edge : Float) (h0 h1 : Row) (f : Fit) → T (fits binary32 theta0) → T (fits binary32 theta1) → scorePairCached (D .n) (D .energy) (D .vals) theta0 theta1 width edge h0 h1 ≡ Found f → P f) →
+    ((theta0 theta1 width edge_score : Float) (h0 h1 : Row) (f : Fit) → T (fits binary32 theta0) → T (fits binary32 theta1) → scorePairCached (D .n) (D .energy) (D .vals) theta0 theta1 width edge_score h0 h1 ≡ Found f → P f) →
     (f : Fit) (t : ℕ) → bestDiskFit D base0 base1 ≡ Best f t → P f
 unfolding neighbour trial pairScored
 search-keeps D base0 base1 P each f t e =
@@ -142,7 +142,7 @@ search-keeps D base0 base1 P each f t e =
     f t e
 
 pub search-sound : (D : Disk) (base0 base1 : Float) (f : Fit) (t : ℕ) → bestDiskFit D base0 base1 ≡ Best f t → SoundFit f
-search-sound D base0 base1 f t e = search-keeps D base0 base1 SoundFit (λ theta0 theta1 width edge h0 h1 f p q e. scored-sound (D .n) (D .energy) (D .vals) theta0 theta1 width edge h0 h1 f p q e) f t e
+search-sound D base0 base1 f t e = search-keeps D base0 base1 SoundFit (λ theta0 theta1 width edge_score h0 h1 f p q e. scored-sound (D .n) (D .energy) (D .vals) theta0 theta1 width edge_score h0 h1 f p q e) f t e
 
 -- ---- the width
 -- the answer's width is one of the four

@@ -2,15 +2,15 @@
 use candidates::CandidateSet;
 use candidates::PairScore;
 use candidates::Pool;
-use ranking::Ranked;
-use refine::Refined;
 use score::Fit;
 use score::Scored;
+use search_ranking::Ranked;
+use search_refine::Refined;
 ghost use mathlib.Core.Path.{_≡_};
 ghost use Prim.Native.Nat.{_+_, _*_, _≤_, _<_};
 ghost use lib.ListN.{length, take, drop};
-ghost use Rattle.refine.specs.Refine.{diskOf};
-ghost use Rattle.refine.specs.RefineLaws.{Sized, Room};
+ghost use Rattle.search_refine.specs.Refine.{diskOf};
+ghost use Rattle.search_refine.specs.RefineLaws.{Sized, Room};
 ghost use Rattle.search.specs.Search as S;
 ghost use Rattle.search.specs.SearchLaws.{Cached, Keeps, Listed, cachedScore};
 
@@ -106,7 +106,7 @@ fn ensure_row(
     let n = xs.len();
     let b = c * 320;
     let e = b + n;
-    refine::axis_row(xs, ys, set.angles[c], width, &mut cache[b..e]);
+    search_refine::axis_row(xs, ys, set.angles[c], width, &mut cache[b..e]);
     filled[c] = true;
 }
 
@@ -117,13 +117,13 @@ fn score_cached(
     a0: f32,
     a1: f32,
     width: f32,
-    edge: f32,
+    edge_score: f32,
     cache: &[f32],
     i: usize,
     j: usize,
 ) -> Scored
     requires { ⌜ (i < 24) × (j < 24) × (length (now vals) ≤ 320) × (length (now cache) ≡ 7680) ⌝ }
-    ensures { λ r. ⌜ r ≡ cachedScore energy (now (vals .entry)) a0 a1 width edge (now (cache .entry)) i j ⌝ }
+    ensures { λ r. ⌜ r ≡ cachedScore energy (now (vals .entry)) a0 a1 width edge_score (now (cache .entry)) i j ⌝ }
 {
     let n = vals.len();
     let x = i * 320;
@@ -136,7 +136,7 @@ fn score_cached(
         a0,
         a1,
         width,
-        edge,
+        edge_score,
         &cache[x..xe],
         &cache[y..ye],
     )
@@ -164,7 +164,7 @@ fn try_pair(
     ensure_row(set, xs, ys, width, j, filled, cache);
     let a0 = set.angles[i];
     let a1 = set.angles[j];
-    let answer = score_cached(energy, vals, a0, a1, width, p.edge, cache, i, j);
+    let answer = score_cached(energy, vals, a0, a1, width, p.edge_score, cache, i, j);
     entered(l, answer)
 }
 
@@ -256,7 +256,7 @@ fn lead(
     let mut e1 = [0.0f32; 3];
     let mut r2 = [0.0f32; 960];
     let mut e2 = [0.0f32; 3];
-    let f = refine::refine_fit_cached(
+    let f = search_refine::refine_fit_cached(
         seed,
         energy,
         xs,
@@ -350,7 +350,7 @@ fn search_set(
     if pool.n == 0 {
         return DiskFit::Missing(0);
     }
-    let ranked = ranking::rank(pool);
+    let ranked = search_ranking::rank(pool);
     let l = try_all(energy, xs, ys, vals, set, ranked);
     led(l, energy, xs, ys, vals, angles, weights, terms)
 }

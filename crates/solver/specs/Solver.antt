@@ -12,12 +12,12 @@ use Rattle.floats.specs.Library.{abs, signum, max, sqrt}
 use Rattle.elementary.specs.Elementary.{sinCos, tanh}
 use Rattle.elementary.specs.declared.SinCos.{SinCos}
 use Rattle.loops.specs.Loops.{iter, tab}
-use Rattle.solve.specs.Solve.{Row, Matrix, at, solve4x4, axisStdErrors}
-use Rattle.solve.specs.declared.Solved.{Solved}
-use Rattle.solve.specs.declared.Solved.the-variants.{Values, Failed}
-use Rattle.solve.specs.declared.Errors.{Errors}
-use Rattle.axes.specs.Canonical.{canonicalizeTrackingSwap}
-use Rattle.axes.specs.declared.Axes.{Axes}
+use Rattle.solver_elimination.specs.Solve.{Row, Matrix, at, solve4x4, axisStdErrors}
+use Rattle.solver_elimination.specs.declared.Solved.{Solved}
+use Rattle.solver_elimination.specs.declared.Solved.the-variants.{Values, Failed}
+use Rattle.solver_elimination.specs.declared.Errors.{Errors}
+use Rattle.solver_axes.specs.Canonical.{canonicalizeTrackingSwap}
+use Rattle.solver_axes.specs.declared.Axes.{Axes}
 use Rattle.solver.specs.declared.Params.{Params}
 use Rattle.solver.specs.declared.Sample.{Sample}
 use Rattle.solver.specs.declared.TwoAxisFit.{TwoAxisFit}
@@ -131,7 +131,7 @@ module _ (n : ℕ) (vs ss cs : Row) where
 
 -- ---- solver.rs: degenerate_fit
 unfoldable pub degenerateFit : Float → TwoAxisFit
-degenerateFit var = record { amp = nought; theta1 = nought; theta2 = halfPi; error1 = pi; error2 = pi; rms = sqrt binary32 (max var nought) }
+degenerateFit var = record { amp = nought; theta1 = nought; theta2 = halfPi; fit_std_error_theta1 = pi; fit_std_error_theta2 = pi; rms = sqrt binary32 (max var nought) }
 
 -- solver.rs: fit_with_seed refuses such a start
 unfoldable pub degenerate : Float → Float → Bool
@@ -144,8 +144,8 @@ assembled a e rms =
       amp = a .amp;
       theta1 = a .theta1;
       theta2 = a .theta2;
-      error1 = cond (a .swapped) (e .error2) (e .error1);
-      error2 = cond (a .swapped) (e .error1) (e .error2);
+      fit_std_error_theta1 = cond (a .swapped) (e .error2) (e .error1);
+      fit_std_error_theta2 = cond (a .swapped) (e .error1) (e .error2);
       rms = rms;
     }
 

@@ -11,9 +11,9 @@ use Rattle.elementary.specs.declared.SinCos.{SinCos}
 use Rattle.loops.specs.Loops.{iter, tab}
 use Rattle.loops.specs.IterLaws.{iter-same}
 use Rattle.loops.specs.TabLaws.{tab-at, tab-length, tab-same}
-use Rattle.solve.specs.Solve.{Row, Matrix, at, solve4x4}
-use Rattle.solve.specs.declared.Solved.{Solved}
-use Rattle.solve.specs.declared.Solved.the-variants.{Values, Failed}
+use Rattle.solver_elimination.specs.Solve.{Row, Matrix, at, solve4x4}
+use Rattle.solver_elimination.specs.declared.Solved.{Solved}
+use Rattle.solver_elimination.specs.declared.Solved.the-variants.{Values, Failed}
 use Rattle.solver.specs.declared.Params.{Params}
 use Rattle.solver.specs.declared.Sample.{Sample}
 use Rattle.solver.specs.declared.TwoAxisFit.{TwoAxisFit}

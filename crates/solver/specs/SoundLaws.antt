@@ -8,14 +8,14 @@ use lib.Ieee.{Float, binary32, lt, le, eq, fits, isNan, ofBits}
 use lib.Ieee.Fits.{add-fits}
 use Rattle.floats.specs.Ops.{nought, pi, tau}
 use Rattle.floats.specs.RootRangeLaws.{pi-between}
-use Rattle.solve.specs.Solve.{Row, Matrix, solve4x4, axisStdErrors}
-use Rattle.solve.specs.SolveLaws.{Bounded, errors-bounded}
-use Rattle.solve.specs.declared.Solved.{Solved}
-use Rattle.solve.specs.declared.Solved.the-variants.{Values, Failed}
-use Rattle.solve.specs.declared.Errors.{Errors}
-use Rattle.axes.specs.Canonical.{canonicalizeTrackingSwap}
-use Rattle.axes.specs.CanonicalLaws.{InRange, canonical-range, canonical-amp}
-use Rattle.axes.specs.declared.Axes.{Axes}
+use Rattle.solver_elimination.specs.Solve.{Row, Matrix, solve4x4, axisStdErrors}
+use Rattle.solver_elimination.specs.SolveLaws.{Bounded, errors-bounded}
+use Rattle.solver_elimination.specs.declared.Solved.{Solved}
+use Rattle.solver_elimination.specs.declared.Solved.the-variants.{Values, Failed}
+use Rattle.solver_elimination.specs.declared.Errors.{Errors}
+use Rattle.solver_axes.specs.Canonical.{canonicalizeTrackingSwap}
+use Rattle.solver_axes.specs.CanonicalLaws.{InRange, canonical-range, canonical-amp}
+use Rattle.solver_axes.specs.declared.Axes.{Axes}
 use Rattle.solver.specs.declared.Params.{Params}
 use Rattle.solver.specs.declared.TwoAxisFit.{TwoAxisFit}
 use Rattle.solver.specs.declared.Started.{Started}
@@ -74,17 +74,17 @@ pub record Sound (f : TwoAxisFit) : Type 0 where
   pub first : T (lt (f .theta1) pi)
   pub order : T (le (f .theta1) (f .theta2))
   pub second : T (lt (f .theta2) tau)
-  pub low1 : T (le nought (f .error1))
-  pub high1 : T (le (f .error1) pi)
-  pub low2 : T (le nought (f .error2))
-  pub high2 : T (le (f .error2) pi)
+  pub low1 : T (le nought (f .fit_std_error_theta1))
+  pub high1 : T (le (f .fit_std_error_theta1) pi)
+  pub low2 : T (le nought (f .fit_std_error_theta2))
+  pub high2 : T (le (f .fit_std_error_theta2) pi)
   pub size : T (isNan (f .amp) || le nought (f .amp))
 
 assembled-sound : (a : Axes) (e : Errors) (rms : Float) → InRange a → T (isNan (a .amp) || le nought (a .amp)) → Bounded e → Sound (assembled a e rms)
 unfolding assembled
 assembled-sound a e rms r s b = go (a .swapped)
   where
-    go : (w : Bool) → Sound (record { amp = a .amp; theta1 = a .theta1; theta2 = a .theta2; error1 = cond w (e .error2) (e .error1); error2 = cond w (e .error1) (e .error2); rms = rms })
+    go : (w : Bool) → Sound (record { amp = a .amp; theta1 = a .theta1; theta2 = a .theta2; fit_std_error_theta1 = cond w (e .error2) (e .error1); fit_std_error_theta2 = cond w (e .error1) (e .error2); rms = rms })
     go true = record { low = r .low; first = r .first; order = r .order; second = r .second; low1 = b .low2; high1 = b .high2; low2 = b .low1; high2 = b .high1; size = s }
     go false = record { low = r .low; first = r .first; order = r .order; second = r .second; low1 = b .low1; high1 = b .high1; low2 = b .low2; high2 = b .high2; size = s }
 

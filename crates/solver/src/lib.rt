@@ -1,8 +1,8 @@
 // The Gauss-Newton fit from a seed: ring_fit/solver.rs, fit_with_seed and degenerate_fit.
-use axes::Axes;
 use elementary::SinCos;
-use solve::Errors;
-use solve::Solved;
+use solver_axes::Axes;
+use solver_elimination::Errors;
+use solver_elimination::Solved;
 ghost use mathlib.Core.Path.{_≡_};
 ghost use Prim.Native.Nat.{_≤_, _<_};
 ghost use lib.ListN.{length};
@@ -24,8 +24,8 @@ pub struct TwoAxisFit {
     pub amp: f32,
     pub theta1: f32,
     pub theta2: f32,
-    pub error1: f32,
-    pub error2: f32,
+    pub fit_std_error_theta1: f32,
+    pub fit_std_error_theta2: f32,
     pub rms: f32,
 }
 
@@ -268,7 +268,7 @@ fn run_updates(
         if count >= GN_MAX_ITERS {
             break;
         }
-        let Solved::Values(d0, d1, d2, d3) = solve::solve_4x4(jtj, jtr) else {
+        let Solved::Values(d0, d1, d2, d3) = solver_elimination::solve_4x4(jtj, jtr) else {
             break;
         };
         let c2 = cut(d2);
@@ -289,8 +289,8 @@ pub fn degenerate_fit(var: f32) -> TwoAxisFit
         amp: 0.0,
         theta1: 0.0,
         theta2: floats::HALF_PI,
-        error1: floats::PI,
-        error2: floats::PI,
+        fit_std_error_theta1: floats::PI,
+        fit_std_error_theta2: floats::PI,
         rms: roots::sqrt(floats::max(var, 0.0)),
     }
 }
@@ -316,8 +316,8 @@ fn assembled(a: Axes, e: Errors, rms: f32) -> TwoAxisFit
             amp: a.amp,
             theta1: a.theta1,
             theta2: a.theta2,
-            error1: e.error2,
-            error2: e.error1,
+            fit_std_error_theta1: e.error2,
+            fit_std_error_theta2: e.error1,
             rms,
         };
     }
@@ -325,8 +325,8 @@ fn assembled(a: Axes, e: Errors, rms: f32) -> TwoAxisFit
         amp: a.amp,
         theta1: a.theta1,
         theta2: a.theta2,
-        error1: e.error1,
-        error2: e.error2,
+        fit_std_error_theta1: e.error1,
+        fit_std_error_theta2: e.error2,
         rms,
     }
 }
@@ -335,9 +335,9 @@ fn finished(p: Params, jtj: &[[f32; 4]; 4], ssr: f32, n: usize) -> TwoAxisFit
     requires { ⌜ n ≤ 320 ⌝ }
     ensures { λ r. ⌜ r ≡ S.finished n p (now (jtj .entry)) ssr ⌝ }
 {
-    let e = solve::axis_std_errors(jtj, ssr, n);
+    let e = solver_elimination::axis_std_errors(jtj, ssr, n);
     let rms = roots::sqrt(ssr / floats::count_f32(n));
-    let a = axes::canonicalize_tracking_swap(p.theta1, p.theta2, p.amp);
+    let a = solver_axes::canonicalize_tracking_swap(p.theta1, p.theta2, p.amp);
     assembled(a, e, rms)
 }
 

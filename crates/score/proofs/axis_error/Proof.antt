@@ -1,6 +1,6 @@
 -- Three calls in a row. Assumes nothing.
 use borrow.Author.Needs.{needs}
-use Rattle.solve.specs.Solve as S
+use Rattle.solver_elimination.specs.Solve as S
 use Rattle.score.proofs.axis_error.Statement.{statement}
 use Rattle.score.proofs.axis_error.Tie as tie
 

@@ -1,5 +1,5 @@
 -- Each failure answers PI, and two solutions answer both errors. Assumes nothing.
-use Rattle.solve.specs.Solve.{bothErrors}
+use Rattle.solver_elimination.specs.Solve.{bothErrors}
 use borrow.Author.Needs.{needs}
 use Rattle.score.proofs.both_errors.Statement.{statement}
 use Rattle.score.proofs.both_errors.Tie as tie

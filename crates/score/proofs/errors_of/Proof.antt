@@ -1,6 +1,6 @@
 -- Up to four samples answer PI, and more go to both eliminations. Assumes nothing.
 use borrow.Author.Tests.{le-leb, lt-leb}
-use Rattle.solve.specs.Solve.{axisStdErrors}
+use Rattle.solver_elimination.specs.Solve.{axisStdErrors}
 use borrow.Author.Needs.{needs}
 use Rattle.score.proofs.errors_of.Statement.{statement}
 use Rattle.score.proofs.errors_of.Tie as tie

@@ -5,7 +5,7 @@ use Prim.Native.Nat.{_≤_, _-_}
 use native.Mathlib.Omega.{arith}
 use lib.ListN.{length}
 use Rattle.loops.specs.TabLaws.{Stores, stores-none, stores-next}
-use Rattle.edges.specs.Edges.{rankedSum}
+use Rattle.score_edges.specs.Edges.{rankedSum}
 use Rattle.score.specs.Score as S
 use borrow.Author.Needs.{needs}
 use Rattle.score.proofs.precompute_edge_alignments.Statement.{statement}

@@ -2,7 +2,7 @@
 use Prim.Native.Nat.{_+_, _-_, _≤_}
 use Rattle.search.specs.SearchLaws.{Cached, cached-none}
 use Rattle.search.specs.Search as S
-use Rattle.ranking.specs.Ranking.{blank}
+use Rattle.search_ranking.specs.Ranking.{blank}
 use Rattle.loops.specs.IterLaws.{iter-zero, iter-more}
 use Rattle.loops.specs.Loops.{iter}
 use lib.Seq.{getD-take}

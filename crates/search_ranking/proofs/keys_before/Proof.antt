@@ -1,0 +1,32 @@
+-- Each answer has its tests, in the definition's order. Assumes nothing.
+use borrow.Author.Tests.{lt-ltb, le-ltb}
+use Rattle.search_ranking.specs.Ranking.{keysBefore}
+use borrow.Author.Needs.{needs}
+use Rattle.search_ranking.proofs.keys_before.Statement.{statement}
+use Rattle.search_ranking.proofs.keys_before.Tie as tie
+
+returns : tie.Need-returns
+unfolding keysBefore
+returns c = rw (← c .before .before .total-key .ensures, ← c .before .total-key2 .ensures, lt-ltb _ _ (c .if1 .taken))
+
+returns-2 : tie.Need-returns-2
+unfolding keysBefore
+returns-2 c = rw (← c .before .before .before .total-key .ensures, ← c .before .before .total-key2 .ensures, le-ltb _ _ (c .before .if1 .left), lt-ltb _ _ (c .if2 .taken))
+
+returns-3 : tie.Need-returns-3
+unfolding keysBefore
+returns-3 c = rw (← c .before .before .before .before .before .before .total-key .ensures, ← c .before .before .before .before .before .total-key2 .ensures, le-ltb _ _ (c .before .before .before .before .if1 .left), le-ltb _ _ (c .before .before .before .if2 .left), lt-ltb _ _ (c .if3 .taken))
+
+returns-4 : tie.Need-returns-4
+unfolding keysBefore
+returns-4 c = rw (← c .before .before .before .before .before .before .before .before .before .total-key .ensures, ← c .before .before .before .before .before .before .before .before .total-key2 .ensures, le-ltb _ _ (c .before .before .before .before .before .before .before .if1 .left), le-ltb _ _ (c .before .before .before .before .before .before .if2 .left), le-ltb _ _ (c .before .before .before .if3 .left), lt-ltb _ _ (c .if4 .taken))
+
+returns-5 : tie.Need-returns-5
+unfolding keysBefore
+returns-5 c = rw (← c .before .before .before .before .before .before .before .before .before .before .before .total-key .ensures, ← c .before .before .before .before .before .before .before .before .before .before .total-key2 .ensures, le-ltb _ _ (c .before .before .before .before .before .before .before .before .before .if1 .left), le-ltb _ _ (c .before .before .before .before .before .before .before .before .if2 .left), le-ltb _ _ (c .before .before .before .before .before .if3 .left), le-ltb _ _ (c .before .before .if4 .left))
+
+pub keys-before-spec : {M : Type 1} → statement M
+keys-before-spec =
+    tie.close
+    (tie.spec
+    (λ c κs. search needs) (λ c κs. search needs) returns returns-2 returns-3 returns-4 returns-5)

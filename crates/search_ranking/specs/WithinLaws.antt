@@ -1,0 +1,107 @@
+-- Every pair of a pool, and so of its ranking, names two of the candidates: the loops that pair them stay below their number. Assumes nothing.
+use mathlib.Core.Bool.{Bool, true, false, cond}
+use mathlib.Core.List.{List, [], _∷_}
+use Prim.Native.Nat.{ℕ, zero, suc, _+_, _-_, _<_}
+use native.Mathlib.Omega.{arith}
+use lib.ListN.{getD, set, take, replicate}
+use lib.Ieee.{Float}
+use Rattle.geometry.specs.Geometry.{validPair}
+use Rattle.loops.specs.Loops.{iter, range}
+use Rattle.loops.specs.IterLaws.{iter-keeps}
+use Rattle.candidates.specs.Candidates.{Row, at, noPair, noPairs, pairScore, pooled, pairAt, pairsFrom, buildPairPool}
+use Rattle.candidates.specs.declared.CandidateSet.{CandidateSet}
+use Rattle.candidates.specs.declared.Forced.{Forced}
+use Rattle.candidates.specs.declared.PairScore.{PairScore}
+use Rattle.candidates.specs.declared.Pool.{Pool}
+use Rattle.search_ranking.specs.Ranking.{blank, isBefore, insertRanked, sorted, ranked}
+
+-- the candidates of each pair are among the first b
+pub record Within (b : ℕ) (l : List PairScore) : Type 0 where
+  pub first : (r : ℕ) → getD l r blank .i < b
+  pub second : (r : ℕ) → getD l r blank .j < b
+
+-- ---- what every turn keeps that knows its index, the loop keeps
+module _ {S : Type 0} where
+  pub iter-keeps-below : (P : S → Type 0) (f : ℕ → S → S) (s : S) (n : ℕ) → P s → ((i : ℕ) (x : S) → i < n → P x → P (f i x)) → P (iter f s n)
+  unfolding iter
+  iter-keeps-below P f s zero p h = p
+  iter-keeps-below P f s (suc n) p h = h n (iter f s n) (omega arith) (iter-keeps-below P f s n p (λ i x l q. h i x (omega arith) q))
+
+  pub range-keeps-below : (P : S → Type 0) (f : ℕ → S → S) (s : S) (a b : ℕ) → P s → ((i : ℕ) (x : S) → i < b → P x → P (f i x)) → P (range f s a b)
+  unfolding range
+  range-keeps-below P f s a b p h = iter-keeps-below P (λ d. f (a + d)) s (b - a) p (λ i x l q. h (a + i) x (omega arith) q)
+
+-- ---- lists of pairs within b
+module _ (b : ℕ) where
+  within-none : 0 < b → Within b []
+  within-none h = record { first = λ r. h; second = λ r. h }
+
+  within-cons : (x : PairScore) (l : List PairScore) → x .i < b → x .j < b → Within b l → Within b (x ∷ l)
+  within-cons x l p q w = record { first = one; second = two }
+    where
+      one : (r : ℕ) → getD (x ∷ l) r blank .i < b
+      one zero = p
+      one (suc r) = w .first r
+
+      two : (r : ℕ) → getD (x ∷ l) r blank .j < b
+      two zero = q
+      two (suc r) = w .second r
+
+  within-rest : (x : PairScore) (l : List PairScore) → Within b (x ∷ l) → Within b l
+  within-rest x l w = record { first = λ r. w .first (suc r); second = λ r. w .second (suc r) }
+
+  within-replicate : (n : ℕ) → 0 < b → Within b (replicate n noPair)
+  within-replicate zero h = within-none h
+  within-replicate (suc n) h = within-cons noPair (replicate n noPair) h h (within-replicate n h)
+
+  within-set : (l : List PairScore) (k : ℕ) (x : PairScore) → x .i < b → x .j < b → Within b l → Within b (set l k x)
+  within-set [] k x p q w = w
+  within-set (y ∷ l) zero x p q w = within-cons x l p q (within-rest y l w)
+  within-set (y ∷ l) (suc k) x p q w = within-cons y (set l k x) (w .first 0) (w .second 0) (within-set l k x p q (within-rest y l w))
+
+  within-take : (k : ℕ) (l : List PairScore) → 0 < b → Within b l → Within b (take k l)
+  within-take zero l h w = within-none h
+  within-take (suc k) [] h w = w
+  within-take (suc k) (y ∷ l) h w = within-cons y (take k l) (w .first 0) (w .second 0) (within-take k l h (within-rest y l w))
+
+  within-insert : (x : PairScore) (l : List PairScore) → x .i < b → x .j < b → Within b l → Within b (insertRanked x l)
+  unfolding insertRanked
+  within-insert x [] p q w = within-cons x [] p q w
+  within-insert x (y ∷ l) p q w =
+      let v = within-rest y l w in
+      go (isBefore x y) (within-insert y l (w .first 0) (w .second 0) v) (within-insert x l p q v)
+    where
+      go : (t : Bool) → Within b (insertRanked y l) → Within b (insertRanked x l) → Within b (cond t (x ∷ insertRanked y l) (y ∷ insertRanked x l))
+      go true g h = within-cons x (insertRanked y l) p q g
+      go false g h = within-cons y (insertRanked x l) (w .first 0) (w .second 0) h
+
+  within-sorted : (n : ℕ) (pairs : List PairScore) → 0 < b → Within b pairs → Within b (sorted n pairs)
+  unfolding sorted
+  within-sorted n pairs h w =
+      iter-keeps (Within b) (λ p l. insertRanked (getD pairs p blank) l) [] n (within-none h)
+      (λ p l v. within-insert (getD pairs p blank) l (w .first p) (w .second p) v)
+
+  pub ranked-within : (pool : Pool) → Within b (pool .pairs) → 0 < b → Within b (ranked pool)
+  unfolding ranked
+  ranked-within pool w h = within-take 24 (sorted (pool .n) (pool .pairs)) h (within-sorted (pool .n) (pool .pairs) h w)
+
+-- ---- the pool
+module _ (s : CandidateSet) (edges : Row) (total : Float) (seed hist : Forced) where
+  abbrev Fine : Pool → Type 0
+  Fine p = Within (s .n) (p .pairs)
+
+  pair-within : (i j : ℕ) (p : Pool) → i < s .n → j < s .n → Fine p → Fine (pairAt s edges total seed hist i j p)
+  unfolding pairAt pooled pairScore
+  pair-within i j p h k w = go (validPair (at (s .angles) i) (at (s .angles) j))
+    where
+      go : (t : Bool) → Fine (cond t (pooled (pairScore edges total seed hist i j) p) p)
+      go true = within-set (s .n) (p .pairs) (p .n) (pairScore edges total seed hist i j) h k w
+      go false = w
+
+  row-within : (i : ℕ) (p : Pool) → i < s .n → Fine p → Fine (pairsFrom s edges total seed hist i p)
+  unfolding pairsFrom
+  row-within i p h w = range-keeps-below Fine (pairAt s edges total seed hist i) p (i + 1) (s .n) w (λ j x k v. pair-within i j x h k v)
+
+  pub pool-within : 0 < s .n → Within (s .n) (buildPairPool s edges total seed hist .pairs)
+  unfolding buildPairPool
+  pool-within h = iter-keeps-below Fine (pairsFrom s edges total seed hist) noPairs (s .n) (within-replicate (s .n) 276 h) (λ i x l w. row-within i x l w)

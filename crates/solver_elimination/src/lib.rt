@@ -1,0 +1,188 @@
+// Elimination of a 4 by 4 system, and the standard errors that two eliminations give:
+// ring_fit/solver.rs, solve_4x4 and axis_std_errors.
+ghost use mathlib.Core.Path.{_≡_};
+ghost use mathlib.Core.Bool.{true, false};
+ghost use Prim.Native.Nat.{_≤_, _<_};
+ghost use lib.ListN.{length};
+ghost use Rattle.solver_elimination.specs.Solve as S;
+ghost use Rattle.solver_elimination.specs.SolveLaws.{Bounded};
+
+// The four values of a solution, or that the elimination failed.
+pub enum Solved {
+    Values(f32, f32, f32, f32),
+    Failed,
+}
+
+// The standard errors of the two axes.
+pub struct Errors {
+    pub error1: f32,
+    pub error2: f32,
+}
+
+fn augmented_row(r: [f32; 4], b: f32) -> [f32; 5]
+    ensures { λ x. ⌜ x ≡ S.augmentedRow r b ⌝ }
+{
+    [r[0], r[1], r[2], r[3], b]
+}
+
+fn augmented(a: &[[f32; 4]; 4], b: &[f32; 4]) -> [[f32; 5]; 4]
+    ensures { λ x. ⌜ x ≡ S.augmented (now (a .entry)) (now (b .entry)) ⌝ }
+{
+    let r0 = augmented_row(a[0], b[0]);
+    let r1 = augmented_row(a[1], b[1]);
+    let r2 = augmented_row(a[2], b[2]);
+    let r3 = augmented_row(a[3], b[3]);
+    [r0, r1, r2, r3]
+}
+
+// Row k or the best so far: k where its entry in column i is larger in size.
+fn larger(m: &[[f32; 5]; 4], i: usize, k: usize, best: usize) -> usize
+    requires { ⌜ (i < 4) × (k < 4) × (best < 4) ⌝ }
+    ensures { λ r. ⌜ (r < 4) × (r ≡ S.larger (now (m .entry)) i k best) ⌝ }
+{
+    if floats::abs(m[k][i]) > floats::abs(m[best][i]) {
+        return k;
+    }
+    best
+}
+
+// The row, from the diagonal down, that has the largest size in column i.
+fn pivot_row(m: &[[f32; 5]; 4], i: usize) -> usize
+    requires { ⌜ i < 4 ⌝ }
+    ensures { λ r. ⌜ (r < 4) × (r ≡ S.pivotRow (now (m .entry)) i) ⌝ }
+{
+    let mut best = i;
+    for k in i + 1..4 {
+        best = larger(m, i, k, best);
+    }
+    best
+}
+
+fn is_unusable(p: f32) -> bool
+    ensures { λ r. ⌜ r ≡ S.unusable p ⌝ }
+{
+    if floats::is_finite(p) {
+        return floats::abs(p) < 1e-20;
+    }
+    true
+}
+
+fn scaled(r: [f32; 5], f: f32) -> [f32; 5]
+    ensures { λ x. ⌜ x ≡ S.scaled r f ⌝ }
+{
+    [r[0] * f, r[1] * f, r[2] * f, r[3] * f, r[4] * f]
+}
+
+// Row r less f times the pivot row p, where f, the entry of r at the column, is not 0.
+fn reduced(r: [f32; 5], p: [f32; 5], f: f32) -> [f32; 5]
+    ensures { λ x. ⌜ x ≡ S.reduced r p f ⌝ }
+{
+    if f == 0.0 {
+        return r;
+    }
+    [
+        r[0] - f * p[0],
+        r[1] - f * p[1],
+        r[2] - f * p[2],
+        r[3] - f * p[3],
+        r[4] - f * p[4],
+    ]
+}
+
+// Row k after column i was cleared by the pivot row p, which stays.
+fn cleared(row: [f32; 5], p: [f32; 5], i: usize, k: usize) -> [f32; 5]
+    requires { ⌜ i < 4 ⌝ }
+    ensures { λ r. ⌜ r ≡ S.cleared i p k row ⌝ }
+{
+    if k == i {
+        return row;
+    }
+    let f = row[i];
+    reduced(row, p, f)
+}
+
+fn clear(m: &mut [[f32; 5]; 4], i: usize, p: [f32; 5])
+    requires { ⌜ i < 4 ⌝ }
+    ensures { λ _. ⌜ now (m .exit) ≡ S.clear (now (m .entry)) i p ⌝ }
+{
+    for k in 0..4 {
+        let row = m[k];
+        let next = cleared(row, p, i, k);
+        m[k] = next;
+    }
+}
+
+// Column i: the pivot's row comes to the diagonal, is scaled to 1 there, and clears the column in
+// the others. True where the pivot stops the elimination.
+fn column_stops(m: &mut [[f32; 5]; 4], i: usize) -> bool
+    requires { ⌜ i < 4 ⌝ }
+    ensures { λ r. ⌜ (r ≡ S.stopped (now (m .entry)) i) × (r ≡ false → now (m .exit) ≡ S.columned (now (m .entry)) i) ⌝ }
+{
+    let p = pivot_row(m, i);
+    let old = m[i];
+    let top = m[p];
+    m[i] = top;
+    m[p] = old;
+    let pivot = top[i];
+    if is_unusable(pivot) {
+        return true;
+    }
+    let row = scaled(top, 1.0 / pivot);
+    m[i] = row;
+    clear(m, i, row);
+    false
+}
+
+pub fn solve_4x4(a: &[[f32; 4]; 4], b: &[f32; 4]) -> Solved
+    ensures { λ r. ⌜ r ≡ S.solve4x4 (now (a .entry)) (now (b .entry)) ⌝ }
+{
+    let mut m = augmented(a, b);
+    for i in 0..4 {
+        if column_stops(&mut m, i) {
+            return Solved::Failed;
+        }
+    }
+    Solved::Values(m[0][4], m[1][4], m[2][4], m[3][4])
+}
+
+fn axis_error(v: f32, c: f32) -> f32
+    ensures { λ r. ⌜ r ≡ S.axisError v c ⌝ }
+{
+    floats::min(roots::sqrt(v * floats::max(c, 0.0)), floats::PI)
+}
+
+fn unknown() -> Errors
+    ensures { λ r. ⌜ r ≡ S.unknown ⌝ }
+{
+    Errors {
+        error1: floats::PI,
+        error2: floats::PI,
+    }
+}
+
+// Both columns of the inverse that matter, one elimination each: a failure answers PI.
+fn both_errors(jtj: &[[f32; 4]; 4], v: f32) -> Errors
+    ensures { λ r. ⌜ r ≡ S.bothErrors v (S.solve4x4 (now (jtj .entry)) S.unit2) (S.solve4x4 (now (jtj .entry)) S.unit3) ⌝ }
+{
+    let e2 = [0.0f32, 0.0, 1.0, 0.0];
+    let Solved::Values(_, _, c2, _) = solve_4x4(jtj, &e2) else {
+        return unknown();
+    };
+    let e3 = [0.0f32, 0.0, 0.0, 1.0];
+    let Solved::Values(_, _, _, c3) = solve_4x4(jtj, &e3) else {
+        return unknown();
+    };
+    let error1 = axis_error(v, c2);
+    let error2 = axis_error(v, c3);
+    Errors { error1, error2 }
+}
+
+pub fn axis_std_errors(jtj: &[[f32; 4]; 4], ssr: f32, n: usize) -> Errors
+    requires { ⌜ n ≤ 320 ⌝ }
+    ensures { λ r. ⌜ r ≡ S.axisStdErrors (now (jtj .entry)) ssr n ⌝ }
+{
+    if n <= 4 {
+        return unknown();
+    }
+    both_errors(jtj, ssr / floats::count_f32(n - 4))
+}
