@@ -197,7 +197,7 @@ combineEdgePair sA sB total =
 
 -- ---- build_pair_pool: n is at most 24, so that 276 places suffice
 abbrev pub noPair : PairScore
-noPair = record { i = 0; j = 0; edge_score = nought; forced = false }
+noPair = record { i = 0; j = 0; «edge_score» = nought; forced = false }
 
 abbrev pub noPairs : Pool
 noPairs = record { n = 0; pairs = replicate 276 noPair }
@@ -207,7 +207,7 @@ isForced seed hist i j = matchesPair seed i j || matchesPair hist i j
 
 unfoldable pub pairScore : Row → Float → Forced → Forced → ℕ → ℕ → PairScore
 pairScore edges total seed hist i j =
-    record { i = i; j = j; edge_score = combineEdgePair (at edges i) (at edges j) total; forced = isForced seed hist i j }
+    record { i = i; j = j; «edge_score» = combineEdgePair (at edges i) (at edges j) total; forced = isForced seed hist i j }
 
 unfoldable pub pooled : PairScore → Pool → Pool
 pooled x p = record { n = p .n + 1; pairs = set (p .pairs) (p .n) x }

@@ -35,7 +35,7 @@ firstWild l = wildFrom l (length l) 0
 
 -- the errors are known unless both equal PI
 unfoldable pub errorsKnown : TwoAxisFit → Bool
-errorsKnown f = not (eq (f .fit_std_error_theta1) pi && eq (f .fit_std_error_theta2) pi)
+errorsKnown f = not (eq (f .«fit_std_error_theta1») pi && eq (f .«fit_std_error_theta2») pi)
 
 -- ---- the ring: 1 for a length that is not 16, then 3 for the first value that is not finite, the samples numbered before the angles
 unfoldable pub ringFitted : List Float → List Float → RingAnswer
@@ -66,7 +66,7 @@ ringPlace (Refused number place) = place
 
 -- amp, theta1, theta2, both errors, rms; nothing of a refusal
 unfoldable pub ringValues : RingAnswer → List Float
-ringValues (Fitted r k) = r .fit .amp ∷ r .fit .theta1 ∷ r .fit .theta2 ∷ r .fit .fit_std_error_theta1 ∷ r .fit .fit_std_error_theta2 ∷ r .fit .rms ∷ []
+ringValues (Fitted r k) = r .fit .amp ∷ r .fit .theta1 ∷ r .fit .theta2 ∷ r .fit .«fit_std_error_theta1» ∷ r .fit .«fit_std_error_theta2» ∷ r .fit .rms ∷ []
 ringValues (Refused number place) = []
 
 -- starts, updates of the first and of the second start, known
@@ -104,7 +104,7 @@ bothKnown e = not (eq (e .error1) pi && eq (e .error2) pi)
 unfoldable pub measuredOf : ℕ → List Float → List Float → List Float → Fit → ℕ → DiskAnswer
 measuredOf n xs ys vals f trials =
     let e = fitStdErrors n xs ys vals f in
-    Disks.Fitted (record { fit = f; fit_std_error_theta1 = e .error1; fit_std_error_theta2 = e .error2; trials = trials }) (bothKnown e)
+    Disks.Fitted (record { fit = f; «fit_std_error_theta1» = e .error1; «fit_std_error_theta2» = e .error2; trials = trials }) (bothKnown e)
 
 unfoldable pub diskMeasured : Disk → DiskFit → DiskAnswer
 diskMeasured D (Missing trials) = Disks.Refused 4 trials
@@ -140,8 +140,8 @@ diskPlace (Disks.Refused number place) = place
 -- theta1, theta2, width, amp, rms, rel_rms, corr, edge_score, objective, both errors; nothing of a refusal
 abbrev pub measuredValues : Measured → List Float
 measuredValues m =
-    m .fit .theta1 ∷ m .fit .theta2 ∷ m .fit .width ∷ m .fit .amp ∷ m .fit .rms ∷ m .fit .rel_rms ∷ m .fit .corr ∷ m .fit .edge_score ∷
-    m .fit .objective ∷ m .fit_std_error_theta1 ∷ m .fit_std_error_theta2 ∷ []
+    m .fit .theta1 ∷ m .fit .theta2 ∷ m .fit .width ∷ m .fit .amp ∷ m .fit .rms ∷ m .fit .«rel_rms» ∷ m .fit .corr ∷ m .fit .«edge_score» ∷
+    m .fit .objective ∷ m .«fit_std_error_theta1» ∷ m .«fit_std_error_theta2» ∷ []
 
 unfoldable pub diskValues : DiskAnswer → List Float
 diskValues (Disks.Fitted m k) = measuredValues m

@@ -93,7 +93,7 @@ module _ (samples angles : List Float) (r : RingFit) (known : Bool) where
   ring-axes e = let s = sound e .fit in (s .low, s .first, s .order, s .second)
 
   -- both errors from 0 to PI
-  pub ring-errors : checkedRing samples angles ≡ Fitted r known → T (le nought (r .fit .fit_std_error_theta1)) × T (le (r .fit .fit_std_error_theta1) pi) × T (le nought (r .fit .fit_std_error_theta2)) × T (le (r .fit .fit_std_error_theta2) pi)
+  pub ring-errors : checkedRing samples angles ≡ Fitted r known → T (le nought (r .fit .«fit_std_error_theta1»)) × T (le (r .fit .«fit_std_error_theta1») pi) × T (le nought (r .fit .«fit_std_error_theta2»)) × T (le (r .fit .«fit_std_error_theta2») pi)
   ring-errors e = let s = sound e .fit in (s .low1, s .high1, s .low2, s .high2)
 
   -- the amplitude is NaN or not below zero
@@ -124,8 +124,8 @@ module _ (samples angles : List Float) (r : RingFit) (known : Bool) where
 -- what an answer is made of: the search's own fit with its number of trials, and the errors of that fit
 pub record IsTheFit (D : Disk) (base0 base1 : Float) (m : Measured) : Type 0 where
   pub fit : bestDiskFit D base0 base1 ≡ Best (m .fit) (m .trials)
-  pub error1 : m .fit_std_error_theta1 ≡ fitStdErrors (D .n) (D .xs) (D .ys) (D .vals) (m .fit) .error1
-  pub error2 : m .fit_std_error_theta2 ≡ fitStdErrors (D .n) (D .xs) (D .ys) (D .vals) (m .fit) .error2
+  pub error1 : m .«fit_std_error_theta1» ≡ fitStdErrors (D .n) (D .xs) (D .ys) (D .vals) (m .fit) .error1
+  pub error2 : m .«fit_std_error_theta2» ≡ fitStdErrors (D .n) (D .xs) (D .ys) (D .vals) (m .fit) .error2
 
 module _ (D : Disk) (base0 base1 : Float) where
   -- what passes the checks is looked at, and what is clean is fitted
@@ -150,7 +150,7 @@ module _ (D : Disk) (base0 base1 : Float) where
     measured (Missing t) q e = absurd (other e)
     measured (Best f t) q e =
         let x = fitStdErrors (D .n) (D .xs) (D .ys) (D .vals) f in
-        let h : _≡_ {A = Measured} (record { fit = f; fit_std_error_theta1 = x .error1; fit_std_error_theta2 = x .error2; trials = t }) m = cc in
+        let h : _≡_ {A = Measured} (record { fit = f; «fit_std_error_theta1» = x .error1; «fit_std_error_theta2» = x .error2; trials = t }) m = cc in
         subst (IsTheFit D base0 base1) h (record { fit = q; error1 = refl; error2 = refl })
 
     -- demand 2: whatever is answered is the Rust's fit, step by step, with its own number of trials and its own errors
@@ -172,7 +172,7 @@ module _ (D : Disk) (base0 base1 : Float) where
     disk-axes e = let s = sound-disk e in (s .low, s .first, s .order, s .second)
 
     -- both errors from 0 to PI
-    pub disk-errors : checkedDisk D base0 base1 ≡ Disks.Fitted m known → T (le nought (m .fit_std_error_theta1)) × T (le (m .fit_std_error_theta1) pi) × T (le nought (m .fit_std_error_theta2)) × T (le (m .fit_std_error_theta2) pi)
+    pub disk-errors : checkedDisk D base0 base1 ≡ Disks.Fitted m known → T (le nought (m .«fit_std_error_theta1»)) × T (le (m .«fit_std_error_theta1») pi) × T (le nought (m .«fit_std_error_theta2»)) × T (le (m .«fit_std_error_theta2») pi)
     disk-errors e =
         let a = disk-answered-is-the-fit e in
         let b = errors-sound (D .n) (D .xs) (D .ys) (D .vals) (m .fit) in

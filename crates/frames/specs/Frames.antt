@@ -81,8 +81,8 @@ countsWord r known = r .starts % 256 * 16777216 + r .first % 256 * 65536 + r .se
 
 abbrev pub ringWords : RingFit → Bool → List ℕ
 ringWords r known =
-    toBits binary32 (r .fit .amp) ∷ toBits binary32 (r .fit .theta1) ∷ toBits binary32 (r .fit .theta2) ∷ toBits binary32 (r .fit .fit_std_error_theta1) ∷
-    toBits binary32 (r .fit .fit_std_error_theta2) ∷ toBits binary32 (r .fit .rms) ∷ countsWord r known ∷ []
+    toBits binary32 (r .fit .amp) ∷ toBits binary32 (r .fit .theta1) ∷ toBits binary32 (r .fit .theta2) ∷ toBits binary32 (r .fit .«fit_std_error_theta1») ∷
+    toBits binary32 (r .fit .«fit_std_error_theta2») ∷ toBits binary32 (r .fit .rms) ∷ countsWord r known ∷ []
 
 -- 8100, then seven words: 60 characters
 unfoldable pub ringText : RingFit → Bool → List ℕ
@@ -92,8 +92,8 @@ ringText r known = countText 0x8100 ++ wordsText (ringWords r known) 7
 abbrev pub diskWords : Measured → List ℕ
 diskWords m =
     toBits binary32 (m .fit .theta1) ∷ toBits binary32 (m .fit .theta2) ∷ toBits binary32 (m .fit .width) ∷ toBits binary32 (m .fit .amp) ∷
-    toBits binary32 (m .fit .rms) ∷ toBits binary32 (m .fit .rel_rms) ∷ toBits binary32 (m .fit .corr) ∷ toBits binary32 (m .fit .edge_score) ∷
-    toBits binary32 (m .fit .objective) ∷ toBits binary32 (m .fit_std_error_theta1) ∷ toBits binary32 (m .fit_std_error_theta2) ∷ []
+    toBits binary32 (m .fit .rms) ∷ toBits binary32 (m .fit .«rel_rms») ∷ toBits binary32 (m .fit .corr) ∷ toBits binary32 (m .fit .«edge_score») ∷
+    toBits binary32 (m .fit .objective) ∷ toBits binary32 (m .«fit_std_error_theta1») ∷ toBits binary32 (m .«fit_std_error_theta2») ∷ []
 
 -- 8200, then eleven words, the trials in four digits and known: 98 characters
 unfoldable pub diskText : Measured → Bool → List ℕ

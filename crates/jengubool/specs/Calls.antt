@@ -21,7 +21,7 @@ flag b = Checked.flag b
 
 -- amp, theta1, theta2, both errors, rms
 unfoldable pub fitStored : TwoAxisFit → List Float → List Float
-fitStored f l = set (set (set (set (set (set l 0 (f .amp)) 1 (f .theta1)) 2 (f .theta2)) 3 (f .fit_std_error_theta1)) 4 (f .fit_std_error_theta2)) 5 (f .rms)
+fitStored f l = set (set (set (set (set (set l 0 (f .amp)) 1 (f .theta1)) 2 (f .theta2)) 3 (f .«fit_std_error_theta1»)) 4 (f .«fit_std_error_theta2»)) 5 (f .rms)
 
 -- starts, updates of the first and of the second start, known
 unfoldable pub countsStored : RingFit → Bool → List ℕ → List ℕ
@@ -49,7 +49,7 @@ ringCall samples angles fit counts =
 unfoldable pub diskFitStored : Measured → List Float → List Float
 diskFitStored m l =
     let f = m .fit in
-    set (set (set (set (set (set (set (set (set (set (set l 0 (f .theta1)) 1 (f .theta2)) 2 (f .width)) 3 (f .amp)) 4 (f .rms)) 5 (f .rel_rms)) 6 (f .corr)) 7 (f .edge_score)) 8 (f .objective)) 9 (m .fit_std_error_theta1)) 10 (m .fit_std_error_theta2)
+    set (set (set (set (set (set (set (set (set (set (set l 0 (f .theta1)) 1 (f .theta2)) 2 (f .width)) 3 (f .amp)) 4 (f .rms)) 5 (f .«rel_rms»)) 6 (f .corr)) 7 (f .«edge_score»)) 8 (f .objective)) 9 (m .«fit_std_error_theta1»)) 10 (m .«fit_std_error_theta2»)
 
 -- trials, known
 unfoldable pub diskCountsStored : Measured → Bool → List ℕ → List ℕ

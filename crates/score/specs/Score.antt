@@ -51,12 +51,12 @@ pairSums n vals h0 h1 = iter (summed vals h0 h1) zeros n
 
 -- nInv is one over the number of pixels
 unfoldable pub fitOf : Float → Float → Float → Float → Float → Float → Float → Float → Fit
-fitOf energy nInv dot denom theta0 theta1 width edge_score =
+fitOf energy nInv dot denom theta0 theta1 width edge-score =
     let amp = dot ⊘ denom in
     let ssr = max (energy ⊖ dot ⊗ dot ⊘ denom) nought in
     let rms = sqrt binary32 (ssr ⊗ nInv) in
     let corr = abs dot ⊘ sqrt binary32 (denom ⊗ energy) in
-    let rel_rms = rms ⊘ max (abs amp) one in
+    let rel-rms = rms ⊘ max (abs amp) one in
     let a = canonicalizeTrackingSwap theta0 theta1 amp in
     record {
       theta1 = a .theta1;
@@ -64,22 +64,22 @@ fitOf energy nInv dot denom theta0 theta1 width edge_score =
       width = width;
       amp = a .amp;
       rms = rms;
-      rel_rms = rel_rms;
+      «rel_rms» = rel-rms;
       corr = corr;
-      edge_score = edge_score;
-      objective = rel_rms ⊖ lit 0x3fa0_0000 ⊗ edge_score;
+      «edge_score» = edge-score;
+      objective = rel-rms ⊖ lit 0x3fa0_0000 ⊗ edge-score;
     }
 
 unfoldable pub scoredSums : Float → Float → Sums → Float → Float → Float → Float → Scored
-scoredSums energy nInv s theta0 theta1 width edge_score =
+scoredSums energy nInv s theta0 theta1 width edge-score =
     let denom = s .q2 ⊖ s .q ⊗ s .q ⊗ nInv in
-    cond (le denom margin) Nothing (Found (fitOf energy nInv (s .dot) denom theta0 theta1 width edge_score))
+    cond (le denom margin) Nothing (Found (fitOf energy nInv (s .dot) denom theta0 theta1 width edge-score))
 
 -- a pair that is not allowed, and a disk without energy, answer nothing
 unfoldable pub scorePairCached : ℕ → Float → Row → Float → Float → Float → Float → Row → Row → Scored
-scorePairCached n energy vals theta0 theta1 width edge_score h0 h1 =
+scorePairCached n energy vals theta0 theta1 width edge-score h0 h1 =
     cond (validPair theta0 theta1)
-    (cond (le energy margin) Nothing (scoredSums energy (one ⊘ count n) (pairSums n vals h0 h1) theta0 theta1 width edge_score))
+    (cond (le energy margin) Nothing (scoredSums energy (one ⊘ count n) (pairSums n vals h0 h1) theta0 theta1 width edge-score))
     Nothing
 
 -- ---- precompute_edge_alignments: a disk without weight leaves the sums as they are, and its total counts as 0
@@ -101,8 +101,8 @@ higher a b next = cond (lt (b ⊕ margin) a) true (cond (lt margin (abs (a ⊖ b
 unfoldable pub fitIsBetter : Fit → Fit → Bool
 fitIsBetter a b =
     lower (a .objective) (b .objective)
-    (lower (a .rel_rms) (b .rel_rms)
-    (higher (a .edge_score) (b .edge_score)
+    (lower (a .«rel_rms») (b .«rel_rms»)
+    (higher (a .«edge_score») (b .«edge_score»)
     (lower (a .width) (b .width)
     (lower (a .theta1) (b .theta1) (lt (a .theta2) (b .theta2))))))
 

@@ -33,64 +33,64 @@ SoundFound Nothing = T true
 SoundFound (Found f) = SoundFit f
 
 -- theta0 and theta1 are values that an f32 holds
-module _ (theta0 theta1 width edge_score : Float) (p : T (fits binary32 theta0)) (q : T (fits binary32 theta1)) where
-  fit-sound : (energy nInv dot denom : Float) → SoundFit (fitOf energy nInv dot denom theta0 theta1 width edge_score)
+module _ (theta0 theta1 width edge-score : Float) (p : T (fits binary32 theta0)) (q : T (fits binary32 theta1)) where
+  fit-sound : (energy nInv dot denom : Float) → SoundFit (fitOf energy nInv dot denom theta0 theta1 width edge-score)
   unfolding fitOf
   fit-sound energy nInv dot denom =
       let r = canonical-range theta0 theta1 (dot ⊘ denom) p q in
       record { low = r .low; first = r .first; order = r .order; second = r .second; size = canonical-amp theta0 theta1 (dot ⊘ denom) (div-fits binary32 dot denom) }
 
-  sums-sound : (energy nInv : Float) (s : Sums) → SoundFound (scoredSums energy nInv s theta0 theta1 width edge_score)
+  sums-sound : (energy nInv : Float) (s : Sums) → SoundFound (scoredSums energy nInv s theta0 theta1 width edge-score)
   unfolding scoredSums
   sums-sound energy nInv s = go (le denom margin)
     where
       denom : Float
       denom = s .q2 ⊖ s .q ⊗ s .q ⊗ nInv
 
-      go : (b : Bool) → SoundFound (cond b Nothing (Found (fitOf energy nInv (s .dot) denom theta0 theta1 width edge_score)))
+      go : (b : Bool) → SoundFound (cond b Nothing (Found (fitOf energy nInv (s .dot) denom theta0 theta1 width edge-score)))
       go true = tt
       go false = fit-sound energy nInv (s .dot) denom
 
-  pair-sound : (n : ℕ) (energy : Float) (vals h0 h1 : Row) → SoundFound (scorePairCached n energy vals theta0 theta1 width edge_score h0 h1)
+  pair-sound : (n : ℕ) (energy : Float) (vals h0 h1 : Row) → SoundFound (scorePairCached n energy vals theta0 theta1 width edge-score h0 h1)
   unfolding scorePairCached
   pair-sound n energy vals h0 h1 = go (validPair theta0 theta1) (le energy margin)
     where
-      go : (b d : Bool) → SoundFound (cond b (cond d Nothing (scoredSums energy (one ⊘ count n) (pairSums n vals h0 h1) theta0 theta1 width edge_score)) Nothing)
+      go : (b d : Bool) → SoundFound (cond b (cond d Nothing (scoredSums energy (one ⊘ count n) (pairSums n vals h0 h1) theta0 theta1 width edge-score)) Nothing)
       go false d = tt
       go true true = tt
       go true false = sums-sound energy (one ⊘ count n) (pairSums n vals h0 h1)
 
-pub scored-sound : (n : ℕ) (energy : Float) (vals : Row) (theta0 theta1 width edge_score : Float) (h0 h1 : Row) (f : Fit) → T (fits binary32 theta0) → T (fits binary32 theta1) → scorePairCached n energy vals theta0 theta1 width edge_score h0 h1 ≡ Found f → SoundFit f
-scored-sound n energy vals theta0 theta1 width edge_score h0 h1 f p q e = subst SoundFound e (pair-sound theta0 theta1 width edge_score p q n energy vals h0 h1)
+pub scored-sound : (n : ℕ) (energy : Float) (vals : Row) (theta0 theta1 width edge-score : Float) (h0 h1 : Row) (f : Fit) → T (fits binary32 theta0) → T (fits binary32 theta1) → scorePairCached n energy vals theta0 theta1 width edge-score h0 h1 ≡ Found f → SoundFit f
+scored-sound n energy vals theta0 theta1 width edge-score h0 h1 f p q e = subst SoundFound e (pair-sound theta0 theta1 width edge-score p q n energy vals h0 h1)
 
 -- ---- a scored fit has the width that was given
-module _ (theta0 theta1 width edge_score : Float) where
+module _ (theta0 theta1 width edge-score : Float) where
   abbrev Wide : Scored → Type 0
   Wide Nothing = T true
   Wide (Found f) = f .width ≡ width
 
-  sums-wide : (energy nInv : Float) (s : Sums) → Wide (scoredSums energy nInv s theta0 theta1 width edge_score)
+  sums-wide : (energy nInv : Float) (s : Sums) → Wide (scoredSums energy nInv s theta0 theta1 width edge-score)
   unfolding scoredSums fitOf
   sums-wide energy nInv s = go (le denom margin)
     where
       denom : Float
       denom = s .q2 ⊖ s .q ⊗ s .q ⊗ nInv
 
-      go : (b : Bool) → Wide (cond b Nothing (Found (fitOf energy nInv (s .dot) denom theta0 theta1 width edge_score)))
+      go : (b : Bool) → Wide (cond b Nothing (Found (fitOf energy nInv (s .dot) denom theta0 theta1 width edge-score)))
       go true = tt
       go false = refl
 
-  pair-wide : (n : ℕ) (energy : Float) (vals h0 h1 : Row) → Wide (scorePairCached n energy vals theta0 theta1 width edge_score h0 h1)
+  pair-wide : (n : ℕ) (energy : Float) (vals h0 h1 : Row) → Wide (scorePairCached n energy vals theta0 theta1 width edge-score h0 h1)
   unfolding scorePairCached
   pair-wide n energy vals h0 h1 = go (validPair theta0 theta1) (le energy margin)
     where
-      go : (a b : Bool) → Wide (cond a (cond b Nothing (scoredSums energy (one ⊘ count n) (pairSums n vals h0 h1) theta0 theta1 width edge_score)) Nothing)
+      go : (a b : Bool) → Wide (cond a (cond b Nothing (scoredSums energy (one ⊘ count n) (pairSums n vals h0 h1) theta0 theta1 width edge-score)) Nothing)
       go false b = tt
       go true true = tt
       go true false = sums-wide energy (one ⊘ count n) (pairSums n vals h0 h1)
 
-pub scored-width : (n : ℕ) (energy : Float) (vals : Row) (theta0 theta1 width edge_score : Float) (h0 h1 : Row) (f : Fit) → scorePairCached n energy vals theta0 theta1 width edge_score h0 h1 ≡ Found f → f .width ≡ width
-scored-width n energy vals theta0 theta1 width edge_score h0 h1 f e = subst (Wide theta0 theta1 width edge_score) e (pair-wide theta0 theta1 width edge_score n energy vals h0 h1)
+pub scored-width : (n : ℕ) (energy : Float) (vals : Row) (theta0 theta1 width edge-score : Float) (h0 h1 : Row) (f : Fit) → scorePairCached n energy vals theta0 theta1 width edge-score h0 h1 ≡ Found f → f .width ≡ width
+scored-width n energy vals theta0 theta1 width edge-score h0 h1 f e = subst (Wide theta0 theta1 width edge-score) e (pair-wide theta0 theta1 width edge-score n energy vals h0 h1)
 
 -- ---- the errors
 pub errors-sound : (n : ℕ) (xs ys vals : Row) (f : Fit) → Bounded (fitStdErrors n xs ys vals f)

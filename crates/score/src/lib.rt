@@ -88,7 +88,7 @@ fn fit_of(
     width: f32,
     edge_score: f32,
 ) -> Fit
-    ensures { λ r. ⌜ r ≡ S.fitOf energy ninv dot denom theta0 theta1 width edge_score ⌝ }
+    ensures { λ r. ⌜ r ≡ S.fitOf energy ninv dot denom theta0 theta1 width «edge_score» ⌝ }
 {
     let amp = dot / denom;
     let ssr = floats::max(energy - dot * dot / denom, 0.0);
@@ -118,7 +118,7 @@ fn scored_sums(
     width: f32,
     edge_score: f32,
 ) -> Scored
-    ensures { λ r. ⌜ r ≡ S.scoredSums energy ninv s theta0 theta1 width edge_score ⌝ }
+    ensures { λ r. ⌜ r ≡ S.scoredSums energy ninv s theta0 theta1 width «edge_score» ⌝ }
 {
     let denom = s.q2 - s.q * s.q * ninv;
     if denom <= 1e-9 {
@@ -148,7 +148,7 @@ pub fn score_pair_cached(
     h1: &[f32],
 ) -> Scored
     requires { ⌜ (length (now h0) ≡ length (now vals)) × (length (now h1) ≡ length (now vals)) × (length (now vals) ≤ 320) ⌝ }
-    ensures { λ r. ⌜ r ≡ S.scorePairCached (length (now (vals .entry))) energy (now (vals .entry)) theta0 theta1 width edge_score (now (h0 .entry)) (now (h1 .entry)) ⌝ }
+    ensures { λ r. ⌜ r ≡ S.scorePairCached (length (now (vals .entry))) energy (now (vals .entry)) theta0 theta1 width «edge_score» (now (h0 .entry)) (now (h1 .entry)) ⌝ }
 {
     if geometry::valid_pair(theta0, theta1) {} else {
         return Scored::Nothing;

@@ -54,7 +54,7 @@ module _ (n : ℕ) (energy : Float) (xs ys vals : Row) (s : CandidateSet) where
   pairScored width p =
       let a0 = at (s .angles) (p .i) in
       let a1 = at (s .angles) (p .j) in
-      scorePairCached n energy vals a0 a1 width (p .edge_score) (axisRow n xs ys a0 width) (axisRow n xs ys a1 width)
+      scorePairCached n energy vals a0 a1 width (p .«edge_score») (axisRow n xs ys a0 width) (axisRow n xs ys a1 width)
 
   -- the ranked pairs in their order, at one width
   unfoldable pub triedAt : List PairScore → Float → Leaders → Leaders

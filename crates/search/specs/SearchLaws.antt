@@ -41,8 +41,8 @@ pub record Listed (r : Ranked) : Type 0 where
 
 -- a pair scored from what the cache holds
 unfoldable pub cachedScore : Float → Row → Float → Float → Float → Float → Row → ℕ → ℕ → Scored
-cachedScore energy vals a0 a1 width edge_score cache i j =
-    scorePairCached (length vals) energy vals a0 a1 width edge_score (take (length vals) (drop (i * 320) cache)) (take (length vals) (drop (j * 320) cache))
+cachedScore energy vals a0 a1 width edge-score cache i j =
+    scorePairCached (length vals) energy vals a0 a1 width edge-score (take (length vals) (drop (i * 320) cache)) (take (length vals) (drop (j * 320) cache))
 
 module _ (xs ys : Row) (s : CandidateSet) (width : Float) where
   -- nothing is filled
@@ -95,7 +95,7 @@ keeps-marked filled c h = record { here = getD-set-same filled c true false h; s
 
 module _ (xs ys : Row) (s : CandidateSet) (width energy : Float) (vals : Row) (p : PairScore) where
   -- with both rows filled it is the definition's score
-  pub cached-score : {filled : List Bool} {cache : Row} → Cached xs ys s width filled cache → length vals ≡ length xs → getD filled (p .i) false ≡ true → getD filled (p .j) false ≡ true → cachedScore energy vals (at (s .angles) (p .i)) (at (s .angles) (p .j)) width (p .edge_score) cache (p .i) (p .j) ≡ pairScored (length xs) energy xs ys vals s width p
+  pub cached-score : {filled : List Bool} {cache : Row} → Cached xs ys s width filled cache → length vals ≡ length xs → getD filled (p .i) false ≡ true → getD filled (p .j) false ≡ true → cachedScore energy vals (at (s .angles) (p .i)) (at (s .angles) (p .j)) width (p .«edge_score») cache (p .i) (p .j) ≡ pairScored (length xs) energy xs ys vals s width p
   unfolding cachedScore pairScored
   cached-score h l a b = rw (l, h .row (p .i) a, h .row (p .j) b)
 

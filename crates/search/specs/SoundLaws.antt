@@ -132,7 +132,7 @@ module _ (P : Fit → Type 0) where
 
 -- what every score of two axes that f32 holds has, the answer has
 pub search-keeps : (D : Disk) (base0 base1 : Float) (P : Fit → Type 0) →
-    ((theta0 theta1 width edge_score : Float) (h0 h1 : Row) (f : Fit) → T (fits binary32 theta0) → T (fits binary32 theta1) → scorePairCached (D .n) (D .energy) (D .vals) theta0 theta1 width edge_score h0 h1 ≡ Found f → P f) →
+    ((theta0 theta1 width edge-score : Float) (h0 h1 : Row) (f : Fit) → T (fits binary32 theta0) → T (fits binary32 theta1) → scorePairCached (D .n) (D .energy) (D .vals) theta0 theta1 width edge-score h0 h1 ≡ Found f → P f) →
     (f : Fit) (t : ℕ) → bestDiskFit D base0 base1 ≡ Best f t → P f
 unfolding neighbour trial pairScored
 search-keeps D base0 base1 P each f t e =
@@ -142,7 +142,7 @@ search-keeps D base0 base1 P each f t e =
     f t e
 
 pub search-sound : (D : Disk) (base0 base1 : Float) (f : Fit) (t : ℕ) → bestDiskFit D base0 base1 ≡ Best f t → SoundFit f
-search-sound D base0 base1 f t e = search-keeps D base0 base1 SoundFit (λ theta0 theta1 width edge_score h0 h1 f p q e. scored-sound (D .n) (D .energy) (D .vals) theta0 theta1 width edge_score h0 h1 f p q e) f t e
+search-sound D base0 base1 f t e = search-keeps D base0 base1 SoundFit (λ theta0 theta1 width edge-score h0 h1 f p q e. scored-sound (D .n) (D .energy) (D .vals) theta0 theta1 width edge-score h0 h1 f p q e) f t e
 
 -- ---- the width
 -- the answer's width is one of the four

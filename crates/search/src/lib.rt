@@ -123,7 +123,7 @@ fn score_cached(
     j: usize,
 ) -> Scored
     requires { ⌜ (i < 24) × (j < 24) × (length (now vals) ≤ 320) × (length (now cache) ≡ 7680) ⌝ }
-    ensures { λ r. ⌜ r ≡ cachedScore energy (now (vals .entry)) a0 a1 width edge_score (now (cache .entry)) i j ⌝ }
+    ensures { λ r. ⌜ r ≡ cachedScore energy (now (vals .entry)) a0 a1 width «edge_score» (now (cache .entry)) i j ⌝ }
 {
     let n = vals.len();
     let x = i * 320;

@@ -14,8 +14,8 @@ use Rattle.loops.specs.Loops.{iter}
 -- greater edge score by the total order, then lower i, then lower j
 unfoldable pub keysBefore : PairScore → PairScore → Bool
 keysBefore a b =
-    cond (ltb (totalKey (b .edge_score)) (totalKey (a .edge_score))) true
-    (cond (ltb (totalKey (a .edge_score)) (totalKey (b .edge_score))) false
+    cond (ltb (totalKey (b .«edge_score»)) (totalKey (a .«edge_score»))) true
+    (cond (ltb (totalKey (a .«edge_score»)) (totalKey (b .«edge_score»))) false
     (cond (ltb (a .i) (b .i)) true
     (cond (ltb (b .i) (a .i)) false (ltb (a .j) (b .j)))))
 
@@ -30,7 +30,7 @@ insertRanked x (y ∷ l) = cond (isBefore x y) (x ∷ insertRanked y l) (y ∷ i
 
 -- what stands past the end of an array of pairs
 abbrev pub blank : PairScore
-blank = record { i = 0; j = 0; edge_score = nan; forced = false }
+blank = record { i = 0; j = 0; «edge_score» = nan; forced = false }
 
 -- the first n pairs, sorted
 unfoldable pub sorted : ℕ → List PairScore → List PairScore

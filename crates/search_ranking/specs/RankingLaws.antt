@@ -122,9 +122,9 @@ abbrev turn : Bool → ℕ
 turn true = 0
 turn false = 1
 
-before-lex : (a b : PairScore) → isBefore a b ≡ lex (turn (a .forced)) (turn (b .forced)) (lex (totalKey (b .edge_score)) (totalKey (a .edge_score)) (lex (a .i) (b .i) (lex (a .j) (b .j) false)))
+before-lex : (a b : PairScore) → isBefore a b ≡ lex (turn (a .forced)) (turn (b .forced)) (lex (totalKey (b .«edge_score»)) (totalKey (a .«edge_score»)) (lex (a .i) (b .i) (lex (a .j) (b .j) false)))
 unfolding isBefore keysBefore
-before-lex a b = flags (a .forced) (b .forced) ∙ ap (λ (z : Bool). lex (turn (a .forced)) (turn (b .forced)) (lex (totalKey (b .edge_score)) (totalKey (a .edge_score)) (lex (a .i) (b .i) z))) (last (a .j) (b .j))
+before-lex a b = flags (a .forced) (b .forced) ∙ ap (λ (z : Bool). lex (turn (a .forced)) (turn (b .forced)) (lex (totalKey (b .«edge_score»)) (totalKey (a .«edge_score»)) (lex (a .i) (b .i) z))) (last (a .j) (b .j))
   where
     flags : (s t : Bool) → cond s (cond t (keysBefore a b) true) (cond t false (keysBefore a b)) ≡ lex (turn s) (turn t) (keysBefore a b)
     flags true true = refl
@@ -142,20 +142,20 @@ pub before-trans : (x y z : PairScore) → isBefore x y ≡ true → isBefore y 
 before-trans x y z p q =
     before-lex x z
     ∙ lex-trans (turn (x .forced)) (turn (y .forced)) (turn (z .forced)) _ _ _
-    (λ p q. lex-trans (totalKey (z .edge_score)) (totalKey (y .edge_score)) (totalKey (x .edge_score)) _ _ _
+    (λ p q. lex-trans (totalKey (z .«edge_score»)) (totalKey (y .«edge_score»)) (totalKey (x .«edge_score»)) _ _ _
     (λ q p. lex-trans (x .i) (y .i) (z .i) _ _ _ (lex-trans (x .j) (y .j) (z .j) false false false (λ a b. a)) p q)
     q p)
     (sym (before-lex x y) ∙ p) (sym (before-lex y z) ∙ q)
 
 pub before-irrefl : (x : PairScore) → isBefore x x ≡ false
 before-irrefl x =
-    before-lex x x ∙ lex-level (turn (x .forced)) (turn (x .forced)) _ refl ∙ lex-level (totalKey (x .edge_score)) (totalKey (x .edge_score)) _ refl
+    before-lex x x ∙ lex-level (turn (x .forced)) (turn (x .forced)) _ refl ∙ lex-level (totalKey (x .«edge_score»)) (totalKey (x .«edge_score»)) _ refl
     ∙ lex-level (x .i) (x .i) _ refl ∙ lex-level (x .j) (x .j) false refl
 
 -- the same in all that the order looks at
 pub record Alike (x y : PairScore) : Type 0 where
   pub forced : x .forced ≡ y .forced
-  pub edge_score : totalKey (x .edge_score) ≡ totalKey (y .edge_score)
+  pub edge-score : totalKey (x .«edge_score») ≡ totalKey (y .«edge_score»)
   pub i : x .i ≡ y .i
   pub j : x .j ≡ y .j
 
@@ -163,10 +163,10 @@ pub record Alike (x y : PairScore) : Type 0 where
 pub ranked-strict : (x y : PairScore) → isBefore x y ≡ false → isBefore y x ≡ false → Alike x y
 ranked-strict x y p q =
     let a = lex-neither (turn (x .forced)) (turn (y .forced)) _ _ (sym (before-lex x y) ∙ p) (sym (before-lex y x) ∙ q) in
-    let b = lex-neither (totalKey (y .edge_score)) (totalKey (x .edge_score)) _ _ (a .1) (a .2) in
+    let b = lex-neither (totalKey (y .«edge_score»)) (totalKey (x .«edge_score»)) _ _ (a .1) (a .2) in
     let c = lex-neither (x .i) (y .i) _ _ (b .1) (b .2) in
     let d = lex-neither (x .j) (y .j) false false (c .1) (c .2) in
-    record { forced = flags (x .forced) (y .forced) (a .0); edge_score = sym (b .0); i = c .0; j = d .0 }
+    record { forced = flags (x .forced) (y .forced) (a .0); «edge_score» = sym (b .0); i = c .0; j = d .0 }
   where
     differ : turn true ≡ turn false → ⊥
     differ e = omega arith

@@ -131,7 +131,7 @@ module _ (n : ℕ) (vs ss cs : Row) where
 
 -- ---- solver.rs: degenerate_fit
 unfoldable pub degenerateFit : Float → TwoAxisFit
-degenerateFit var = record { amp = nought; theta1 = nought; theta2 = halfPi; fit_std_error_theta1 = pi; fit_std_error_theta2 = pi; rms = sqrt binary32 (max var nought) }
+degenerateFit var = record { amp = nought; theta1 = nought; theta2 = halfPi; «fit_std_error_theta1» = pi; «fit_std_error_theta2» = pi; rms = sqrt binary32 (max var nought) }
 
 -- solver.rs: fit_with_seed refuses such a start
 unfoldable pub degenerate : Float → Float → Bool
@@ -144,8 +144,8 @@ assembled a e rms =
       amp = a .amp;
       theta1 = a .theta1;
       theta2 = a .theta2;
-      fit_std_error_theta1 = cond (a .swapped) (e .error2) (e .error1);
-      fit_std_error_theta2 = cond (a .swapped) (e .error1) (e .error2);
+      «fit_std_error_theta1» = cond (a .swapped) (e .error2) (e .error1);
+      «fit_std_error_theta2» = cond (a .swapped) (e .error1) (e .error2);
       rms = rms;
     }
 

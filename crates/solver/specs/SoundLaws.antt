@@ -74,17 +74,17 @@ pub record Sound (f : TwoAxisFit) : Type 0 where
   pub first : T (lt (f .theta1) pi)
   pub order : T (le (f .theta1) (f .theta2))
   pub second : T (lt (f .theta2) tau)
-  pub low1 : T (le nought (f .fit_std_error_theta1))
-  pub high1 : T (le (f .fit_std_error_theta1) pi)
-  pub low2 : T (le nought (f .fit_std_error_theta2))
-  pub high2 : T (le (f .fit_std_error_theta2) pi)
+  pub low1 : T (le nought (f .«fit_std_error_theta1»))
+  pub high1 : T (le (f .«fit_std_error_theta1») pi)
+  pub low2 : T (le nought (f .«fit_std_error_theta2»))
+  pub high2 : T (le (f .«fit_std_error_theta2») pi)
   pub size : T (isNan (f .amp) || le nought (f .amp))
 
 assembled-sound : (a : Axes) (e : Errors) (rms : Float) → InRange a → T (isNan (a .amp) || le nought (a .amp)) → Bounded e → Sound (assembled a e rms)
 unfolding assembled
 assembled-sound a e rms r s b = go (a .swapped)
   where
-    go : (w : Bool) → Sound (record { amp = a .amp; theta1 = a .theta1; theta2 = a .theta2; fit_std_error_theta1 = cond w (e .error2) (e .error1); fit_std_error_theta2 = cond w (e .error1) (e .error2); rms = rms })
+    go : (w : Bool) → Sound (record { amp = a .amp; theta1 = a .theta1; theta2 = a .theta2; «fit_std_error_theta1» = cond w (e .error2) (e .error1); «fit_std_error_theta2» = cond w (e .error1) (e .error2); rms = rms })
     go true = record { low = r .low; first = r .first; order = r .order; second = r .second; low1 = b .low2; high1 = b .high2; low2 = b .low1; high2 = b .high1; size = s }
     go false = record { low = r .low; first = r .first; order = r .order; second = r .second; low1 = b .low1; high1 = b .high1; low2 = b .low2; high2 = b .high2; size = s }
 
