@@ -155,7 +155,7 @@ before-irrefl x =
 -- the same in all that the order looks at
 pub record Alike (x y : PairScore) : Type 0 where
   pub forced : x .forced ≡ y .forced
-  pub edge-score : totalKey (x .«edge_score») ≡ totalKey (y .«edge_score»)
+  pub edge : totalKey (x .«edge_score») ≡ totalKey (y .«edge_score»)
   pub i : x .i ≡ y .i
   pub j : x .j ≡ y .j
 
@@ -166,7 +166,7 @@ ranked-strict x y p q =
     let b = lex-neither (totalKey (y .«edge_score»)) (totalKey (x .«edge_score»)) _ _ (a .1) (a .2) in
     let c = lex-neither (x .i) (y .i) _ _ (b .1) (b .2) in
     let d = lex-neither (x .j) (y .j) false false (c .1) (c .2) in
-    record { forced = flags (x .forced) (y .forced) (a .0); «edge_score» = sym (b .0); i = c .0; j = d .0 }
+    record { forced = flags (x .forced) (y .forced) (a .0); edge = sym (b .0); i = c .0; j = d .0 }
   where
     differ : turn true ≡ turn false → ⊥
     differ e = omega arith
