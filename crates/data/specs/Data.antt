@@ -1,9 +1,10 @@
 -- The pixels of a disk: disk_sector/data.rs, DiskData. Definitions only.
 -- The Rust's `vals` and `mean` are left out, since the search never reads them.
+use mathlib.Core.Path.{_≡_}
 use mathlib.Core.List.{List}
-use Prim.Native.Nat.{ℕ}
+use Prim.Native.Nat.{ℕ, _*_, _≤_}
 use lib.IntN.{pos}
-use lib.ListN.{length, getD}
+use lib.ListN.{length, getD, take, drop}
 use lib.Ieee.{Float, nan, binary32, ofInt}
 
 abbrev pub Row : Type 0
@@ -15,10 +16,6 @@ at r i = getD r i nan
 -- n as f32
 abbrev pub count : ℕ → Float
 count n = ofInt binary32 (pos n)
-
--- score.rs: MAX_TANH_PIXELS
-abbrev pub maxTanhPixels : ℕ
-maxTanhPixels = 320
 
 -- n pixels: their places, centred values and gradients, and the sum of the squared values
 pub record DiskData : Type 0 where
@@ -32,13 +29,41 @@ pub record DiskData : Type 0 where
 
 -- the disk of five slices; the first says how many pixels there are
 abbrev pub diskOf : Float → Row → Row → Row → Row → Row → DiskData
-diskOf «val_energy» xs ys «vals_centered» «grad_angles» «grad_weights» =
+diskOf val-energy xs ys vals-centered grad-angles grad-weights =
     record {
       n = length xs;
       xs = xs;
       ys = ys;
-      «vals_centered» = «vals_centered»;
-      «grad_angles» = «grad_angles»;
-      «grad_weights» = «grad_weights»;
-      «val_energy» = «val_energy»;
+      «vals_centered» = vals-centered;
+      «grad_angles» = grad-angles;
+      «grad_weights» = grad-weights;
+      «val_energy» = val-energy;
     }
+
+-- ---- what a function that is handed some slices of a disk says: P, of every disk that has them
+abbrev pub OfPixels : Float → Row → Row → Row → (DiskData → Type 0) → Type 0
+OfPixels val-energy xs ys vals-centered P = (angles weights : Row) → P (diskOf val-energy xs ys vals-centered angles weights)
+
+abbrev pub OfValues : Float → Row → (DiskData → Type 0) → Type 0
+OfValues val-energy vals-centered P =
+    (xs ys angles weights : Row) → length xs ≡ length vals-centered → P (diskOf val-energy xs ys vals-centered angles weights)
+
+abbrev pub OfGradients : Row → Row → (DiskData → Type 0) → Type 0
+OfGradients grad-angles grad-weights P =
+    (val-energy : Float) (xs ys vals : Row) → length xs ≡ length grad-angles → P (diskOf val-energy xs ys vals grad-angles grad-weights)
+
+-- ---- score.rs: MAX_TANH_PIXELS, the most pixels of a disk whose rows are kept
+abbrev pub maxTanhPixels : ℕ
+maxTanhPixels = 320
+
+-- five slices of one length, which is not above it
+pub record Sized (xs ys vals-centered grad-angles grad-weights : Row) : Type 0 where
+  pub most : length xs ≤ maxTanhPixels
+  pub y : length ys ≡ length xs
+  pub v : length vals-centered ≡ length xs
+  pub a : length grad-angles ≡ length xs
+  pub w : length grad-weights ≡ length xs
+
+-- row k of n pixels in a buffer whose rows stand that far apart
+abbrev pub rowOf : ℕ → Row → ℕ → Row
+rowOf n rows k = take n (drop (k * maxTanhPixels) rows)

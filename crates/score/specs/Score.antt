@@ -1,11 +1,10 @@
 -- The score of a pair of axes, the order of fits and the errors of a fit: disk_sector/score.rs. Definitions only.
--- `n` is the number of pixels; `xs` and `ys` are their places, `vals` their centred values (vals_centered).
-use mathlib.Core.Bool.{Bool, true, false, cond, not}
-use mathlib.Core.List.{List, [], _∷_}
+use mathlib.Core.Bool.{Bool, true, false, cond}
+use mathlib.Core.List.{[], _∷_}
 use Prim.Native.Nat.{ℕ}
 use lib.IntN.{pos}
-use lib.ListN.{getD, set}
-use lib.Ieee.{Float, nan, binary32, binary64, neg, lt, le, ofInt}
+use lib.ListN.{set}
+use lib.Ieee.{Float, binary32, binary64, neg, lt, le, ofInt}
 use Rattle.floats.specs.Ops.{_⊕_, _⊖_, _⊗_, _⊘_, _⊞_, _⊟_, _⊠_, _⧄_, lit, nought, one}
 use Rattle.floats.specs.Library.{abs, max, sqrt, narrow}
 use Rattle.elementary.specs.Elementary.{sinCos, tanh}
@@ -14,9 +13,10 @@ use Rattle.geometry.specs.Geometry.{validPair}
 use Rattle.solver_axes.specs.Canonical.{canonicalizeTrackingSwap}
 use Rattle.solver_elimination.specs.Solve.{Matrix, axisStdErrors}
 use Rattle.solver_elimination.specs.declared.Errors.{Errors}
+use Rattle.data.specs.Data.{Row, at, count, DiskData}
 use Rattle.candidates.specs.declared.CandidateSet.{CandidateSet}
 use Rattle.score_edges.specs.Edges.{edgeWeightTotal, rankedSum}
-use Rattle.loops.specs.Loops.{iter}
+use Rattle.loops.specs.Loops.{iter, tab}
 use Rattle.score.specs.declared.Fit.{Fit}
 use Rattle.score.specs.declared.Scored.{Scored}
 use Rattle.score.specs.declared.Scored.the-variants.{Found, Nothing}
@@ -24,38 +24,40 @@ use Rattle.score.specs.declared.Sums.{Sums}
 use Rattle.score.specs.declared.Slopes.{Slopes}
 use Rattle.score.specs.declared.Moments.{Moments}
 
-abbrev pub Row : Type 0
-Row = List Float
-
-abbrev pub at : Row → ℕ → Float
-at r i = getD r i nan
-
-abbrev pub count : ℕ → Float
-count n = ofInt binary32 (pos n)
+-- WIDTHS_PX: 0.35, 0.70, 1.40, 2.80
+abbrev pub widthsPx : Row
+widthsPx = lit 0x3eb3_3333 ∷ lit 0x3f33_3333 ∷ lit 0x3fb3_3333 ∷ lit 0x4033_3333 ∷ []
 
 -- 1e-9
 abbrev pub margin : Float
 margin = lit 0x3089_705f
+
+-- ---- the row of an axis, which score_pair has in its loop, and best_disk_fit and build_axis_rows of search.rs keep:
+-- d = -s * x + c * y, and then (d / width).tanh()
+abbrev pub rowAt : SinCos → Float → Row → Row → ℕ → Float
+rowAt t width xs ys p = tanh ((neg (t .s) ⊗ at xs p ⊕ t .c ⊗ at ys p) ⊘ width)
+
+unfoldable pub axisRow : ℕ → Row → Row → Float → Float → Row
+axisRow n xs ys theta width = tab (rowAt (sinCos theta) width xs ys) n
 
 -- ---- score_pair_cached
 abbrev pub zeros : Sums
 zeros = record { q = nought; q2 = nought; dot = nought }
 
 unfoldable pub summed : Row → Row → Row → ℕ → Sums → Sums
-summed vals h0 h1 p s =
+summed vals-centered h0 h1 p s =
     let q = at h0 p ⊗ at h1 p in
-    record { q = s .q ⊕ q; q2 = s .q2 ⊕ q ⊗ q; dot = s .dot ⊕ q ⊗ at vals p }
+    record { q = s .q ⊕ q; q2 = s .q2 ⊕ q ⊗ q; dot = s .dot ⊕ q ⊗ at vals-centered p }
 
 unfoldable pub pairSums : ℕ → Row → Row → Row → Sums
-pairSums n vals h0 h1 = iter (summed vals h0 h1) zeros n
+pairSums n vals-centered h0 h1 = iter (summed vals-centered h0 h1) zeros n
 
--- nInv is one over the number of pixels
 unfoldable pub fitOf : Float → Float → Float → Float → Float → Float → Float → Float → Fit
-fitOf energy nInv dot denom theta0 theta1 width edge-score =
+fitOf val-energy n-inv dot denom theta0 theta1 width edge-score =
     let amp = dot ⊘ denom in
-    let ssr = max (energy ⊖ dot ⊗ dot ⊘ denom) nought in
-    let rms = sqrt binary32 (ssr ⊗ nInv) in
-    let corr = abs dot ⊘ sqrt binary32 (denom ⊗ energy) in
+    let ssr = max (val-energy ⊖ dot ⊗ dot ⊘ denom) nought in
+    let rms = sqrt binary32 (ssr ⊗ n-inv) in
+    let corr = abs dot ⊘ sqrt binary32 (denom ⊗ val-energy) in
     let rel-rms = rms ⊘ max (abs amp) one in
     let a = canonicalizeTrackingSwap theta0 theta1 amp in
     record {
@@ -71,25 +73,31 @@ fitOf energy nInv dot denom theta0 theta1 width edge-score =
     }
 
 unfoldable pub scoredSums : Float → Float → Sums → Float → Float → Float → Float → Scored
-scoredSums energy nInv s theta0 theta1 width edge-score =
-    let denom = s .q2 ⊖ s .q ⊗ s .q ⊗ nInv in
-    cond (le denom margin) Nothing (Found (fitOf energy nInv (s .dot) denom theta0 theta1 width edge-score))
+scoredSums val-energy n-inv s theta0 theta1 width edge-score =
+    let denom = s .q2 ⊖ s .q ⊗ s .q ⊗ n-inv in
+    cond (le denom margin) Nothing (Found (fitOf val-energy n-inv (s .dot) denom theta0 theta1 width edge-score))
 
 -- a pair that is not allowed, and a disk without energy, answer nothing
-unfoldable pub scorePairCached : ℕ → Float → Row → Float → Float → Float → Float → Row → Row → Scored
-scorePairCached n energy vals theta0 theta1 width edge-score h0 h1 =
+unfoldable pub scorePairCached : DiskData → Float → Float → Float → Float → Row → Row → Scored
+scorePairCached D theta0 theta1 width edge-score h0 h1 =
+    let n-inv = one ⊘ count (D .n) in
     cond (validPair theta0 theta1)
-    (cond (le energy margin) Nothing (scoredSums energy (one ⊘ count n) (pairSums n vals h0 h1) theta0 theta1 width edge-score))
+    (cond (le (D .«val_energy») margin) Nothing
+    (scoredSums (D .«val_energy») n-inv (pairSums (D .n) (D .«vals_centered») h0 h1) theta0 theta1 width edge-score))
     Nothing
 
--- ---- precompute_edge_alignments: a disk without weight leaves the sums as they are, and its total counts as 0
-unfoldable pub alignedTotal : ℕ → Row → Float
-alignedTotal n weights = let total = edgeWeightTotal n weights in cond (le total margin) nought total
+-- ---- precompute_edge_alignments: what is returned, and what stands in `out` then
+pub record Alignments : Type 0 where
+  pub total : Float
+  pub out : Row
 
-unfoldable pub alignedSums : ℕ → Row → Row → CandidateSet → Row → Row
-alignedSums n angles weights s out =
-    cond (le (edgeWeightTotal n weights) margin) out
-    (iter (λ c l. set l c (rankedSum n angles weights (at (s .angles) c))) out (s .n))
+-- a disk without weight leaves the sums as they are, and its total counts as 0
+unfoldable pub precomputeEdgeAlignments : DiskData → CandidateSet → Row → Alignments
+precomputeEdgeAlignments D candidates out =
+    let total = edgeWeightTotal (D .n) (D .«grad_weights») in
+    let sum : ℕ → Float = λ c. rankedSum (D .n) (D .«grad_angles») (D .«grad_weights») (at (candidates .angles) c) in
+    cond (le total margin) (record { total = nought; out = out })
+    (record { total = total; out = iter (λ c l. set l c (sum c)) out (candidates .n) })
 
 -- ---- fit_is_better: the first key that tells decides
 abbrev pub lower : Float → Float → Bool → Bool
@@ -107,16 +115,16 @@ fitIsBetter a b =
     (lower (a .theta1) (b .theta1) (lt (a .theta2) (b .theta2))))))
 
 -- ---- fit_std_errors
--- a pixel's model, its two slopes and its error, in f32; invW is one over the width
+-- a pixel's model, its two slopes and its error, in f32
 unfoldable pub slopesAt : Float → Float → SinCos → SinCos → Float → Float → Float → Slopes
-slopesAt amp invW t1 t2 x y v =
-    let h1 = tanh ((neg (t1 .s) ⊗ x ⊕ t1 .c ⊗ y) ⊗ invW) in
-    let h2 = tanh ((neg (t2 .s) ⊗ x ⊕ t2 .c ⊗ y) ⊗ invW) in
+slopesAt amp inv-w t1 t2 x y v =
+    let h1 = tanh ((neg (t1 .s) ⊗ x ⊕ t1 .c ⊗ y) ⊗ inv-w) in
+    let h2 = tanh ((neg (t2 .s) ⊗ x ⊕ t2 .c ⊗ y) ⊗ inv-w) in
     let q = h1 ⊗ h2 in
     record {
       q = q;
-      j1 = amp ⊗ (one ⊖ h1 ⊗ h1) ⊗ invW ⊗ (neg (t1 .c) ⊗ x ⊖ t1 .s ⊗ y) ⊗ h2;
-      j2 = amp ⊗ h1 ⊗ (one ⊖ h2 ⊗ h2) ⊗ invW ⊗ (neg (t2 .c) ⊗ x ⊖ t2 .s ⊗ y);
+      j1 = amp ⊗ (one ⊖ h1 ⊗ h1) ⊗ inv-w ⊗ (neg (t1 .c) ⊗ x ⊖ t1 .s ⊗ y) ⊗ h2;
+      j2 = amp ⊗ h1 ⊗ (one ⊖ h2 ⊗ h2) ⊗ inv-w ⊗ (neg (t2 .c) ⊗ x ⊖ t2 .s ⊗ y);
       e = v ⊖ amp ⊗ q;
     }
 
@@ -129,9 +137,9 @@ noMoments =
       sj2 = nought;
       sqj1 = nought;
       sqj2 = nought;
-      sj11 = nought;
-      sj12 = nought;
-      sj22 = nought;
+      sj1j1 = nought;
+      sj1j2 = nought;
+      sj2j2 = nought;
       see = nought;
     }
 
@@ -145,29 +153,34 @@ gathered t m =
       sj2 = m .sj2 ⊞ t .j2;
       sqj1 = m .sqj1 ⊞ t .q ⊠ t .j1;
       sqj2 = m .sqj2 ⊞ t .q ⊠ t .j2;
-      sj11 = m .sj11 ⊞ t .j1 ⊠ t .j1;
-      sj12 = m .sj12 ⊞ t .j1 ⊠ t .j2;
-      sj22 = m .sj22 ⊞ t .j2 ⊠ t .j2;
+      sj1j1 = m .sj1j1 ⊞ t .j1 ⊠ t .j1;
+      sj1j2 = m .sj1j2 ⊞ t .j1 ⊠ t .j2;
+      sj2j2 = m .sj2j2 ⊞ t .j2 ⊠ t .j2;
       see = m .see ⊞ t .e ⊠ t .e;
     }
 
 unfoldable pub momentsOf : ℕ → Row → Row → Row → Fit → Moments
-momentsOf n xs ys vals f =
-    iter (λ p. gathered (slopesAt (f .amp) (one ⊘ f .width) (sinCos (f .theta1)) (sinCos (f .theta2)) (at xs p) (at ys p) (at vals p))) noMoments n
+momentsOf n xs ys vals-centered fit =
+    let slopes = slopesAt (fit .amp) (one ⊘ fit .width) (sinCos (fit .theta1)) (sinCos (fit .theta2)) in
+    iter (λ p. gathered (slopes (at xs p) (at ys p) (at vals-centered p))) noMoments n
 
 abbrev pub count64 : ℕ → Float
 count64 n = ofInt binary64 (pos n)
 
--- the residual with the least-squares offset: see - n * a * a, a being amp * sq / n
+-- the residual with the least-squares offset: a_qbar is amp * sq / n
 unfoldable pub residual : ℕ → Float → Moments → Float
-residual n amp m = let a = amp ⊠ m .sq ⧄ count64 n in max (m .see ⊟ count64 n ⊠ a ⊠ a) nought
+residual n amp m =
+    let a-qbar = amp ⊠ m .sq ⧄ count64 n in
+    max (m .see ⊟ count64 n ⊠ a-qbar ⊠ a-qbar) nought
 
 unfoldable pub normal : ℕ → Moments → Matrix
 normal n m =
     (narrow (count64 n) ∷ narrow (m .sq) ∷ narrow (m .sj1) ∷ narrow (m .sj2) ∷ []) ∷
     (narrow (m .sq) ∷ narrow (m .sqq) ∷ narrow (m .sqj1) ∷ narrow (m .sqj2) ∷ []) ∷
-    (narrow (m .sj1) ∷ narrow (m .sqj1) ∷ narrow (m .sj11) ∷ narrow (m .sj12) ∷ []) ∷
-    (narrow (m .sj2) ∷ narrow (m .sqj2) ∷ narrow (m .sj12) ∷ narrow (m .sj22) ∷ []) ∷ []
+    (narrow (m .sj1) ∷ narrow (m .sqj1) ∷ narrow (m .sj1j1) ∷ narrow (m .sj1j2) ∷ []) ∷
+    (narrow (m .sj2) ∷ narrow (m .sqj2) ∷ narrow (m .sj1j2) ∷ narrow (m .sj2j2) ∷ []) ∷ []
 
-unfoldable pub fitStdErrors : ℕ → Row → Row → Row → Fit → Errors
-fitStdErrors n xs ys vals f = let m = momentsOf n xs ys vals f in axisStdErrors (normal n m) (narrow (residual n (f .amp) m)) n
+unfoldable pub fitStdErrors : DiskData → Fit → Errors
+fitStdErrors D fit =
+    let m = momentsOf (D .n) (D .xs) (D .ys) (D .«vals_centered») fit in
+    axisStdErrors (normal (D .n) m) (narrow (residual (D .n) (fit .amp) m)) (D .n)
