@@ -23,6 +23,10 @@ part-after {A} l ys b b′ m n h e i =
     ∙ rw z at (drop-append-add (take b l ++ ys) (drop m (drop b l)) d)
     ∙ ap (drop d) (drop-drop m b l) ∙ drop-drop d (b + m) l ∙ ap (λ (k : ℕ). drop k l) y)
 
+-- the buffer after row k was lent and came back as r
+abbrev pub lent : ℕ → ℕ → Row → Row → Row
+lent n k r rows = take (k * maxTanhPixels) rows ++ (r ++ drop n (drop (k * maxTanhPixels) rows))
+
 -- row k is r now, and the others are as they were
 pub record Wrote (n k : ℕ) (r rows rows′ : Row) : Type 0 where
   pub here : rowOf n rows′ k ≡ r
@@ -30,7 +34,7 @@ pub record Wrote (n k : ℕ) (r rows rows′ : Row) : Type 0 where
 
 pub wrote :
     (n k : ℕ) (r rows : Row) → n ≤ maxTanhPixels → k * maxTanhPixels + n ≤ length rows → length r ≡ n →
-    Wrote n k r rows (take (k * maxTanhPixels) rows ++ (r ++ drop n (drop (k * maxTanhPixels) rows)))
+    Wrote n k r rows (lent n k r rows)
 wrote n k r rows m l e =
     record {
       here = part-same rows r (drop n (drop (k * maxTanhPixels) rows)) (k * maxTanhPixels) n (omega arith) e;
@@ -43,7 +47,7 @@ wrote n k r rows m l e =
     -- before row k, or behind it
     go :
         (j : ℕ) → (j ≡ k → ⊥) → (b : Bool) → (T b → j < k) → (T (not b) → k ≤ j) →
-        rowOf n (take (k * maxTanhPixels) rows ++ (r ++ drop n (drop (k * maxTanhPixels) rows))) j ≡ rowOf n rows j
+        rowOf n (lent n k r rows) j ≡ rowOf n rows j
     go j o true u v =
         let h = u tt in
         part-kept rows (r ++ drop n (drop (k * maxTanhPixels) rows)) (k * maxTanhPixels) (j * maxTanhPixels) n (omega arith) (omega arith)
