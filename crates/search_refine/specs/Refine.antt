@@ -1,14 +1,15 @@
 -- The refinement of a fit: disk_sector/search.rs, build_axis_rows and refine_fit_cached. Definitions only.
 -- The definition keeps no rows: each neighbour is scored from rows made of the best's own axes at that moment.
 use mathlib.Core.Bool.{Bool, cond, _&&_}
-use mathlib.Core.List.{List, [], _∷_}
+use mathlib.Core.List.{[], _∷_}
 use Prim.Native.Nat.{ℕ, _+_}
-use lib.ListN.{length, getD}
+use lib.ListN.{getD}
 use lib.Ieee.{Float, nan, neg, eq}
 use Rattle.floats.specs.Ops.{_⊕_, _⊗_, _⊘_, lit, nought}
 use Rattle.floats.specs.Library.{toRadians}
 use Rattle.elementary.specs.Elementary.{sinCos, tanh}
 use Rattle.elementary.specs.declared.SinCos.{SinCos}
+use Rattle.data.specs.Data.{Row, at, DiskData}
 use Rattle.candidates.specs.Candidates.{combineEdgePair}
 use Rattle.score_edges.specs.Edges.{edgeWeightTotal, refinedSum}
 use Rattle.loops.specs.Loops.{iter, tab}
@@ -17,27 +18,6 @@ use Rattle.score.specs.declared.Fit.{Fit}
 use Rattle.score.specs.declared.Scored.{Scored}
 use Rattle.score.specs.declared.Scored.the-variants.{Found, Nothing}
 use Rattle.search_refine.specs.declared.Refined.{Refined}
-
-abbrev pub Row : Type 0
-Row = List Float
-
-abbrev pub at : Row → ℕ → Float
-at r i = getD r i nan
-
--- DiskData: n pixels with their places, centred values (vals_centered), gradients (grad_angles, grad_weights) and val_energy
-pub record Disk : Type 0 where
-  pub n : ℕ
-  pub energy : Float
-  pub xs : Row
-  pub ys : Row
-  pub vals : Row
-  pub angles : Row
-  pub weights : Row
-
--- the disk of five slices; the first says how many pixels there are
-abbrev pub diskOf : Float → Row → Row → Row → Row → Row → Disk
-diskOf energy xs ys vals angles weights =
-    record { n = length xs; energy = energy; xs = xs; ys = ys; vals = vals; angles = angles; weights = weights }
 
 -- ---- build_axis_rows
 -- d = -s * x + c * y, and then (d / width).tanh()
@@ -62,15 +42,15 @@ unfoldable pub judged : Scored → Refined → Refined
 judged Nothing s = record { best = s .best; trials = s .trials + 1 }
 judged (Found f) s = record { best = cond (fitIsBetter f (s .best)) f (s .best); trials = s .trials + 1 }
 
-module _ (D : Disk) (total : Float) (offs : Row) where
+module _ (D : DiskData) (total : Float) (offs : Row) where
   -- the neighbour (i0, i1) of b
   unfoldable pub neighbour : Fit → ℕ → ℕ → Scored
   neighbour b i0 i1 =
       let t1 = b .theta1 ⊕ at offs i0 in
       let t2 = b .theta2 ⊕ at offs i1 in
-      let e1 = refinedSum (D .n) (D .angles) (D .weights) t1 in
-      let e2 = refinedSum (D .n) (D .angles) (D .weights) t2 in
-      scorePairCached (D .n) (D .energy) (D .vals) t1 t2 (b .width) (combineEdgePair e1 e2 total)
+      let e1 = refinedSum (D .n) (D .«grad_angles») (D .«grad_weights») t1 in
+      let e2 = refinedSum (D .n) (D .«grad_angles») (D .«grad_weights») t2 in
+      scorePairCached (D .n) (D .«val_energy») (D .«vals_centered») t1 t2 (b .width) (combineEdgePair e1 e2 total)
       (axisRow (D .n) (D .xs) (D .ys) t1 (b .width))
       (axisRow (D .n) (D .xs) (D .ys) t2 (b .width))
 
@@ -84,7 +64,7 @@ module _ (D : Disk) (total : Float) (offs : Row) where
   unfoldable pub around : Refined → Refined
   around s = iter (λ i0 s. iter (tried i0) s 3) s 3
 
-unfoldable pub refineFit : Disk → Fit → Refined
+unfoldable pub refineFit : DiskData → Fit → Refined
 refineFit D seed =
-    let total = edgeWeightTotal (D .n) (D .weights) in
+    let total = edgeWeightTotal (D .n) (D .«grad_weights») in
     iter (λ k s. around D total (offsetsBy (stepOf k)) s) (record { best = seed; trials = 0 }) 3

@@ -29,7 +29,8 @@ use Rattle.score.specs.declared.Fit.{Fit}
 use Rattle.score.specs.declared.Scored.{Scored}
 use Rattle.score.specs.declared.Scored.the-variants.{Found, Nothing}
 use Rattle.search_refine.specs.declared.Refined.{Refined}
-use Rattle.search_refine.specs.Refine.{Row, at, Disk, diskOf, axisRow, stepOf, offsetsBy, isCentre, judged, neighbour, scored, tried, around, refineFit}
+use Rattle.data.specs.Data.{Row, at, DiskData, diskOf}
+use Rattle.search_refine.specs.Refine.{axisRow, stepOf, offsetsBy, isCentre, judged, neighbour, scored, tried, around, refineFit}
 
 -- at most 320 pixels, all slices as long as the first, and a row of scratch
 pub record Sized (xs ys angles weights terms : Row) : Type 0 where
@@ -232,11 +233,11 @@ pub one-more : (a : Scored) (s r : Refined) → r ≡ judged a s → r .trials �
 one-more a s r e = ap (λ (q : Refined). q .trials) e ∙ judged-trials a s
 
 -- the centre changes nothing
-pub tried-centre : (D : Disk) (total : Float) (offs : Row) (i0 i1 : ℕ) (s : Refined) → isCentre (at offs i0) (at offs i1) ≡ true → s ≡ tried D total offs i0 i1 s
+pub tried-centre : (D : DiskData) (total : Float) (offs : Row) (i0 i1 : ℕ) (s : Refined) → isCentre (at offs i0) (at offs i1) ≡ true → s ≡ tried D total offs i0 i1 s
 unfolding tried
 tried-centre D total offs i0 i1 s e = rw e
 
-pub tried-other : (D : Disk) (total : Float) (offs : Row) (i0 i1 : ℕ) (s t : Refined) → isCentre (at offs i0) (at offs i1) ≡ false → t ≡ scored D total offs i0 i1 s → t ≡ tried D total offs i0 i1 s
+pub tried-other : (D : DiskData) (total : Float) (offs : Row) (i0 i1 : ℕ) (s t : Refined) → isCentre (at offs i0) (at offs i1) ≡ false → t ≡ scored D total offs i0 i1 s → t ≡ tried D total offs i0 i1 s
 unfolding tried
 tried-other D total offs i0 i1 s t e h = rw e h
 
@@ -252,7 +253,7 @@ once offs i0 i1 = cond (isCentre (at offs i0) (at offs i1)) 0 1
 abbrev inRow : Row → ℕ → ℕ
 inRow offs i0 = once offs i0 0 + once offs i0 1 + once offs i0 2
 
-module _ (D : Disk) (total : Float) (offs : Row) where
+module _ (D : DiskData) (total : Float) (offs : Row) where
   tried-trials : (i0 i1 : ℕ) (s : Refined) → (tried D total offs i0 i1 s) .trials ≡ s .trials + once offs i0 i1
   unfolding tried scored
   tried-trials i0 i1 s = by (isCentre (at offs i0) (at offs i1))
@@ -277,10 +278,10 @@ eight : (inStep 0 ≡ 8) × (inStep 1 ≡ 8) × (inStep 2 ≡ 8)
 unfolding stepOf toRadians isCentre eq mul neg ofBits
 eight = (refl, refl, refl)
 
-pub trials-are : (D : Disk) (seed : Fit) → (refineFit D seed) .trials ≡ 24
+pub trials-are : (D : DiskData) (seed : Fit) → (refineFit D seed) .trials ≡ 24
 unfolding refineFit iter
 trials-are D seed =
-    let total = edgeWeightTotal (D .n) (D .weights) in
+    let total = edgeWeightTotal (D .n) (D .«grad_weights») in
     let by : (k : ℕ) (s : Refined) → inStep k ≡ 8 → (around D total (offsetsBy (stepOf k)) s) .trials ≡ s .trials + 8 = λ k s e. around-trials D total (offsetsBy (stepOf k)) s ∙ ap (_+_ (s .trials)) e in
     by 2 _ (eight .2) ∙ ap (λ t. t + 8) (by 1 _ (eight .1) ∙ ap (λ t. t + 8) (by 0 _ (eight .0)))
 
@@ -295,11 +296,11 @@ judged-keeps P (Found f) s h p = by (fitIsBetter f (s .best))
     by false = p
 
 -- ---- the best keeps its width
-best-width : (D : Disk) (total : Float) (offs : Row) (i0 i1 : ℕ) (s : Refined) → (scored D total offs i0 i1 s) .best .width ≡ s .best .width
+best-width : (D : DiskData) (total : Float) (offs : Row) (i0 i1 : ℕ) (s : Refined) → (scored D total offs i0 i1 s) .best .width ≡ s .best .width
 unfolding scored neighbour
 best-width D total offs i0 i1 s = judged-keeps (λ f. f .width ≡ s .best .width) (neighbour D total offs (s .best) i0 i1) s (λ f e. scored-width _ _ _ _ _ _ _ _ _ f e) refl
 
 -- so the slots stay the best's own
-pub holds-on : {xs ys angles weights k1 r1 e1 k2 r2 e2 : Row} (D : Disk) (total : Float) (offs : Row) (i0 i1 : ℕ) (s r : Refined) → r ≡ scored D total offs i0 i1 s → Kept xs ys angles weights (s .best .width) k1 r1 e1 → Kept xs ys angles weights (s .best .width) k2 r2 e2 → Holds xs ys angles weights (r .best .width) k1 r1 e1 k2 r2 e2
+pub holds-on : {xs ys angles weights k1 r1 e1 k2 r2 e2 : Row} (D : DiskData) (total : Float) (offs : Row) (i0 i1 : ℕ) (s r : Refined) → r ≡ scored D total offs i0 i1 s → Kept xs ys angles weights (s .best .width) k1 r1 e1 → Kept xs ys angles weights (s .best .width) k2 r2 e2 → Holds xs ys angles weights (r .best .width) k1 r1 e1 k2 r2 e2
 holds-on {xs} {ys} {angles} {weights} {k1} {r1} {e1} {k2} {r2} {e2} D total offs i0 i1 s r e one two =
     subst (λ (w : Float). Holds xs ys angles weights w k1 r1 e1 k2 r2 e2) (sym (ap (λ (q : Refined). q .best .width) e ∙ best-width D total offs i0 i1 s)) (record { one = one; two = two })

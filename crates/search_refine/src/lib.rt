@@ -10,7 +10,7 @@ ghost use lib.ListN.{length};
 ghost use lib.Ieee.{lt};
 ghost use Rattle.floats.specs.Ops.{nought};
 ghost use Rattle.search_refine.specs.Refine as R;
-ghost use Rattle.search_refine.specs.Refine.{diskOf};
+ghost use Rattle.data.specs.Data.{diskOf};
 ghost use Rattle.search_refine.specs.RefineLaws.{Sized, Room, Rows, Stands, Filled, Kept, Holds, heldOf};
 
 // The best so far, and how many neighbours were scored.

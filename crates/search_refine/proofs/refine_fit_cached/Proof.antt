@@ -1,5 +1,5 @@
 -- Three steps of the search, from empty slots; the weights are as many as the pixels, and the number of trials is a law of the definition. Assumes nothing.
-use Rattle.search_refine.specs.Refine.{diskOf}
+use Rattle.data.specs.Data.{diskOf}
 use Rattle.search_refine.specs.RefineLaws.{Sized, Holds, kept-none, refined-is, trials-are}
 use Rattle.search_refine.specs.Refine.{around, offsetsBy, stepOf}
 use Rattle.search_refine.specs.declared.Refined.{Refined}

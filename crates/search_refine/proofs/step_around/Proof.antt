@@ -1,5 +1,5 @@
 -- Two nested loops, each the definition's own; the slots keep what their keys say. Assumes nothing.
-use Rattle.search_refine.specs.Refine.{diskOf}
+use Rattle.data.specs.Data.{diskOf}
 use Rattle.search_refine.specs.RefineLaws.{Sized, Holds, tried-centre, tried-other}
 use Rattle.search_refine.specs.Refine.{tried, around}
 use Rattle.loops.specs.IterLaws.{iter-zero, iter-more}

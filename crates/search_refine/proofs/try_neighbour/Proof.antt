@@ -1,5 +1,5 @@
 -- Both rows stand in their slots by then, so that the held score is the neighbour's; its width is the best's own, so that the slots stay right. Assumes nothing.
-use Rattle.search_refine.specs.Refine.{diskOf}
+use Rattle.data.specs.Data.{diskOf}
 use Rattle.search_refine.specs.RefineLaws.{scored-held, holds-on, one-more}
 use native.Mathlib.Omega.{arith}
 use mathlib.Core.Path.{_∙_}
