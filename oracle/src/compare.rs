@@ -126,7 +126,9 @@ fn next_answer(output: &mut impl BufRead) -> io::Result<Option<Vec<u8>>> {
 
 /// True where nothing differs and the program ended well.
 pub fn compare(program: &str, lines: Lines, list: &List, served: &Served) -> io::Result<bool> {
-    let mut child = Command::new(program).stdin(Stdio::piped()).stdout(Stdio::piped()).spawn()?;
+    let mut words = program.split_whitespace();
+    let mut command = Command::new(words.next().unwrap_or_default());
+    let mut child = command.args(words).stdin(Stdio::piped()).stdout(Stdio::piped()).spawn()?;
     let writer = feed(list.clone(), &mut child);
     let mut output = BufReader::with_capacity(1 << 16, child.stdout.take().expect("a pipe"));
     let (mut oracle, mut tally) = (Oracle::new(lines, served), Tally { differences: 0 });

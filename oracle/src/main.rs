@@ -1,5 +1,6 @@
 //! The oracle: answers frame lines and function lines by the Rust text, makes such lines, and compares programs.
 
+#[cfg(timed)]
 mod bench;
 mod both;
 mod checked;
@@ -80,11 +81,15 @@ fn run(words: &[String]) -> Result<bool, String> {
             compare::paths(options.lines()?, &options.list()?, &options.served());
             Ok(true)
         }
+        #[cfg(timed)]
         "once" if rest.is_empty() => answer_lines(bench::once).map_err(say).map(|()| true),
+        #[cfg(timed)]
         "bench" => {
             let options = Options::read(rest)?;
             bench::bench(&options.list()?, options.find("--program"))
         }
+        #[cfg(not(timed))]
+        "once" | "bench" => Err("built without the library, which is for x86-64, so nothing can be timed here".to_string()),
         _ => Err(USAGE.to_string()),
     }
 }

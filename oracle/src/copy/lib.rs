@@ -9,6 +9,8 @@ pub mod count;
 pub mod given;
 pub mod orientation;
 #[cfg(functions = "ours")]
+mod five;
+#[cfg(functions = "ours")]
 pub mod ours;
 
 pub use orientation::disk_sector::inside as disk;
