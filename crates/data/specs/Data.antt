@@ -1,21 +1,10 @@
 -- The pixels of a disk: disk_sector/data.rs, DiskData. Definitions only.
 -- The Rust's `vals` and `mean` are left out, since the search never reads them.
 use mathlib.Core.Path.{_≡_}
-use mathlib.Core.List.{List}
 use Prim.Native.Nat.{ℕ, _*_, _≤_}
-use lib.IntN.{pos}
-use lib.ListN.{length, getD, take, drop}
-use lib.Ieee.{Float, nan, binary32, ofInt}
-
-abbrev pub Row : Type 0
-Row = List Float
-
-abbrev pub at : Row → ℕ → Float
-at r i = getD r i nan
-
--- n as f32
-abbrev pub count : ℕ → Float
-count n = ofInt binary32 (pos n)
+use lib.ListN.{length, take, drop}
+use lib.Ieee.{Float}
+use Rattle.floats.specs.Rows.{Row}
 
 -- n pixels: their places, centred values and gradients, and the sum of the squared values
 pub record DiskData : Type 0 where

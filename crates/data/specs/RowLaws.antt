@@ -8,7 +8,8 @@ use lib.Dec.{T, ltb, ltb→lt, nltb→le}
 use lib.ListN.{length, take, drop, length-append, length-take}
 use lib.Seq.{drop-append-add, drop-drop}
 use Rattle.loops.specs.TabLaws.{part-kept, part-same}
-use Rattle.data.specs.Data.{Row, maxTanhPixels, rowOf}
+use Rattle.floats.specs.Rows.{Row}
+use Rattle.data.specs.Data.{maxTanhPixels, rowOf}
 
 -- a part behind one that was lent and came back
 part-after :

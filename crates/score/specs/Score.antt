@@ -13,7 +13,8 @@ use Rattle.geometry.specs.Geometry.{validPair}
 use Rattle.solver_axes.specs.Canonical.{canonicalizeTrackingSwap}
 use Rattle.solver_elimination.specs.Solve.{Matrix, axisStdErrors}
 use Rattle.solver_elimination.specs.declared.Errors.{Errors}
-use Rattle.data.specs.Data.{Row, at, count, DiskData}
+use Rattle.floats.specs.Rows.{Row, at, count}
+use Rattle.data.specs.Data.{DiskData}
 use Rattle.candidates.specs.declared.CandidateSet.{CandidateSet}
 use Rattle.score_edges.specs.Edges.{edgeWeightTotal, rankedSum}
 use Rattle.loops.specs.Loops.{iter, tab}

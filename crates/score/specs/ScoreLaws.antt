@@ -13,7 +13,8 @@ use Rattle.floats.specs.Library.{narrow}
 use Rattle.geometry.specs.Geometry.{validPair}
 use Rattle.solver_axes.specs.CanonicalLaws.{canonical-range, canonical-amp}
 use Rattle.solver_elimination.specs.SolveLaws.{Bounded, errors-bounded}
-use Rattle.data.specs.Data.{Row, at, count, DiskData, diskOf}
+use Rattle.floats.specs.Rows.{Row, at, count}
+use Rattle.data.specs.Data.{DiskData, diskOf}
 use Rattle.candidates.specs.declared.CandidateSet.{CandidateSet}
 use Rattle.score_edges.specs.Edges.{edgeWeightTotal, rankedSum}
 use Rattle.loops.specs.TabLaws.{Stores}

@@ -8,7 +8,7 @@ use Rattle.floats.specs.Library.{toRadians}
 use Rattle.elementary.specs.Elementary.{exp}
 use Rattle.geometry.specs.Geometry.{signedLineDelta}
 use Rattle.loops.specs.Loops.{iter}
-use Rattle.data.specs.Data.{Row, at}
+use Rattle.floats.specs.Rows.{Row, at}
 
 -- sigma = 4.0_f32.to_radians()
 abbrev pub sigma : Float

@@ -15,7 +15,7 @@ use Rattle.geometry.specs.Geometry.{signedLineDelta}
 use Rattle.loops.specs.Loops.{iter, tab}
 use Rattle.loops.specs.IterLaws.{iter-same, pick-false}
 use Rattle.loops.specs.TabLaws.{tab-length, tab-at, tab-same}
-use Rattle.data.specs.Data.{Row, at}
+use Rattle.floats.specs.Rows.{Row, at}
 use Rattle.score_edges.specs.Edges.{sigma, inv2Sigma2, orderedSum}
 use Rattle.score_edges.specs.NearLaws.{AllNear, nearTerm, farTerm, nearTerms, near-delta}
 

@@ -20,7 +20,7 @@ use Rattle.floats.specs.RemLaws.{P, W, pi-val, tau-val, pi-rep, pi-nn}
 use Rattle.remainders.specs.RemainderLaws.{same-val, rem-is}
 use Rattle.geometry.specs.Geometry.{signedLineDelta}
 use Rattle.loops.specs.Loops.{tab}
-use Rattle.data.specs.Data.{Row, at}
+use Rattle.floats.specs.Rows.{Row, at}
 
 -- ---- the code's steps, for x = a - b + PI/2: whether it lies between -TAU and TAU, PI less or more, and the difference itself
 unfoldable pub farCount : Float → ℕ

@@ -14,7 +14,8 @@ use Rattle.floats.specs.Library.{toRadians}
 use Rattle.loops.specs.Loops.{iter, tab}
 use Rattle.loops.specs.IterLaws.{pick-true}
 use Rattle.loops.specs.TabLaws.{tab-at, tab-length}
-use Rattle.data.specs.Data.{Row, at, DiskData, diskOf, maxTanhPixels}
+use Rattle.floats.specs.Rows.{Row, at}
+use Rattle.data.specs.Data.{DiskData, diskOf, maxTanhPixels}
 use Rattle.score_edges.specs.Edges.{edgeWeightTotal}
 use Rattle.score.specs.Score.{fitIsBetter}
 use Rattle.score.specs.ScoreLaws.{scored-width}

@@ -7,7 +7,8 @@ use lib.ListN.{length, replicate}
 use lib.Ieee.{Float, lt}
 use Rattle.floats.specs.Ops.{_⊕_, nought}
 use Rattle.loops.specs.Loops.{tab}
-use Rattle.data.specs.Data.{Row, at, DiskData, maxTanhPixels, rowOf}
+use Rattle.floats.specs.Rows.{Row, at}
+use Rattle.data.specs.Data.{DiskData, maxTanhPixels, rowOf}
 use Rattle.candidates.specs.Candidates.{combineEdgePair}
 use Rattle.score_edges.specs.Edges.{refinedSum}
 use Rattle.score.specs.Score.{axisRow, scorePairCached}

@@ -19,7 +19,8 @@ use Rattle.floats.specs.FiniteLaws.{of-true}
 use Rattle.remainders.specs.RemainderLaws.{same-val}
 use Rattle.loops.specs.Loops.{tab}
 use Rattle.loops.specs.TabLaws.{Stores, tab-same, part-length, stores-all}
-use Rattle.data.specs.Data.{Row, at, DiskData, diskOf, maxTanhPixels, rowOf}
+use Rattle.floats.specs.Rows.{Row, at}
+use Rattle.data.specs.Data.{DiskData, diskOf, maxTanhPixels, rowOf}
 use Rattle.data.specs.RowLaws.{lent, wrote}
 use Rattle.score_edges.specs.Edges.{refinedSum}
 use Rattle.score.specs.Score.{axisRow}

@@ -5,7 +5,7 @@ use native.Mathlib.Omega.{arith}
 use lib.ListN.{length}
 use Rattle.loops.specs.IterLaws.{iter-zero, iter-more}
 use Rattle.loops.specs.Loops.{iter}
-use Rattle.data.specs.Data.{at}
+use Rattle.floats.specs.Rows.{at}
 use Rattle.score.specs.Score as S
 use borrow.Author.Needs.{needs}
 use Rattle.score.proofs.moments_of.Statement.{statement}

@@ -4,7 +4,7 @@ use Prim.Native.Nat.{_≤_, _-_}
 use native.Mathlib.Omega.{arith}
 use lib.ListN.{length}
 use Rattle.loops.specs.TabLaws.{Stores, stores-none, stores-next}
-use Rattle.data.specs.Data.{at}
+use Rattle.floats.specs.Rows.{at}
 use Rattle.score_edges.specs.Edges.{rankedSum}
 use Rattle.score.specs.ScoreLaws.{aligned-none, aligned-all}
 use borrow.Author.Needs.{needs}

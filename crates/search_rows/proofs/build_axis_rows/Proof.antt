@@ -5,7 +5,7 @@ use native.Mathlib.Omega.{arith}
 use lib.ListN.{length}
 use Rattle.floats.specs.Ops.{_⊕_}
 use Rattle.loops.specs.TabLaws.{Stores, stores-none, stores-next}
-use Rattle.data.specs.Data.{at}
+use Rattle.floats.specs.Rows.{at}
 use Rattle.score_edges.specs.Edges.{refinedSum}
 use Rattle.search_rows.specs.RowsLaws.{Built, built-none, built-more, built-all}
 use borrow.Author.Needs.{needs}
