@@ -18,40 +18,40 @@ pub record DiskData : Type 0 where
 
 -- the disk of five slices; the first says how many pixels there are
 abbrev pub diskOf : Float → Row → Row → Row → Row → Row → DiskData
-diskOf val-energy xs ys vals-centered grad-angles grad-weights =
+diskOf valEnergy xs ys valsCentered gradAngles gradWeights =
     record {
       n = length xs;
       xs = xs;
       ys = ys;
-      «vals_centered» = vals-centered;
-      «grad_angles» = grad-angles;
-      «grad_weights» = grad-weights;
-      «val_energy» = val-energy;
+      «vals_centered» = valsCentered;
+      «grad_angles» = gradAngles;
+      «grad_weights» = gradWeights;
+      «val_energy» = valEnergy;
     }
 
 -- ---- what a function that is handed some slices of a disk says: P, of every disk that has them
 abbrev pub OfPixels : Float → Row → Row → Row → (DiskData → Type 0) → Type 0
-OfPixels val-energy xs ys vals-centered P = (angles weights : Row) → P (diskOf val-energy xs ys vals-centered angles weights)
+OfPixels valEnergy xs ys valsCentered P = (angles weights : Row) → P (diskOf valEnergy xs ys valsCentered angles weights)
 
 abbrev pub OfValues : Float → Row → (DiskData → Type 0) → Type 0
-OfValues val-energy vals-centered P =
-    (xs ys angles weights : Row) → length xs ≡ length vals-centered → P (diskOf val-energy xs ys vals-centered angles weights)
+OfValues valEnergy valsCentered P =
+    (xs ys angles weights : Row) → length xs ≡ length valsCentered → P (diskOf valEnergy xs ys valsCentered angles weights)
 
 abbrev pub OfGradients : Row → Row → (DiskData → Type 0) → Type 0
-OfGradients grad-angles grad-weights P =
-    (val-energy : Float) (xs ys vals : Row) → length xs ≡ length grad-angles → P (diskOf val-energy xs ys vals grad-angles grad-weights)
+OfGradients gradAngles gradWeights P =
+    (valEnergy : Float) (xs ys vals : Row) → length xs ≡ length gradAngles → P (diskOf valEnergy xs ys vals gradAngles gradWeights)
 
 -- ---- score.rs: MAX_TANH_PIXELS, the most pixels of a disk whose rows are kept
 abbrev pub maxTanhPixels : ℕ
 maxTanhPixels = 320
 
 -- five slices of one length, which is not above it
-pub record Sized (xs ys vals-centered grad-angles grad-weights : Row) : Type 0 where
+pub record Sized (xs ys valsCentered gradAngles gradWeights : Row) : Type 0 where
   pub most : length xs ≤ maxTanhPixels
   pub y : length ys ≡ length xs
-  pub v : length vals-centered ≡ length xs
-  pub a : length grad-angles ≡ length xs
-  pub w : length grad-weights ≡ length xs
+  pub v : length valsCentered ≡ length xs
+  pub a : length gradAngles ≡ length xs
+  pub w : length gradWeights ≡ length xs
 
 -- row k of n pixels in a buffer whose rows stand that far apart
 abbrev pub rowOf : ℕ → Row → ℕ → Row

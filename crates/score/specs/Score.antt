@@ -46,20 +46,20 @@ abbrev pub zeros : Sums
 zeros = record { q = nought; q2 = nought; dot = nought }
 
 unfoldable pub summed : Row → Row → Row → ℕ → Sums → Sums
-summed vals-centered h0 h1 p s =
+summed valsCentered h0 h1 p s =
     let q = at h0 p ⊗ at h1 p in
-    record { q = s .q ⊕ q; q2 = s .q2 ⊕ q ⊗ q; dot = s .dot ⊕ q ⊗ at vals-centered p }
+    record { q = s .q ⊕ q; q2 = s .q2 ⊕ q ⊗ q; dot = s .dot ⊕ q ⊗ at valsCentered p }
 
 unfoldable pub pairSums : ℕ → Row → Row → Row → Sums
-pairSums n vals-centered h0 h1 = iter (summed vals-centered h0 h1) zeros n
+pairSums n valsCentered h0 h1 = iter (summed valsCentered h0 h1) zeros n
 
 unfoldable pub fitOf : Float → Float → Float → Float → Float → Float → Float → Float → Fit
-fitOf val-energy n-inv dot denom theta0 theta1 width edge-score =
+fitOf valEnergy nInv dot denom theta0 theta1 width edgeScore =
     let amp = dot ⊘ denom in
-    let ssr = max (val-energy ⊖ dot ⊗ dot ⊘ denom) nought in
-    let rms = sqrt binary32 (ssr ⊗ n-inv) in
-    let corr = abs dot ⊘ sqrt binary32 (denom ⊗ val-energy) in
-    let rel-rms = rms ⊘ max (abs amp) one in
+    let ssr = max (valEnergy ⊖ dot ⊗ dot ⊘ denom) nought in
+    let rms = sqrt binary32 (ssr ⊗ nInv) in
+    let corr = abs dot ⊘ sqrt binary32 (denom ⊗ valEnergy) in
+    let relRms = rms ⊘ max (abs amp) one in
     let a = canonicalizeTrackingSwap theta0 theta1 amp in
     record {
       theta1 = a .theta1;
@@ -67,24 +67,24 @@ fitOf val-energy n-inv dot denom theta0 theta1 width edge-score =
       width = width;
       amp = a .amp;
       rms = rms;
-      «rel_rms» = rel-rms;
+      «rel_rms» = relRms;
       corr = corr;
-      «edge_score» = edge-score;
-      objective = rel-rms ⊖ lit 0x3fa0_0000 ⊗ edge-score;
+      «edge_score» = edgeScore;
+      objective = relRms ⊖ lit 0x3fa0_0000 ⊗ edgeScore;
     }
 
 unfoldable pub scoredSums : Float → Float → Sums → Float → Float → Float → Float → Scored
-scoredSums val-energy n-inv s theta0 theta1 width edge-score =
-    let denom = s .q2 ⊖ s .q ⊗ s .q ⊗ n-inv in
-    cond (le denom margin) Nothing (Found (fitOf val-energy n-inv (s .dot) denom theta0 theta1 width edge-score))
+scoredSums valEnergy nInv s theta0 theta1 width edgeScore =
+    let denom = s .q2 ⊖ s .q ⊗ s .q ⊗ nInv in
+    cond (le denom margin) Nothing (Found (fitOf valEnergy nInv (s .dot) denom theta0 theta1 width edgeScore))
 
 -- a pair that is not allowed, and a disk without energy, answer nothing
 unfoldable pub scorePairCached : DiskData → Float → Float → Float → Float → Row → Row → Scored
-scorePairCached D theta0 theta1 width edge-score h0 h1 =
-    let n-inv = one ⊘ count (D .n) in
+scorePairCached D theta0 theta1 width edgeScore h0 h1 =
+    let nInv = one ⊘ count (D .n) in
     cond (validPair theta0 theta1)
     (cond (le (D .«val_energy») margin) Nothing
-    (scoredSums (D .«val_energy») n-inv (pairSums (D .n) (D .«vals_centered») h0 h1) theta0 theta1 width edge-score))
+    (scoredSums (D .«val_energy») nInv (pairSums (D .n) (D .«vals_centered») h0 h1) theta0 theta1 width edgeScore))
     Nothing
 
 -- ---- precompute_edge_alignments: what is returned, and what stands in `out` then
@@ -118,14 +118,14 @@ fitIsBetter a b =
 -- ---- fit_std_errors
 -- a pixel's model, its two slopes and its error, in f32
 unfoldable pub slopesAt : Float → Float → SinCos → SinCos → Float → Float → Float → Slopes
-slopesAt amp inv-w t1 t2 x y v =
-    let h1 = tanh ((neg (t1 .s) ⊗ x ⊕ t1 .c ⊗ y) ⊗ inv-w) in
-    let h2 = tanh ((neg (t2 .s) ⊗ x ⊕ t2 .c ⊗ y) ⊗ inv-w) in
+slopesAt amp invW t1 t2 x y v =
+    let h1 = tanh ((neg (t1 .s) ⊗ x ⊕ t1 .c ⊗ y) ⊗ invW) in
+    let h2 = tanh ((neg (t2 .s) ⊗ x ⊕ t2 .c ⊗ y) ⊗ invW) in
     let q = h1 ⊗ h2 in
     record {
       q = q;
-      j1 = amp ⊗ (one ⊖ h1 ⊗ h1) ⊗ inv-w ⊗ (neg (t1 .c) ⊗ x ⊖ t1 .s ⊗ y) ⊗ h2;
-      j2 = amp ⊗ h1 ⊗ (one ⊖ h2 ⊗ h2) ⊗ inv-w ⊗ (neg (t2 .c) ⊗ x ⊖ t2 .s ⊗ y);
+      j1 = amp ⊗ (one ⊖ h1 ⊗ h1) ⊗ invW ⊗ (neg (t1 .c) ⊗ x ⊖ t1 .s ⊗ y) ⊗ h2;
+      j2 = amp ⊗ h1 ⊗ (one ⊖ h2 ⊗ h2) ⊗ invW ⊗ (neg (t2 .c) ⊗ x ⊖ t2 .s ⊗ y);
       e = v ⊖ amp ⊗ q;
     }
 
@@ -161,9 +161,9 @@ gathered t m =
     }
 
 unfoldable pub momentsOf : ℕ → Row → Row → Row → Fit → Moments
-momentsOf n xs ys vals-centered fit =
+momentsOf n xs ys valsCentered fit =
     let slopes = slopesAt (fit .amp) (one ⊘ fit .width) (sinCos (fit .theta1)) (sinCos (fit .theta2)) in
-    iter (λ p. gathered (slopes (at xs p) (at ys p) (at vals-centered p))) noMoments n
+    iter (λ p. gathered (slopes (at xs p) (at ys p) (at valsCentered p))) noMoments n
 
 abbrev pub count64 : ℕ → Float
 count64 n = ofInt binary64 (pos n)
@@ -171,8 +171,8 @@ count64 n = ofInt binary64 (pos n)
 -- the residual with the least-squares offset: a_qbar is amp * sq / n
 unfoldable pub residual : ℕ → Float → Moments → Float
 residual n amp m =
-    let a-qbar = amp ⊠ m .sq ⧄ count64 n in
-    max (m .see ⊟ count64 n ⊠ a-qbar ⊠ a-qbar) nought
+    let aQbar = amp ⊠ m .sq ⧄ count64 n in
+    max (m .see ⊟ count64 n ⊠ aQbar ⊠ aQbar) nought
 
 unfoldable pub normal : ℕ → Moments → Matrix
 normal n m =

@@ -30,29 +30,29 @@ abbrev Every : (Fit → Type 0) → Scored → Type 0
 Every P Nothing = T true
 Every P (Found f) = P f
 
-module _ (P : Fit → Type 0) (theta0 theta1 width edge-score : Float) where
+module _ (P : Fit → Type 0) (theta0 theta1 width edgeScore : Float) where
   sums-every :
-      ((val-energy n-inv dot denom : Float) → P (fitOf val-energy n-inv dot denom theta0 theta1 width edge-score)) →
-      (val-energy n-inv : Float) (s : Sums) → Every P (scoredSums val-energy n-inv s theta0 theta1 width edge-score)
+      ((valEnergy nInv dot denom : Float) → P (fitOf valEnergy nInv dot denom theta0 theta1 width edgeScore)) →
+      (valEnergy nInv : Float) (s : Sums) → Every P (scoredSums valEnergy nInv s theta0 theta1 width edgeScore)
   unfolding scoredSums
-  sums-every h val-energy n-inv s = go (le denom margin)
+  sums-every h valEnergy nInv s = go (le denom margin)
     where
       denom : Float
-      denom = s .q2 ⊖ s .q ⊗ s .q ⊗ n-inv
+      denom = s .q2 ⊖ s .q ⊗ s .q ⊗ nInv
 
-      go : (b : Bool) → Every P (cond b Nothing (Found (fitOf val-energy n-inv (s .dot) denom theta0 theta1 width edge-score)))
+      go : (b : Bool) → Every P (cond b Nothing (Found (fitOf valEnergy nInv (s .dot) denom theta0 theta1 width edgeScore)))
       go true = tt
-      go false = h val-energy n-inv (s .dot) denom
+      go false = h valEnergy nInv (s .dot) denom
 
   scored-every :
-      ((val-energy n-inv dot denom : Float) → P (fitOf val-energy n-inv dot denom theta0 theta1 width edge-score)) →
-      (D : DiskData) (h0 h1 : Row) (f : Fit) → scorePairCached D theta0 theta1 width edge-score h0 h1 ≡ Found f → P f
+      ((valEnergy nInv dot denom : Float) → P (fitOf valEnergy nInv dot denom theta0 theta1 width edgeScore)) →
+      (D : DiskData) (h0 h1 : Row) (f : Fit) → scorePairCached D theta0 theta1 width edgeScore h0 h1 ≡ Found f → P f
   unfolding scorePairCached
   scored-every h D h0 h1 f e = subst (Every P) e (go (validPair theta0 theta1) (le (D .«val_energy») margin))
     where
       made : Scored
       made =
-          scoredSums (D .«val_energy») (one ⊘ count (D .n)) (pairSums (D .n) (D .«vals_centered») h0 h1) theta0 theta1 width edge-score
+          scoredSums (D .«val_energy») (one ⊘ count (D .n)) (pairSums (D .n) (D .«vals_centered») h0 h1) theta0 theta1 width edgeScore
 
       go : (b d : Bool) → Every P (cond b (cond d Nothing made) Nothing)
       go false d = tt
@@ -68,22 +68,22 @@ pub record SoundFit (f : Fit) : Type 0 where
   pub size : T (isNan (f .amp) || le nought (f .amp))
 
 -- where theta0 and theta1 are values that an f32 holds
-module _ (D : DiskData) (theta0 theta1 width edge-score : Float) (h0 h1 : Row) (f : Fit) where
+module _ (D : DiskData) (theta0 theta1 width edgeScore : Float) (h0 h1 : Row) (f : Fit) where
   pub scored-sound :
-      T (fits binary32 theta0) → T (fits binary32 theta1) → scorePairCached D theta0 theta1 width edge-score h0 h1 ≡ Found f → SoundFit f
+      T (fits binary32 theta0) → T (fits binary32 theta1) → scorePairCached D theta0 theta1 width edgeScore h0 h1 ≡ Found f → SoundFit f
   unfolding fitOf
   scored-sound p q =
-      scored-every SoundFit theta0 theta1 width edge-score
-      (λ val-energy n-inv dot denom.
+      scored-every SoundFit theta0 theta1 width edgeScore
+      (λ valEnergy nInv dot denom.
       let r = canonical-range theta0 theta1 (dot ⊘ denom) p q in
       let a = canonical-amp theta0 theta1 (dot ⊘ denom) (div-fits binary32 dot denom) in
       record { low = r .low; first = r .first; order = r .order; second = r .second; size = a })
       D h0 h1 f
 
   -- a scored fit has the width that was given
-  pub scored-width : scorePairCached D theta0 theta1 width edge-score h0 h1 ≡ Found f → f .width ≡ width
+  pub scored-width : scorePairCached D theta0 theta1 width edgeScore h0 h1 ≡ Found f → f .width ≡ width
   unfolding fitOf
-  scored-width = scored-every (λ g. g .width ≡ width) theta0 theta1 width edge-score (λ val-energy n-inv dot denom. refl) D h0 h1 f
+  scored-width = scored-every (λ g. g .width ≡ width) theta0 theta1 width edgeScore (λ valEnergy nInv dot denom. refl) D h0 h1 f
 
 -- ---- the errors
 pub errors-sound : (D : DiskData) (fit : Fit) → Bounded (fitStdErrors D fit)

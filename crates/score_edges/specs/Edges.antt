@@ -24,20 +24,20 @@ orderedSum n row = iter (λ p s. s ⊕ at row p) nought n
 
 -- search.rs: edge_weight_total, and the same loop in score.rs
 unfoldable pub edgeWeightTotal : ℕ → Row → Float
-edgeWeightTotal n grad-weights = orderedSum n grad-weights
+edgeWeightTotal n gradWeights = orderedSum n gradWeights
 
 -- score.rs: w_p * (-d * d * inv_2sigma2).exp()
 unfoldable pub rankedTerm : Float → Float → Float
 rankedTerm w d = w ⊗ exp (neg d ⊗ d ⊗ inv2Sigma2)
 
 unfoldable pub rankedSum : ℕ → Row → Row → Float → Float
-rankedSum n grad-angles grad-weights theta =
-    iter (λ p s. s ⊕ rankedTerm (at grad-weights p) (signedLineDelta (at grad-angles p) theta)) nought n
+rankedSum n gradAngles gradWeights theta =
+    iter (λ p s. s ⊕ rankedTerm (at gradWeights p) (signedLineDelta (at gradAngles p) theta)) nought n
 
 -- search.rs: grad_weights[p] * (-0.5 * (dd / sigma) * (dd / sigma)).exp()
 unfoldable pub refinedTerm : Float → Float → Float
 refinedTerm w d = w ⊗ exp (minus 0x3f00_0000 ⊗ (d ⊘ sigma) ⊗ (d ⊘ sigma))
 
 unfoldable pub refinedSum : ℕ → Row → Row → Float → Float
-refinedSum n grad-angles grad-weights theta =
-    iter (λ p s. s ⊕ refinedTerm (at grad-weights p) (signedLineDelta (at grad-angles p) theta)) nought n
+refinedSum n gradAngles gradWeights theta =
+    iter (λ p s. s ⊕ refinedTerm (at gradWeights p) (signedLineDelta (at gradAngles p) theta)) nought n

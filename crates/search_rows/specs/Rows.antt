@@ -37,11 +37,11 @@ abbrev pub rowsRoom : ℕ
 rowsRoom = 7 * maxTanhPixels
 
 -- what a row and its edge sum are made of: four slices of one length, which is not above 320
-pub record Outlined (xs ys grad-angles grad-weights : Row) : Type 0 where
+pub record Outlined (xs ys gradAngles gradWeights : Row) : Type 0 where
   pub most : length xs ≤ maxTanhPixels
   pub y : length ys ≡ length xs
-  pub a : length grad-angles ≡ length xs
-  pub w : length grad-weights ≡ length xs
+  pub a : length gradAngles ≡ length xs
+  pub w : length gradWeights ≡ length xs
 
 -- row q is r now, and the other rows, but for the scratch, are as they were
 pub record Filled (n q : ℕ) (r rows rows′ : Row) : Type 0 where
@@ -80,5 +80,5 @@ pub record Held
 -- the axes in the slots i and j, scored from what stands there
 unfoldable pub heldScore : DiskData → Slots → Float → ℕ → ℕ → Row → Scored
 heldScore D slots width i j rows =
-    let edge-score = combineEdgePair (at (slots .edges) i) (at (slots .edges) j) (slots .total) in
-    scorePairCached D (at (slots .keys) i) (at (slots .keys) j) width edge-score (rowOf (D .n) rows i) (rowOf (D .n) rows j)
+    let edgeScore = combineEdgePair (at (slots .edges) i) (at (slots .edges) j) (slots .total) in
+    scorePairCached D (at (slots .keys) i) (at (slots .keys) j) width edgeScore (rowOf (D .n) rows i) (rowOf (D .n) rows j)

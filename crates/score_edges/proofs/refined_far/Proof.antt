@@ -23,7 +23,7 @@ loop-holds c = (search needs, stores-none _ _)
 loop-again : tie.Need-loop-again Inv-loop μ-loop
 loop-again c =
     let i = c .before .before .before .before .before .loop .inv .1 in
-    (search needs, stores-next _ _ _ _ _ i (c .refined-term .ensures ∙ ap (E.refinedTerm _) (c .before .signed-line-delta .ensures)))
+    (search needs, stores-next _ _ _ _ _ i (c .refined-term .ensures ∙ ap (E.refinedTerm _) (c .before .signed-line-delta .ensures .0)))
 
 returns : tie.Need-returns Inv-loop μ-loop
 returns c =
