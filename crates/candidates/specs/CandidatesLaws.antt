@@ -158,11 +158,13 @@ all-rows : rowsBefore maxPaired maxPaired ≡ maxPairs
 unfolding rowsBefore iter
 all-rows = refl
 
+pub rows-most : (n i : ℕ) → n ≤ maxPaired → i ≤ n → rowsBefore n i ≤ maxPairs
+rows-most n i h l =
+    let a = rows-mono n i h in
+    let z : i + (maxPaired - i) ≡ maxPaired = omega arith in
+    let b = rw z at (rows-more i (maxPaired - i)) in
+    omega (arith, all-rows)
+
 -- those before row i and those of row i are no more than there are places
 pub room : (n i : ℕ) → n ≤ maxPaired → i < n → rowsBefore n i + (n - 1 - i) ≤ maxPairs
-room n i h l =
-    let a = rows-mono n (i + 1) h in
-    let b = rows-next n i in
-    let z : i + 1 + (maxPaired - (i + 1)) ≡ maxPaired = omega arith in
-    let d = rw z at (rows-more (i + 1) (maxPaired - (i + 1))) in
-    omega (arith, all-rows)
+room n i h l = let a = rows-most n (i + 1) h (omega arith) in let b = rows-next n i in omega arith
