@@ -13,7 +13,7 @@ use Rattle.solver.specs.declared.TwoAxisFit.{TwoAxisFit}
 use Rattle.solver_elimination.specs.declared.Errors.{Errors}
 use Rattle.score.specs.Score.{fitStdErrors}
 use Rattle.score.specs.declared.Fit.{Fit}
-use Rattle.search_refine.specs.Refine.{Disk}
+use Rattle.data.specs.Data.{DiskData}
 use Rattle.search.specs.Search.{bestDiskFit}
 use Rattle.search.specs.declared.DiskFit.{DiskFit}
 use Rattle.search.specs.declared.DiskFit.the-variants.{Best, Missing}
@@ -106,27 +106,27 @@ measuredOf n xs ys vals f trials =
     let e = fitStdErrors n xs ys vals f in
     Disks.Fitted (record { fit = f; «fit_std_error_theta1» = e .error1; «fit_std_error_theta2» = e .error2; trials = trials }) (bothKnown e)
 
-unfoldable pub diskMeasured : Disk → DiskFit → DiskAnswer
+unfoldable pub diskMeasured : DiskData → DiskFit → DiskAnswer
 diskMeasured D (Missing trials) = Disks.Refused 4 trials
-diskMeasured D (Best f trials) = measuredOf (D .n) (D .xs) (D .ys) (D .vals) f trials
+diskMeasured D (Best f trials) = measuredOf (D .n) (D .xs) (D .ys) (D .«vals_centered») f trials
 
-unfoldable pub diskFitted : Disk → Float → Float → DiskAnswer
+unfoldable pub diskFitted : DiskData → Float → Float → DiskAnswer
 diskFitted D base0 base1 = diskMeasured D (bestDiskFit D base0 base1)
 
-unfoldable pub diskLooked : Disk → Float → Float → Wild → DiskAnswer
+unfoldable pub diskLooked : DiskData → Float → Float → Wild → DiskAnswer
 diskLooked D base0 base1 (At i) = Disks.Refused 3 i
 diskLooked D base0 base1 Clean = diskFitted D base0 base1
 
-unfoldable pub sameLengths : Disk → Bool
+unfoldable pub sameLengths : DiskData → Bool
 sameLengths D =
-    eqb (length (D .ys)) (D .n) && (eqb (length (D .vals)) (D .n) && (eqb (length (D .angles)) (D .n) && eqb (length (D .weights)) (D .n)))
+    eqb (length (D .ys)) (D .n) && (eqb (length (D .«vals_centered»)) (D .n) && (eqb (length (D .«grad_angles»)) (D .n) && eqb (length (D .«grad_weights»)) (D .n)))
 
 -- D .n is the length of xs
-unfoldable pub checkedDisk : Disk → Float → Float → DiskAnswer
+unfoldable pub checkedDisk : DiskData → Float → Float → DiskAnswer
 checkedDisk D base0 base1 =
     cond (eqb (D .n) 0 || ltb 320 (D .n)) (Disks.Refused 2 0)
     (cond (sameLengths D)
-    (diskLooked D base0 base1 (diskWild (D .energy) base0 base1 (D .xs) (D .ys) (D .vals) (D .angles) (D .weights)))
+    (diskLooked D base0 base1 (diskWild (D .«val_energy») base0 base1 (D .xs) (D .ys) (D .«vals_centered») (D .«grad_angles») (D .«grad_weights»)))
     (Disks.Refused 1 0))
 
 unfoldable pub diskNumber : DiskAnswer → ℕ

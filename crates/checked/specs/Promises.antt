@@ -18,7 +18,7 @@ use Rattle.robust.specs.declared.RingFit.{RingFit}
 use Rattle.score.specs.Score.{fitStdErrors}
 use Rattle.score.specs.ScoreLaws.{SoundFit, errors-sound}
 use Rattle.score.specs.declared.Fit.{Fit}
-use Rattle.search_refine.specs.Refine.{Disk}
+use Rattle.data.specs.Data.{DiskData}
 use Rattle.search.specs.Search.{widthAt, bestDiskFit}
 use Rattle.search.specs.Bill.{trialsOf, pairsKept, leadersKept, answeredTrials}
 use Rattle.search.specs.BillLaws.{disk-bill, disk-bill-most, leaders-are, missing-bill, missing-leaders}
@@ -122,12 +122,12 @@ module _ (samples angles : List Float) (r : RingFit) (known : Bool) where
 
 -- ---- the disk
 -- what an answer is made of: the search's own fit with its number of trials, and the errors of that fit
-pub record IsTheFit (D : Disk) (base0 base1 : Float) (m : Measured) : Type 0 where
+pub record IsTheFit (D : DiskData) (base0 base1 : Float) (m : Measured) : Type 0 where
   pub fit : bestDiskFit D base0 base1 ≡ Best (m .fit) (m .trials)
-  pub error1 : m .«fit_std_error_theta1» ≡ fitStdErrors (D .n) (D .xs) (D .ys) (D .vals) (m .fit) .error1
-  pub error2 : m .«fit_std_error_theta2» ≡ fitStdErrors (D .n) (D .xs) (D .ys) (D .vals) (m .fit) .error2
+  pub error1 : m .«fit_std_error_theta1» ≡ fitStdErrors (D .n) (D .xs) (D .ys) (D .«vals_centered») (m .fit) .error1
+  pub error2 : m .«fit_std_error_theta2» ≡ fitStdErrors (D .n) (D .xs) (D .ys) (D .«vals_centered») (m .fit) .error2
 
-module _ (D : Disk) (base0 base1 : Float) where
+module _ (D : DiskData) (base0 base1 : Float) where
   -- what passes the checks is looked at, and what is clean is fitted
   looked : (a b c : Bool) (w : Wild) (x y z : DiskAnswer) → cond (a || b) x (cond c (diskLooked D base0 base1 w) y) ≡ z → (x ≡ z → ⊥) → (y ≡ z → ⊥) → ((i : ℕ) → Disks.Refused 3 i ≡ z → ⊥) → diskFitted D base0 base1 ≡ z
   unfolding diskLooked
@@ -143,13 +143,13 @@ module _ (D : Disk) (base0 base1 : Float) where
 
     fitted : checkedDisk D base0 base1 ≡ Disks.Fitted m known → diskFitted D base0 base1 ≡ Disks.Fitted m known
     unfolding checkedDisk
-    fitted e = looked (eqb (D .n) 0) (ltb 320 (D .n)) (sameLengths D) (diskWild (D .energy) base0 base1 (D .xs) (D .ys) (D .vals) (D .angles) (D .weights)) _ _ _ e other other (λ i q. other q)
+    fitted e = looked (eqb (D .n) 0) (ltb 320 (D .n)) (sameLengths D) (diskWild (D .«val_energy») base0 base1 (D .xs) (D .ys) (D .«vals_centered») (D .«grad_angles») (D .«grad_weights»)) _ _ _ e other other (λ i q. other q)
 
     measured : (r : DiskFit) → bestDiskFit D base0 base1 ≡ r → diskMeasured D r ≡ Disks.Fitted m known → IsTheFit D base0 base1 m
     unfolding diskMeasured measuredOf
     measured (Missing t) q e = absurd (other e)
     measured (Best f t) q e =
-        let x = fitStdErrors (D .n) (D .xs) (D .ys) (D .vals) f in
+        let x = fitStdErrors (D .n) (D .xs) (D .ys) (D .«vals_centered») f in
         let h : _≡_ {A = Measured} (record { fit = f; «fit_std_error_theta1» = x .error1; «fit_std_error_theta2» = x .error2; trials = t }) m = cc in
         subst (IsTheFit D base0 base1) h (record { fit = q; error1 = refl; error2 = refl })
 
@@ -175,7 +175,7 @@ module _ (D : Disk) (base0 base1 : Float) where
     pub disk-errors : checkedDisk D base0 base1 ≡ Disks.Fitted m known → T (le nought (m .«fit_std_error_theta1»)) × T (le (m .«fit_std_error_theta1») pi) × T (le nought (m .«fit_std_error_theta2»)) × T (le (m .«fit_std_error_theta2») pi)
     disk-errors e =
         let a = disk-answered-is-the-fit e in
-        let b = errors-sound (D .n) (D .xs) (D .ys) (D .vals) (m .fit) in
+        let b = errors-sound (D .n) (D .xs) (D .ys) (D .«vals_centered») (m .fit) in
         rw (a .error1, a .error2) (b .low1, b .high1, b .low2, b .high2)
 
     -- the amplitude is NaN or not below zero
@@ -202,7 +202,7 @@ module _ (D : Disk) (base0 base1 : Float) where
     pub disk-nothing : checkedDisk D base0 base1 ≡ Disks.Refused 4 place → (bestDiskFit D base0 base1 ≡ Missing place) × (place ≡ 4 * pairsKept D base0 base1) × (leadersKept D base0 base1 ≡ 0)
     unfolding checkedDisk diskFitted
     disk-nothing e =
-        let f = looked (eqb (D .n) 0) (ltb 320 (D .n)) (sameLengths D) (diskWild (D .energy) base0 base1 (D .xs) (D .ys) (D .vals) (D .angles) (D .weights)) _ _ _ e (λ q. two (another 2 0 q)) (λ q. one (another 1 0 q)) (λ i q. three (another 3 i q)) in
+        let f = looked (eqb (D .n) 0) (ltb 320 (D .n)) (sameLengths D) (diskWild (D .«val_energy») base0 base1 (D .xs) (D .ys) (D .«vals_centered») (D .«grad_angles») (D .«grad_weights»)) _ _ _ e (λ q. two (another 2 0 q)) (λ q. one (another 1 0 q)) (λ i q. three (another 3 i q)) in
         let g = nothing (bestDiskFit D base0 base1) refl f in
         (g, missing-bill D base0 base1 place g, missing-leaders D base0 base1 place g)
       where
@@ -216,7 +216,7 @@ module _ (D : Disk) (base0 base1 : Float) where
         three q = omega arith
 
 -- m is the lesser of 2 and the number of trials that answered
-pub disk-leaders : (D : Disk) (base0 base1 : Float) → leadersKept D base0 base1 ≡ min 2 (answeredTrials D base0 base1)
+pub disk-leaders : (D : DiskData) (base0 base1 : Float) → leadersKept D base0 base1 ≡ min 2 (answeredTrials D base0 base1)
 disk-leaders D base0 base1 = leaders-are D base0 base1
 
 -- any two answers that the contract permits are equal: of a value, and of a record with its buffers alike

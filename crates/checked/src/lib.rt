@@ -9,7 +9,7 @@ ghost use mathlib.Core.Path.{_≡_};
 ghost use Prim.Native.Nat.{_<_, _≤_};
 ghost use lib.ListN.{length};
 ghost use Rattle.robust.specs.Robust.{fitRing};
-ghost use Rattle.search_refine.specs.Refine.{diskOf};
+ghost use Rattle.data.specs.Data.{diskOf};
 ghost use Rattle.checked.specs.Checked as C;
 ghost use Rattle.checked.specs.CheckedLaws.{Below};
 

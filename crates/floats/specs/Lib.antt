@@ -1,5 +1,6 @@
 pub mod Ops
 pub mod Library
+pub mod Rows
 pub mod UnitLaws
 pub mod RoundingLaws
 pub mod NonNegLaws
@@ -19,3 +20,4 @@ pub mod ProductLaws
 pub mod MaxMinLaws
 pub mod NanLaws
 pub mod RootRangeLaws
+pub mod DiscreteLaws

@@ -7,7 +7,7 @@ use lib.Dec.{ltb, eqb}
 use lib.Ieee.{Float, binary32, toBits, ofBits}
 use Rattle.hex.specs.Hex.{allHex, byteOf, wordOf, valuesOf, byteText, countText, wordsText, put}
 use Rattle.robust.specs.declared.RingFit.{RingFit}
-use Rattle.search_refine.specs.Refine.{Disk}
+use Rattle.data.specs.Data.{DiskData}
 use Rattle.checked.specs.Checked.{checkedRing, checkedDisk, flag}
 use Rattle.checked.specs.declared.RingAnswer.{RingAnswer}
 use Rattle.checked.specs.declared.RingAnswer.the-variants as Rings
@@ -42,16 +42,16 @@ valueOf l p = ofBits binary32 (wordOf l p)
 abbrev pub pixelsOf : List ℕ → ℕ
 pixelsOf l = byteOf l 2 * 256 + byteOf l 4
 
-unfoldable pub diskOfLine : List ℕ → ℕ → Disk
+unfoldable pub diskOfLine : List ℕ → ℕ → DiskData
 diskOfLine l n =
     record {
       n = n;
-      energy = valueOf l 6;
       xs = valuesOf l 30 n;
       ys = valuesOf l (30 + 8 * n) n;
-      vals = valuesOf l (30 + 16 * n) n;
-      angles = valuesOf l (30 + 24 * n) n;
-      weights = valuesOf l (30 + 32 * n) n;
+      «vals_centered» = valuesOf l (30 + 16 * n) n;
+      «grad_angles» = valuesOf l (30 + 24 * n) n;
+      «grad_weights» = valuesOf l (30 + 32 * n) n;
+      «val_energy» = valueOf l 6;
     }
 
 -- a count of 0 or above 320 is refused before the length is looked at

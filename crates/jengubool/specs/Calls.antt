@@ -12,7 +12,7 @@ use Rattle.checked.specs.Checked.{checkedRing, checkedDisk}
 use Rattle.checked.specs.declared.DiskAnswer.{DiskAnswer}
 use Rattle.checked.specs.declared.DiskAnswer.the-variants as Disks
 use Rattle.checked.specs.declared.Measured.{Measured}
-use Rattle.search_refine.specs.Refine.{Disk}
+use Rattle.data.specs.Data.{DiskData}
 use Rattle.checked.specs.declared.RingAnswer.{RingAnswer}
 use Rattle.checked.specs.declared.RingAnswer.the-variants.{Fitted, Refused}
 
@@ -59,7 +59,7 @@ unfoldable pub diskStored : DiskAnswer → List Float → List ℕ → Stored
 diskStored (Disks.Fitted m known) fit counts = record { code = 0; fit = diskFitStored m fit; counts = diskCountsStored m known counts }
 diskStored (Disks.Refused number place) fit counts = record { code = number * 65536 + place; fit = fit; counts = counts }
 
-unfoldable pub diskCall : Disk → Float → Float → List Float → List ℕ → Stored
+unfoldable pub diskCall : DiskData → Float → Float → List Float → List ℕ → Stored
 diskCall D base0 base1 fit counts =
     cond (ltb (length fit) 11) (record { code = 65536; fit = fit; counts = counts })
     (cond (ltb (length counts) 2) (record { code = 65536; fit = fit; counts = counts })

@@ -6,7 +6,7 @@ use Prim.Native.Nat.{ℕ}
 use lib.ListN.{length}
 use lib.Dec.{ltb}
 use lib.Ieee.{Float}
-use Rattle.search_refine.specs.Refine.{Disk}
+use Rattle.data.specs.Data.{DiskData}
 use Rattle.checked.specs.Checked.{checkedRing, checkedDisk}
 use Rattle.checked.specs.declared.DiskAnswer.{DiskAnswer}
 use Rattle.checked.specs.declared.DiskAnswer.the-variants as Disks
@@ -40,6 +40,6 @@ module _ (fit : List Float) (counts : List ℕ) where
   disk-stored-keeps (Disks.Refused number place) h = refl
 
   -- the same of the disk's call
-  pub disk-refused-keeps : (D : Disk) (base0 base1 : Float) → let s = diskCall D base0 base1 fit counts in (s .code ≡ 0 → ⊥) → s ≡ refusal (s .code)
+  pub disk-refused-keeps : (D : DiskData) (base0 base1 : Float) → let s = diskCall D base0 base1 fit counts in (s .code ≡ 0 → ⊥) → s ≡ refusal (s .code)
   unfolding diskCall
   disk-refused-keeps D base0 base1 = short-keeps (ltb (length fit) 11) (ltb (length counts) 2) _ (disk-stored-keeps (checkedDisk D base0 base1))

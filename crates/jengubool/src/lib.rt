@@ -9,7 +9,7 @@ ghost use mathlib.Core.Path.{_≡_};
 ghost use Prim.Native.Nat.{_≤_};
 ghost use lib.ListN.{length};
 ghost use lib.Ieee.{binary32};
-ghost use Rattle.search_refine.specs.Refine.{diskOf};
+ghost use Rattle.data.specs.Data.{diskOf};
 ghost use Rattle.frames.specs.Frames as F;
 ghost use Rattle.jengubool.specs.Calls as J;
 ghost use Rattle.floats.specs.Library as L;

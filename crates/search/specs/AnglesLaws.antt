@@ -13,7 +13,7 @@ use Rattle.geometry.specs.Geometry.{wrapPi}
 use Rattle.loops.specs.IterLaws.{iter-keeps}
 use Rattle.candidates.specs.Candidates.{Row, at, newSet, isNear, appended, pushUnique, Picking, bestBin, binAngle, tooLow, degrees4, degree1, picked, left, pick, unpicked, peaks, greatest, histogramPeaks, around, coarse, histogramCandidates}
 use Rattle.candidates.specs.declared.CandidateSet.{CandidateSet}
-use Rattle.search_refine.specs.Refine.{Disk}
+use Rattle.data.specs.Data.{DiskData}
 use Rattle.search.specs.Search.{candidatesOf}
 
 wrapped-fits : (x : Float) → T (fits binary32 x) → T (fits binary32 (wrapPi x))
@@ -86,6 +86,6 @@ coarse-fits s h = by 0x4027_8d36 (by 0x4006_0a92 (by 0x3fc9_0fdb (by 0x3f86_0a92
     by : {s : CandidateSet} (b : ℕ) → Fitting s → Fitting (pushUnique s (lit b) degree1)
     by {s} b h = push-fits s (lit b) degree1 (ofBits-fits binary32 b) h
 
-pub candidates-fit : (D : Disk) (base0 base1 : Float) → Fitting (candidatesOf D base0 base1)
+pub candidates-fit : (D : DiskData) (base0 base1 : Float) → Fitting (candidatesOf D base0 base1)
 unfolding candidatesOf histogramCandidates
 candidates-fit D base0 base1 = coarse-fits _ (around-fits _ (wrapPi base1) (around-fits _ (wrapPi base0) (peaks-fit _)))

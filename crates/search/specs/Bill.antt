@@ -11,7 +11,7 @@ use Rattle.loops.specs.Loops.{iter}
 use Rattle.search_ranking.specs.Ranking.{blank, ranked}
 use Rattle.score.specs.declared.Scored.{Scored}
 use Rattle.score.specs.declared.Scored.the-variants.{Found, Nothing}
-use Rattle.search_refine.specs.Refine.{Disk}
+use Rattle.data.specs.Data.{DiskData}
 use Rattle.search.specs.declared.Leaders.{Leaders}
 use Rattle.search.specs.declared.DiskFit.{DiskFit}
 use Rattle.search.specs.declared.DiskFit.the-variants.{Best, Missing}
@@ -27,10 +27,10 @@ abbrev pub filled : Scored → ℕ
 filled Nothing = 0
 filled (Found f) = 1
 
-module _ (D : Disk) (base0 base1 : Float) where
+module _ (D : DiskData) (base0 base1 : Float) where
   -- the allowed pairs of candidates; poolOf .n is their number
   unfoldable pub poolOf : Pool
-  poolOf = poolBy (D .n) (D .angles) (D .weights) (candidatesOf D base0 base1) base0 base1
+  poolOf = poolBy (D .n) (D .«grad_angles») (D .«grad_weights») (candidatesOf D base0 base1) base0 base1
 
   -- the ranked pairs that are tried: none where there are fewer than two candidates, or where no pair of them is allowed
   unfoldable pub pairsTried : List PairScore
@@ -42,7 +42,7 @@ module _ (D : Disk) (base0 base1 : Float) where
 
   -- one trial: a ranked pair at a width
   unfoldable pub trial : Float → ℕ → Scored
-  trial width r = pairScored (D .n) (D .energy) (D .xs) (D .ys) (D .vals) (candidatesOf D base0 base1) width (getD pairsTried r blank)
+  trial width r = pairScored (D .n) (D .«val_energy») (D .xs) (D .ys) (D .«vals_centered») (candidatesOf D base0 base1) width (getD pairsTried r blank)
 
   -- of the 4 k trials, those that answered a fit
   unfoldable pub answeredAt : Float → ℕ → ℕ
@@ -53,7 +53,7 @@ module _ (D : Disk) (base0 base1 : Float) where
 
   -- what the 4 k trials leave
   unfoldable pub leadersOf : Leaders
-  leadersOf = triedAll (D .n) (D .energy) (D .xs) (D .ys) (D .vals) (candidatesOf D base0 base1) pairsTried
+  leadersOf = triedAll (D .n) (D .«val_energy») (D .xs) (D .ys) (D .«vals_centered») (candidatesOf D base0 base1) pairsTried
 
   -- m: how many of the two places hold a fit
   unfoldable pub leadersKept : ℕ

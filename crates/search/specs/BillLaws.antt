@@ -22,7 +22,7 @@ use Rattle.score.specs.Score.{fitIsBetter}
 use Rattle.score.specs.declared.Fit.{Fit}
 use Rattle.score.specs.declared.Scored.{Scored}
 use Rattle.score.specs.declared.Scored.the-variants.{Found, Nothing}
-use Rattle.search_refine.specs.Refine.{Disk}
+use Rattle.data.specs.Data.{DiskData}
 use Rattle.search_refine.specs.RefineLaws.{trials-are}
 use Rattle.search_refine.specs.declared.Refined.{Refined}
 use Rattle.search.specs.declared.Top.{Top}
@@ -75,11 +75,11 @@ turns-counted g l t c (suc n) h =
     rw z (entered-counted (iter (λ r l. entered l (g r)) l n) (g n) (t + n) (iter (λ r c. c + filled (g r)) c n) (turns-counted g l t c n h))
 
 -- ---- the bill of what is led
-lead-trials : (D : Disk) (v : Fit) (s : Refined) → lead D v s .trials ≡ s .trials + 24
+lead-trials : (D : DiskData) (v : Fit) (s : Refined) → lead D v s .trials ≡ s .trials + 24
 unfolding lead
 lead-trials D v s = ap (_+_ (s .trials)) (trials-are D v)
 
-places-billed : (D : Disk) (t : ℕ) (a b : Scored) → filled b ≤ filled a → trialsOf (firstLed D t a b) ≡ t + 24 * (filled a + filled b)
+places-billed : (D : DiskData) (t : ℕ) (a b : Scored) → filled b ≤ filled a → trialsOf (firstLed D t a b) ≡ t + 24 * (filled a + filled b)
 unfolding firstLed secondLed
 places-billed D t Nothing b o = omega arith
 places-billed D t (Found v) Nothing o = let e = lead-trials D v (record { best = v; trials = t }) in omega arith
@@ -89,7 +89,7 @@ places-billed D t (Found v) (Found w) o =
     let g = lead-trials D w s in
     omega arith
 
-none-led : (D : Disk) (s : CandidateSet) → Missing 0 ≡ led D (triedAll (D .n) (D .energy) (D .xs) (D .ys) (D .vals) s [])
+none-led : (D : DiskData) (s : CandidateSet) → Missing 0 ≡ led D (triedAll (D .n) (D .«val_energy») (D .xs) (D .ys) (D .«vals_centered») s [])
 unfolding led firstLed triedAll triedAt iter
 none-led D s = refl
 
@@ -113,7 +113,7 @@ few-pairs s edges total seed hist h = go (s .n) refl h
     go (suc zero) e h = unfold iter in none noPairs refl e
     go (suc (suc m)) e h = absurd (two m h)
 
-module _ (D : Disk) (base0 base1 : Float) where
+module _ (D : DiskData) (base0 base1 : Float) where
   -- whatever is refused before a trial is what no trial leaves
   pub best-is-led : bestDiskFit D base0 base1 ≡ led D (leadersOf D base0 base1)
   unfolding bestDiskFit searched leadersOf pairsTried poolOf
@@ -123,10 +123,10 @@ module _ (D : Disk) (base0 base1 : Float) where
       s = candidatesOf D base0 base1
 
       pool : Pool
-      pool = poolBy (D .n) (D .angles) (D .weights) s base0 base1
+      pool = poolBy (D .n) (D .«grad_angles») (D .«grad_weights») s base0 base1
 
       after : List PairScore → Leaders
-      after ps = triedAll (D .n) (D .energy) (D .xs) (D .ys) (D .vals) s ps
+      after ps = triedAll (D .n) (D .«val_energy») (D .xs) (D .ys) (D .«vals_centered») s ps
 
       go : (a b : Bool) → cond a (Missing 0) (cond b (Missing 0) (led D (after (ranked pool)))) ≡ led D (after (cond a [] (cond b [] (ranked pool))))
       go true b = none-led D s
@@ -144,7 +144,7 @@ module _ (D : Disk) (base0 base1 : Float) where
       z = omega arith
 
       at-width : (w : ℕ) (l : Leaders) (t c : ℕ) → Counted l t c →
-          Counted (triedAt (D .n) (D .energy) (D .xs) (D .ys) (D .vals) (candidatesOf D base0 base1) (pairsTried D base0 base1) (widthAt w) l) (t + k) (answeredAt D base0 base1 (widthAt w) c)
+          Counted (triedAt (D .n) (D .«val_energy») (D .xs) (D .ys) (D .«vals_centered») (candidatesOf D base0 base1) (pairsTried D base0 base1) (widthAt w) l) (t + k) (answeredAt D base0 base1 (widthAt w) c)
       at-width w l t c h = turns-counted (trial D base0 base1 (widthAt w)) l t c k h
 
   -- the second place is filled only where the first is

@@ -17,7 +17,9 @@ use Rattle.score.specs.Score.{alignedTotal, alignedSums, scorePairCached, fitIs
 use Rattle.score.specs.declared.Fit.{Fit}
 use Rattle.score.specs.declared.Scored.{Scored}
 use Rattle.score.specs.declared.Scored.the-variants.{Found, Nothing}
-use Rattle.search_refine.specs.Refine.{Row, at, Disk, axisRow, refineFit}
+use Rattle.floats.specs.Rows.{Row, at}
+use Rattle.data.specs.Data.{DiskData}
+use Rattle.search_refine.specs.Refine.{axisRow, refineFit}
 use Rattle.search_refine.specs.declared.Refined.{Refined}
 use Rattle.search.specs.declared.Top.{Top}
 use Rattle.search.specs.declared.Leaders.{Leaders}
@@ -65,7 +67,7 @@ module _ (n : ℕ) (energy : Float) (xs ys vals : Row) (s : CandidateSet) where
   triedAll ps = iter (λ w. triedAt ps (widthAt w)) noLeaders 4
 
 -- ---- step 6: each leader refined, and the better of it and what was found so far
-unfoldable pub lead : Disk → Fit → Refined → Refined
+unfoldable pub lead : DiskData → Fit → Refined → Refined
 lead D seed s =
     let f = refineFit D seed in
     record { best = cond (fitIsBetter (f .best) (s .best)) (f .best) (s .best); trials = s .trials + f .trials }
@@ -73,20 +75,20 @@ lead D seed s =
 abbrev pub answered : Refined → DiskFit
 answered s = Best (s .best) (s .trials)
 
-unfoldable pub secondLed : Disk → Scored → Refined → DiskFit
+unfoldable pub secondLed : DiskData → Scored → Refined → DiskFit
 secondLed D Nothing s = answered s
 secondLed D (Found w) s = answered (lead D w s)
 
-unfoldable pub firstLed : Disk → ℕ → Scored → Scored → DiskFit
+unfoldable pub firstLed : DiskData → ℕ → Scored → Scored → DiskFit
 firstLed D trials Nothing second = Missing trials
 firstLed D trials (Found v) second = secondLed D second (lead D v (record { best = v; trials = trials }))
 
-unfoldable pub led : Disk → Leaders → DiskFit
+unfoldable pub led : DiskData → Leaders → DiskFit
 led D l = firstLed D (l .trials) (l .top .first) (l .top .second)
 
 -- ---- best_disk_fit: steps 1 to 3
-unfoldable pub candidatesOf : Disk → Float → Float → CandidateSet
-candidatesOf D base0 base1 = histogramCandidates (D .n) (D .angles) (D .weights) (wrapPi base0) (wrapPi base1)
+unfoldable pub candidatesOf : DiskData → Float → Float → CandidateSet
+candidatesOf D base0 base1 = histogramCandidates (D .n) (D .«grad_angles») (D .«grad_weights») (wrapPi base0) (wrapPi base1)
 
 -- MAX_CANDIDATES is 64
 unfoldable pub poolBy : ℕ → Row → Row → CandidateSet → Float → Float → Pool
@@ -94,11 +96,11 @@ poolBy n angles weights s base0 base1 =
     let edges = alignedSums n angles weights s (replicate 64 nought) in
     buildPairPool s edges (alignedTotal n weights) (forcedSeedPair s base0 base1) (forcedHistogramPair s edges)
 
-unfoldable pub searched : Disk → CandidateSet → Pool → DiskFit
-searched D s pool = cond (eqb (pool .n) 0) (Missing 0) (led D (triedAll (D .n) (D .energy) (D .xs) (D .ys) (D .vals) s (ranked pool)))
+unfoldable pub searched : DiskData → CandidateSet → Pool → DiskFit
+searched D s pool = cond (eqb (pool .n) 0) (Missing 0) (led D (triedAll (D .n) (D .«val_energy») (D .xs) (D .ys) (D .«vals_centered») s (ranked pool)))
 
 -- fewer than two candidates have no pair
-unfoldable pub bestDiskFit : Disk → Float → Float → DiskFit
+unfoldable pub bestDiskFit : DiskData → Float → Float → DiskFit
 bestDiskFit D base0 base1 =
     let s = candidatesOf D base0 base1 in
-    cond (ltb (s .n) 2) (Missing 0) (searched D s (poolBy (D .n) (D .angles) (D .weights) s base0 base1))
+    cond (ltb (s .n) 2) (Missing 0) (searched D s (poolBy (D .n) (D .«grad_angles») (D .«grad_weights») s base0 base1))

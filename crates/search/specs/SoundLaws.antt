@@ -18,7 +18,9 @@ use Rattle.score.specs.ScoreLaws.{SoundFit, scored-sound, scored-width}
 use Rattle.score.specs.declared.Fit.{Fit}
 use Rattle.score.specs.declared.Scored.{Scored}
 use Rattle.score.specs.declared.Scored.the-variants.{Found, Nothing}
-use Rattle.search_refine.specs.Refine.{Row, at, Disk, offsetsBy, stepOf, isCentre, judged, neighbour, scored, tried, around, refineFit}
+use Rattle.floats.specs.Rows.{Row, at}
+use Rattle.data.specs.Data.{DiskData}
+use Rattle.search_refine.specs.Refine.{offsetsBy, stepOf, isCentre, judged, neighbour, scored, tried, around, refineFit}
 use Rattle.search_refine.specs.declared.Refined.{Refined}
 use Rattle.search.specs.declared.Top.{Top}
 use Rattle.search.specs.declared.Leaders.{Leaders}
@@ -72,7 +74,7 @@ module _ (P : Fit → Type 0) where
   entered-has l (Found f) h b = insert-has (l .top .first) (l .top .second) f (b .first) (b .second) h
 
   -- ---- a refinement
-  module _ (D : Disk) (near : (b : Fit) → P b → (total : Float) (offs : Row) (i0 i1 : ℕ) (f : Fit) → neighbour D total offs b i0 i1 ≡ Found f → P f) where
+  module _ (D : DiskData) (near : (b : Fit) → P b → (total : Float) (offs : Row) (i0 i1 : ℕ) (f : Fit) → neighbour D total offs b i0 i1 ≡ Found f → P f) where
     abbrev Keeps : Refined → Type 0
     Keeps s = P (s .best)
 
@@ -98,7 +100,7 @@ module _ (P : Fit → Type 0) where
     refined-has : (seed : Fit) → P seed → Keeps (refineFit D seed)
     unfolding refineFit
     refined-has seed p =
-        let total = edgeWeightTotal (D .n) (D .weights) in
+        let total = edgeWeightTotal (D .n) (D .«grad_weights») in
         iter-keeps Keeps (λ k s. around D total (offsetsBy (stepOf k)) s) (record { best = seed; trials = 0 }) 3 p (λ k s p. around-has total (offsetsBy (stepOf k)) s p)
 
     -- ---- the leaders
@@ -131,8 +133,8 @@ module _ (P : Fit → Type 0) where
         subst Says (sym (best-is-led D base0 base1) ∙ e) (first-has (l .trials) (l .top .first) (l .top .second) (b .first) (b .second))
 
 -- what every score of two axes that f32 holds has, the answer has
-pub search-keeps : (D : Disk) (base0 base1 : Float) (P : Fit → Type 0) →
-    ((theta0 theta1 width edge-score : Float) (h0 h1 : Row) (f : Fit) → T (fits binary32 theta0) → T (fits binary32 theta1) → scorePairCached (D .n) (D .energy) (D .vals) theta0 theta1 width edge-score h0 h1 ≡ Found f → P f) →
+pub search-keeps : (D : DiskData) (base0 base1 : Float) (P : Fit → Type 0) →
+    ((theta0 theta1 width «edge_score» : Float) (h0 h1 : Row) (f : Fit) → T (fits binary32 theta0) → T (fits binary32 theta1) → scorePairCached (D .n) (D .«val_energy») (D .«vals_centered») theta0 theta1 width «edge_score» h0 h1 ≡ Found f → P f) →
     (f : Fit) (t : ℕ) → bestDiskFit D base0 base1 ≡ Best f t → P f
 unfolding neighbour trial pairScored
 search-keeps D base0 base1 P each f t e =
@@ -141,12 +143,12 @@ search-keeps D base0 base1 P each f t e =
     (λ w h r f e. let p = getD (pairsTried D base0 base1) r blank in each _ _ _ _ _ _ f (held .each (p .i)) (held .each (p .j)) e)
     f t e
 
-pub search-sound : (D : Disk) (base0 base1 : Float) (f : Fit) (t : ℕ) → bestDiskFit D base0 base1 ≡ Best f t → SoundFit f
-search-sound D base0 base1 f t e = search-keeps D base0 base1 SoundFit (λ theta0 theta1 width edge-score h0 h1 f p q e. scored-sound (D .n) (D .energy) (D .vals) theta0 theta1 width edge-score h0 h1 f p q e) f t e
+pub search-sound : (D : DiskData) (base0 base1 : Float) (f : Fit) (t : ℕ) → bestDiskFit D base0 base1 ≡ Best f t → SoundFit f
+search-sound D base0 base1 f t e = search-keeps D base0 base1 SoundFit (λ theta0 theta1 width «edge_score» h0 h1 f p q e. scored-sound (D .n) (D .«val_energy») (D .«vals_centered») theta0 theta1 width «edge_score» h0 h1 f p q e) f t e
 
 -- ---- the width
 -- the answer's width is one of the four
-pub width-known : (D : Disk) (base0 base1 : Float) (f : Fit) (t : ℕ) → bestDiskFit D base0 base1 ≡ Best f t → (w : ℕ) × (w < 4) × (f .width ≡ widthAt w)
+pub width-known : (D : DiskData) (base0 base1 : Float) (f : Fit) (t : ℕ) → bestDiskFit D base0 base1 ≡ Best f t → (w : ℕ) × (w < 4) × (f .width ≡ widthAt w)
 unfolding neighbour trial pairScored
 width-known D base0 base1 f t e =
     search-inherits (λ f. (w : ℕ) × (w < 4) × (f .width ≡ widthAt w)) D

@@ -9,7 +9,7 @@ use search_refine::Refined;
 ghost use mathlib.Core.Path.{_≡_};
 ghost use Prim.Native.Nat.{_+_, _*_, _≤_, _<_};
 ghost use lib.ListN.{length, take, drop};
-ghost use Rattle.search_refine.specs.Refine.{diskOf};
+ghost use Rattle.data.specs.Data.{diskOf};
 ghost use Rattle.search_refine.specs.RefineLaws.{Sized, Room};
 ghost use Rattle.search.specs.Search as S;
 ghost use Rattle.search.specs.SearchLaws.{Cached, Keeps, Listed, cachedScore};
