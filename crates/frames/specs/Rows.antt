@@ -8,7 +8,7 @@ use lib.Dec.{ltb, eqb}
 use lib.Ieee.{Float, nan, inf, binary32, add, sub, mul, div, rem, neg, lt, le, eq, isNan, ofBits, toBits, ofInt, toUnsigned, round, size}
 use lib.Ieee.Scale.{finite}
 use Rattle.floats.specs.Ops.{lit, nought, one, pi, halfPi, quarterPi}
-use Rattle.floats.specs.Library.{negative, before, abs, max, min, remEuclid, sqrt, rootUnits, wholeRoot, floor, bin}
+use Rattle.floats.specs.Library.{negative, before, abs, max, min, toRadians, remEuclid, sqrt, rootUnits, wholeRoot, floor, bin}
 use Rattle.loops.specs.Loops.{iter, range, tab}
 use Rattle.elementary.specs.Elementary.{whole, sinRest, cosRest, quadrant, sinCosNear, turn, sinCos}
 use Rattle.geometry.specs.Geometry.{signedLineDelta, lineDelta, lineSeparation, validPair}
@@ -92,12 +92,12 @@ pub rows-to-prove : (
     ∷ (56 ∷ 49 ∷ 48 ∷ 48 ∷ 48 ∷ 48 ∷ 48 ∷ 48 ∷ 48 ∷ 48 ∷ 48 ∷ 48 ∷ 48 ∷ 48 ∷ 48 ∷ 48 ∷ 48 ∷ 48 ∷ 48 ∷ 48 ∷ 51 ∷ 102 ∷ 99 ∷ 57 ∷ 48 ∷ 102 ∷ 100 ∷ 98 ∷ 52 ∷ 48 ∷ 52 ∷ 57 ∷ 48 ∷ 102 ∷ 100 ∷ 98 ∷ 52 ∷ 48 ∷ 52 ∷ 57 ∷ 48 ∷ 102 ∷ 100 ∷ 98 ∷ 48 ∷ 48 ∷ 48 ∷ 48 ∷ 48 ∷ 48 ∷ 48 ∷ 48 ∷ 48 ∷ 49 ∷ 48 ∷ 48 ∷ 48 ∷ 48 ∷ 48 ∷ 48 ∷ [])
     ∷ []
     )
-unfolding combineEdgePair canonicalizeTrackingSwap settled placed wrapToTau arc remEuclid validPair lineSeparation lineDelta signedLineDelta abs negative before max min sqrt rootUnits wholeRoot degenerateFit iter range solve4x4 augmented larger pivotRow unusable reduced cleared clear topRow columned stopped axisError bothErrors axisStdErrors floor bin tab whole sinRest cosRest quadrant sinCosNear turn sinCos degenerate fitWithSeed wavedBy waves harmonic secondHarmonic total deviations fitIsSuspicious fitRing wildFrom firstWild errorsKnown ringFitted anglesLooked samplesLooked checkedRing isHex allHex byteOf wordOf valuesOf byteText countText wordText wordsText answerOf typedLine ringLine ringText finite ltb eqb toUnsigned ofBits toBits ofInt add sub mul div rem neg lt le eq isNan round size
+unfolding combineEdgePair canonicalizeTrackingSwap settled placed wrapToTau arc toRadians remEuclid validPair lineSeparation lineDelta signedLineDelta abs negative before max min sqrt rootUnits wholeRoot degenerateFit iter range solve4x4 augmented larger pivotRow unusable reduced cleared clear topRow columned stopped axisError bothErrors axisStdErrors floor bin tab whole sinRest cosRest quadrant sinCosNear turn sinCos degenerate fitWithSeed wavedBy waves harmonic secondHarmonic total deviations fitIsSuspicious fitRing wildFrom firstWild errorsKnown ringFitted anglesLooked samplesLooked checkedRing isHex allHex byteOf wordOf valuesOf byteText countText wordText wordsText answerOf typedLine ringLine ringText finite ltb eqb toUnsigned ofBits toBits ofInt add sub mul div rem neg lt le eq isNan round size
 rows-to-prove = refl
 
 -- the two pairs of the grid that stand at 12 degrees: both are allowed
 pub grid-edges : (flag (validPair (gridAngle 0) (gridAngle 21)) ∷ flag (validPair (gridAngle 1) (gridAngle 22)) ∷ []) ≡ (1 ∷ 1 ∷ [])
-unfolding remEuclid validPair lineSeparation lineDelta signedLineDelta abs negative before max min add sub mul div rem neg lt le eq isNan ofBits ofInt round size
+unfolding toRadians remEuclid validPair lineSeparation lineDelta signedLineDelta abs negative before max min add sub mul div rem neg lt le eq isNan ofBits ofInt round size
 grid-edges = refl
 
 -- the line with 321 pixels of docs/RULES.md, Frame lines: 020141 and 24 zeros, answered 82020000
