@@ -1,7 +1,7 @@
 -- The word's value. Assumes nothing.
 use borrow.Author.Needs.{needs}
-use Rattle.frames.proofs.value_at.Statement.{statement}
-use Rattle.frames.proofs.value_at.Tie as tie
+use Rattle.hex.proofs.value_at.Statement.{statement}
+use Rattle.hex.proofs.value_at.Tie as tie
 
 returns : tie.Need-returns
 returns c = rw (← c .before .word-at .ensures) (c .from-bits .ensures)
