@@ -1,8 +1,8 @@
 -- Each turn brings the power one nearer to its end. Assumes nothing.
 use Prim.Native.Nat.{_≤_, _-_}
 use borrow.Author.Needs.{needs}
-use Rattle.explain_words.proofs.lowered.Statement.{statement}
-use Rattle.explain_words.proofs.lowered.Tie as tie
+use Rattle.explain_words.proofs.numbers.lowered.Statement.{statement}
+use Rattle.explain_words.proofs.numbers.lowered.Tie as tie
 
 abbrev Inv-loop : tie.InvT-loop
 Inv-loop value₀ power₀ value power = 0 ≤ power

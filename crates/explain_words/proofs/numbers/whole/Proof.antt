@@ -3,8 +3,8 @@ use mathlib.Core.Path.{sym, subst}
 use lib.Dec.{T}
 use lib.Ieee.{ofBits, neg}
 use borrow.Author.Needs.{needs}
-use Rattle.explain_words.proofs.whole.Statement.{statement}
-use Rattle.explain_words.proofs.whole.Tie as tie
+use Rattle.explain_words.proofs.numbers.whole.Statement.{statement}
+use Rattle.explain_words.proofs.numbers.whole.Tie as tie
 
 truncating-f64-to-u64-requires : tie.Need-truncating-f64-to-u64-requires
 unfolding ofBits neg

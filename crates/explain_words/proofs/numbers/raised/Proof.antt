@@ -1,8 +1,8 @@
 -- Each turn takes one from the power. Assumes nothing.
 use Prim.Native.Nat.{_≤_}
 use borrow.Author.Needs.{needs}
-use Rattle.explain_words.proofs.raised.Statement.{statement}
-use Rattle.explain_words.proofs.raised.Tie as tie
+use Rattle.explain_words.proofs.numbers.raised.Statement.{statement}
+use Rattle.explain_words.proofs.numbers.raised.Tie as tie
 
 abbrev Inv-loop : tie.InvT-loop
 Inv-loop x value₀ power₀ value power = 0 ≤ power
