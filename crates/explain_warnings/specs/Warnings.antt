@@ -24,9 +24,9 @@ ringReading l =
       error2 = valueOf l 36;
       rms = valueOf l 44;
       width = nought;
-      rel_rms = nought;
+      «rel_rms» = nought;
       corr = nought;
-      edge_score = nought;
+      «edge_score» = nought;
       objective = nought;
       trials = 0;
       starts = byteOf l 52;
@@ -44,9 +44,9 @@ diskReading l =
       width = valueOf l 20;
       amp = valueOf l 28;
       rms = valueOf l 36;
-      rel_rms = valueOf l 44;
+      «rel_rms» = valueOf l 44;
       corr = valueOf l 52;
-      edge_score = valueOf l 60;
+      «edge_score» = valueOf l 60;
       objective = valueOf l 68;
       error1 = valueOf l 76;
       error2 = valueOf l 84;
@@ -96,9 +96,9 @@ warningsOf r =
     ∷ (isWild (r .error1), "  warning: the first error is not finite\n")
     ∷ (isWild (r .error2), "  warning: the second error is not finite\n")
     ∷ (isWild (r .width), "  warning: the width is not finite\n")
-    ∷ (isWild (r .rel_rms), "  warning: the relative residual is not finite\n")
+    ∷ (isWild (r .«rel_rms»), "  warning: the relative residual is not finite\n")
     ∷ (isWild (r .corr), "  warning: the correlation is not finite\n")
-    ∷ (isWild (r .edge_score), "  warning: the edge score is not finite\n")
+    ∷ (isWild (r .«edge_score»), "  warning: the edge score is not finite\n")
     ∷ (isWild (r .objective), "  warning: the objective is not finite\n")
     ∷ (isDegenerate r, "  warning: the samples have no contrast: axes and errors are placeholders\n")
     ∷ []

@@ -1,5 +1,5 @@
--- What the comparisons of a float with itself tell: by its three kinds, a number, an infinity or a NaN.
-use mathlib.Core.Path.{_≡_, refl, sym, subst}
+-- What the comparisons of a float with itself tell, by its three kinds; and the text of the warnings. Assumes nothing.
+use mathlib.Core.Path.{_≡_, refl, sym, subst, ap, _∙_}
 use mathlib.Core.Bool.{Bool, true, false, not, true≢false}
 use lib.Dec.{T}
 use lib.Ieee.{Float, nan, inf, fin, eq, ne, isNan}
@@ -7,7 +7,12 @@ use lib.Ieee.Compare.{differs-from-itself}
 use lib.Ieee.Scale.{finite}
 use Rattle.floats.specs.FiniteLaws.{of-true}
 use Rattle.floats.specs.PositiveLaws.{not-nan}
-use Rattle.explain_warnings.specs.Warnings.{isInfinite}
+use mathlib.Core.List.{List}
+use Prim.Native.Nat.{ℕ}
+use Rattle.explain_words.specs.Tell.{told, telling, filled, piece, bytes, codes, flagsOf, barred, barless, allBarless}
+use Rattle.explain_words.specs.TellLaws.{told-telling}
+use Rattle.explain_warnings.specs.declared.Reading.{Reading}
+use Rattle.explain_warnings.specs.Warnings.{isInfinite, warningsOf, warningsText}
 
 shut : (b : Bool) → T (not b) → false ≡ b
 shut true t = absurd t
@@ -32,3 +37,9 @@ nan-not-infinite nan d = refl
 nan-not-infinite (inf true) d = absurd (true≢false (unfold eq in d))
 nan-not-infinite (inf false) d = absurd (true≢false (unfold eq in d))
 nan-not-infinite (fin s m e) d = refl
+
+-- no sentence has a bar or a blank, so that they are told as they stand
+pub warnings-told : (r : Reading) {fs : List Bool} (ws : List (List ℕ)) → fs ≡ flagsOf (warningsOf r)
+    → told fs ws 0 false (barred (warningsOf r)) ≡ warningsText r
+unfolding warningsOf allBarless barless bytes codes telling filled piece
+warnings-told r ws e = ap (λ (fs : List Bool). told fs ws 0 false (barred (warningsOf r))) e ∙ told-telling ws (warningsOf r) refl
