@@ -10,8 +10,8 @@ use Rattle.shapes.specs.Shapes.{limit}
 use Rattle.frames.specs.Frames as F
 
 -- a turn from the state s to r; its input goes from b to c, its text from l to m: a line's answer is the text of `frames`, in at most 99 bytes
-abbrev pub Turn : State → List ℕ → List ℕ → List ℕ → List ℕ → State → Type 0
-Turn s b c l m r = Turned 99 limit (λ e. F.lineText (s .feed .skip) (lineTo b (s .feed) e)) (foundOf b (s .feed)) s b c l m r
+pub record Turn (s : State) (b c l m : List ℕ) (r : State) : Type 0 where
+  pub made : Turned 99 limit (λ e. F.lineText (s .feed .skip) (lineTo b (s .feed) e)) (foundOf b (s .feed)) s b c l m r
 
 -- n turns, one after the other
 pub data Turns : ℕ → State → List ℕ → List ℕ → State → List ℕ → List ℕ → Type 0 where

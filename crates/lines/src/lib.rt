@@ -176,7 +176,7 @@ pub struct State {
 }
 
 pub fn begin() -> State
-    ensures { λ r. ⌜ r ≡ T.opening ⌝ }
+    ensures { λ r. ⌜ (r .feed .from ≡ 0) × (r .feed .total ≡ 0) × (r .put ≡ 0) × (r ≡ T.opening) ⌝ }
 {
     let feed = start();
     State {
@@ -189,7 +189,7 @@ pub fn begin() -> State
 // A line has been answered: the text stands up to `put`, and the next line starts at `from`.
 pub fn answered(s: State, from: usize, put: usize) -> State
     requires { ⌜ from ≤ s .feed .total ⌝ }
-    ensures { λ r. ⌜ r ≡ T.answeredOf s from put ⌝ }
+    ensures { λ r. ⌜ (r .feed .from ≡ from) × (r .feed .total ≡ s .feed .total) × (r .put ≡ put) × (r ≡ T.answeredOf s from put) ⌝ }
 {
     let f = s.feed;
     let feed = past(f, from);
@@ -204,7 +204,7 @@ pub fn answered(s: State, from: usize, put: usize) -> State
 // for an answer has it.
 pub fn read_on(buf: &mut [u8], text: &[u8], s: State, limit: usize) -> State
     requires { ⌜ (s .feed .from ≤ s .feed .total) × (s .feed .total ≤ length (now buf)) × (limit < length (now buf)) × (s .put ≤ length (now text)) ⌝ }
-    ensures { λ r. ⌜ (r .feed .from ≤ r .feed .total) × (r .feed .total ≤ length (now (buf .entry))) × T.Read s limit (now (buf .entry)) (now (buf .exit)) r ⌝ }
+    ensures { λ r. ⌜ (r .feed .from ≤ r .feed .total) × (r .feed .total ≤ length (now (buf .entry))) × (r .put ≡ 0) × T.Read s limit (now (buf .entry)) (now (buf .exit)) r ⌝ }
 {
     let f = s.feed;
     flush(text, s.put);
