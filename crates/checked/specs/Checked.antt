@@ -1,4 +1,4 @@
--- The checked entries (document 01, "Numbers of refusal"): what is refused by number and place, and what is answered. Definitions only.
+-- The checked entries (docs/RULES.md, Refusals): what is refused by number and place, and what is answered. Definitions only.
 use mathlib.Core.Bool.{Bool, true, false, cond, not, _&&_, _||_}
 use mathlib.Core.List.{List, [], _∷_}
 use Prim.Native.Nat.{ℕ, zero, suc, _+_, _*_}
@@ -55,7 +55,7 @@ checkedRing samples angles =
     (cond (eqb (length angles) 16) (samplesLooked samples angles (firstWild samples)) (Refused 1 0))
     (Refused 1 0)
 
--- ---- document 01's number, place and values of each case
+-- ---- number, place and values of each case (docs/RULES.md, Refusals)
 unfoldable pub ringNumber : RingAnswer → ℕ
 ringNumber (Fitted r k) = 0
 ringNumber (Refused number place) = number

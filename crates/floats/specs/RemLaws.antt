@@ -140,7 +140,7 @@ rem-pi = rem-between pi P (lit< tt) pi-val pi-rep
 pub rem-tau : (x : Float) → T (fits binary32 x) → T (finite x) → T (le nought (remEuclid binary32 x tau)) × T (le (remEuclid binary32 x tau) tau)
 rem-tau = rem-between tau W (lit< tt) tau-val tau-rep
 
--- document 01, row 4: -1e-9 modulo PI is PI itself
+-- row 4 of docs/RULES.md: -1e-9 modulo PI is PI itself
 row4 : remEuclid binary32 (ofBits binary32 0xb089_705f) pi ≡ pi
 unfolding remEuclid rem add lt ofBits
 row4 = refl

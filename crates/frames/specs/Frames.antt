@@ -1,4 +1,4 @@
--- What a frame line is answered (document 01, "Frame lines"), in the order of the refusals. Definitions only.
+-- What a frame line is answered (docs/RULES.md, Frame lines), in the order of the refusals. Definitions only.
 use mathlib.Core.Bool.{Bool, true, false, cond, _||_}
 use mathlib.Core.List.{List, [], _∷_, _++_}
 use Prim.Native.Nat.{ℕ, _+_, _*_, _%_}

@@ -1,4 +1,4 @@
--- The rows that document 01 marks to be proved: the definitions are run at the given bits, by the checker's own computation. Assumes nothing.
+-- The rows of docs/RULES.md, Rows to prove: the definitions are run at the given bits, by the checker's own computation. Assumes nothing.
 use mathlib.Core.Path.{_≡_, refl}
 use mathlib.Core.Bool.{Bool, true, false, cond, not, _&&_, _||_}
 use mathlib.Core.List.{List, [], _∷_, _++_, map}
@@ -100,7 +100,7 @@ pub grid-edges : (flag (validPair (gridAngle 0) (gridAngle 21)) ∷ flag (validP
 unfolding remEuclid validPair lineSeparation lineDelta signedLineDelta abs negative before max min add sub mul div rem neg lt le eq isNan ofBits ofInt round size
 grid-edges = refl
 
--- document 01's line with 321 pixels: 020141 and 24 zeros, answered 82020000
+-- the line with 321 pixels of docs/RULES.md, Frame lines: 020141 and 24 zeros, answered 82020000
 pub pixels-321 : textOf (answerOf (48 ∷ 50 ∷ 48 ∷ 49 ∷ 52 ∷ 49 ∷ replicate 24 48)) ≡ (56 ∷ 50 ∷ 48 ∷ 50 ∷ 48 ∷ 48 ∷ 48 ∷ 48 ∷ [])
 unfolding answerOf typedLine diskLine countedLine refusalText isHex allHex byteOf byteText countText iter ltb eqb
 pixels-321 = refl

@@ -102,7 +102,7 @@ pub delta-wild : (a b : Float) → T (not (finite (a ⊖ b ⊕ halfPi))) → sig
 unfolding signedLineDelta
 delta-wild a b t = ap (λ (z : Float). z ⊖ halfPi) (remEuclid-wild binary32 (a ⊖ b ⊕ halfPi) pi t) ∙ unfold sub add in refl
 
--- document 01, row 10: (0, 0) and (0, PI/2) are not allowed pairs, (0, PI/4) is
+-- row 10 of docs/RULES.md: (0, 0) and (0, PI/2) are not allowed pairs, (0, PI/4) is
 row10 : (validPair nought nought ≡ false) × (validPair nought halfPi ≡ false) × (validPair nought (lit 0x3f49_0fdb) ≡ true)
 unfolding validPair lineSeparation lineDelta signedLineDelta remEuclid abs add sub rem le lt lib.Ieee.eq lib.Ieee.neg ofBits
 row10 = (refl, refl, refl)

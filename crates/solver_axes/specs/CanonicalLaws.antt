@@ -238,7 +238,7 @@ pub canonical-amp : (t1 t2 a : Float) → T (fits binary32 a) → T (isNan (cano
 unfolding canonicalizeTrackingSwap settled placed
 canonical-amp t1 t2 a p = amp-all a p
 
--- ---- document 01, rows 1 to 3, by computation
+-- ---- rows 1 to 3 of docs/RULES.md, by computation
 row1 : canonicalizeTrackingSwap nought pi one ≡ record { theta1 = nought; theta2 = pi; amp = one; swapped = true }
 unfolding canonicalizeTrackingSwap settled placed wrapToTau arc remEuclid ofBits rem add sub neg lt le round size
 row1 = refl

@@ -1,4 +1,4 @@
--- The refusals in document 01's order. Assumes nothing.
+-- The refusals in the order of docs/RULES.md, Frame lines. Assumes nothing.
 use borrow.Author.Tests.{lt-ltb, le-ltb}
 use Rattle.frames.specs.Frames as F
 use borrow.Author.Needs.{needs}
