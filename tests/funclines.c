@@ -1,6 +1,6 @@
 /* funclines: one ported function called by each line of standard input, one answer a line. Two hexadecimal digits are
  * the function's number, words of eight its arguments; the answer is words alone, or `?` for a line that is not of this
- * form or leaves the function's domain. oracle/README.md has the domains.
+ * form or leaves the function's domain. docs/RULES.md has the numbers, oracle/README.md the domains.
  *
  * A new function takes an export, its declaration in funclines.h, its line_NN here and its ROW in the table. */
 #include "funclines.h"
