@@ -81,7 +81,7 @@ static struct set set(size_t most)
 struct disk {
     size_t n;
     float val_energy;
-    const float *xs, *ys, *vals, *angles, *weights;
+    const float *xs, *ys, *vals_centered, *grad_angles, *grad_weights;
 };
 
 static struct disk disk(void)
@@ -90,14 +90,15 @@ static struct disk disk(void)
     d.val_energy = value();
     d.xs = floats(d.n);
     d.ys = floats(d.n);
-    d.vals = floats(d.n);
-    d.angles = floats(d.n);
-    d.weights = floats(d.n);
+    d.vals_centered = floats(d.n);
+    d.grad_angles = floats(d.n);
+    d.grad_weights = floats(d.n);
     return d;
 }
 
-/* A run of the disk d, as an export takes a slice. */
+/* A run of the disk d, as an export takes a slice; and all five. */
 #define RUN(name) d.name, d.n
+#define RUNS RUN(xs), RUN(ys), RUN(vals_centered), RUN(grad_angles), RUN(grad_weights)
 
 static bool is_repeated(const struct pairs *p, size_t k)
 {
@@ -323,7 +324,8 @@ static void line_52(void) { two(fl_line_separation); }
 
 static void line_53(void)
 {
-    const float *centered = floats(SAMPLES), *p = floats(2), *h1 = floats(SAMPLES), *h2 = floats(SAMPLES), *theta = floats(2);
+    const float *centered = floats(SAMPLES), *p = floats(2), *h1 = floats(SAMPLES), *h2 = floats(SAMPLES);
+    const float *theta = floats(2);
     if (ends()) put_seed(fl_score_seed_pair(centered, p[0], p[1], h1, h2, theta[0], theta[1]));
 }
 
@@ -384,7 +386,7 @@ static void line_71(void)
 {
     struct disk d = disk();
     const float *base = floats(2);
-    if (ends()) put_set(fl_histogram_candidates(RUN(angles), RUN(weights), base[0], base[1]));
+    if (ends()) put_set(fl_histogram_candidates(RUN(grad_angles), RUN(grad_weights), base[0], base[1]));
 }
 
 static void line_72(void)
@@ -439,7 +441,7 @@ static void line_80(void)
 {
     struct disk d = disk();
     const float *p = floats(4), *h0 = floats(d.n), *h1 = floats(d.n);
-    if (ends()) put_fit(fl_score_pair_cached(d.val_energy, RUN(vals), p[0], p[1], p[2], p[3], h0, d.n, h1, d.n));
+    if (ends()) put_fit(fl_score_pair_cached(d.val_energy, RUN(vals_centered), p[0], p[1], p[2], p[3], h0, d.n, h1, d.n));
 }
 
 static void line_81(void)
@@ -447,7 +449,7 @@ static void line_81(void)
     struct disk d = disk();
     struct set s = set(ANGLES);
     if (!ends()) return;
-    struct sums sums = fl_precompute_edge_alignments(RUN(angles), RUN(weights), s);
+    struct sums sums = fl_precompute_edge_alignments(RUN(grad_angles), RUN(grad_weights), s);
     put_value(sums.total);
     put_values(sums.sums, s.n);
 }
@@ -462,7 +464,7 @@ static void line_83(void)
 {
     struct disk d = disk();
     const float *fit = floats(9);
-    if (ends()) put_values(fl_fit_std_errors(RUN(xs), RUN(ys), RUN(vals), fit).values, 2);
+    if (ends()) put_values(fl_fit_std_errors(RUN(xs), RUN(ys), RUN(vals_centered), fit).values, 2);
 }
 
 /* ---- 90 to 95: the search */
@@ -472,7 +474,7 @@ static void line_90(void)
     struct disk d = disk();
     const float *base = floats(2);
     if (!ends()) return;
-    struct best best = fl_best_disk_fit(d.val_energy, base[0], base[1], RUN(xs), RUN(ys), RUN(vals), RUN(angles), RUN(weights));
+    struct best best = fl_best_disk_fit(d.val_energy, base[0], base[1], RUNS);
     put_fit(best.fit);
     put(best.trials);
 }
@@ -498,14 +500,14 @@ static void line_93(void)
     struct disk d = disk();
     const float *seed = floats(9);
     if (!ends()) return;
-    struct fit9 best = fl_refine_fit_cached(seed, d.val_energy, RUN(xs), RUN(ys), RUN(vals), RUN(angles), RUN(weights));
+    struct fit9 best = fl_refine_fit_cached(seed, d.val_energy, RUNS);
     put_values(best.values, 9);
 }
 
 static void line_94(void)
 {
     struct disk d = disk();
-    if (ends()) put_value(fl_edge_weight_total(RUN(weights)));
+    if (ends()) put_value(fl_edge_weight_total(RUN(grad_weights)));
 }
 
 static void line_95(void)
@@ -515,7 +517,7 @@ static void line_95(void)
     const float *offsets = floats(3);
     float width = value();
     if (!ends()) return;
-    struct rows r = fl_build_axis_rows(RUN(xs), RUN(ys), RUN(angles), RUN(weights), base, offsets, width);
+    struct rows r = fl_build_axis_rows(RUN(xs), RUN(ys), RUN(grad_angles), RUN(grad_weights), base, offsets, width);
     put_values(r.sums, 3);
     for (size_t k = 0; k < 3; k++) put_values(r.rows[k], d.n);
 }

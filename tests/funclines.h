@@ -31,7 +31,7 @@ struct fit9 { bool some; float values[9]; };
 struct leaders { struct fit9 first, second; };
 struct best { struct fit9 fit; size_t trials; };
 struct sums { float total, sums[ANGLES]; };
-struct rows { float sums[3], rows[3][PIXELS]; };
+struct rows { float sums[3], rows[7][PIXELS]; };   /* three rows; what stands behind them is of no account */
 
 /* 10 to 17 */
 float fl_rem_euclid_pi(float x);
@@ -85,7 +85,8 @@ struct start fl_refine_seed_candidates(const float samples[SAMPLES], const float
 
 /* 70 to 77 */
 struct set fl_push_unique(struct set set, float angle, float min_sep);
-struct set fl_histogram_candidates(const float *angles, size_t, const float *weights, size_t, float base0, float base1);
+struct set fl_histogram_candidates(const float *grad_angles, size_t, const float *grad_weights, size_t, float base0,
+                                   float base1);
 struct pair fl_forced_seed_pair(struct set set, float base0, float base1);
 struct pair fl_forced_histogram_pair(struct set set, const float *edges, size_t);
 struct index fl_closest_candidate(struct set set, float target);
@@ -95,22 +96,25 @@ struct pairs fl_build_pair_pool(struct set set, const float *edges, size_t, floa
 float fl_combine_edge_pair(float a, float b, float total);
 
 /* 80 to 83 */
-struct fit9 fl_score_pair_cached(float val_energy, const float *vals, size_t, float theta0, float theta1, float width,
-                                 float edge_score, const float *h0, size_t, const float *h1, size_t);
-struct sums fl_precompute_edge_alignments(const float *angles, size_t, const float *weights, size_t, struct set set);
+struct fit9 fl_score_pair_cached(float val_energy, const float *vals_centered, size_t, float theta0, float theta1,
+                                 float width, float edge_score, const float *h0, size_t, const float *h1, size_t);
+struct sums fl_precompute_edge_alignments(const float *grad_angles, size_t, const float *grad_weights, size_t,
+                                          struct set set);
 bool fl_fit_is_better(const float a[9], const float b[9]);
-struct two fl_fit_std_errors(const float *xs, size_t, const float *ys, size_t, const float *vals, size_t,
+struct two fl_fit_std_errors(const float *xs, size_t, const float *ys, size_t, const float *vals_centered, size_t,
                              const float fit[9]);
 
 /* 90 to 95 */
 struct best fl_best_disk_fit(float val_energy, float base0, float base1, const float *xs, size_t, const float *ys, size_t,
-                             const float *vals, size_t, const float *angles, size_t, const float *weights, size_t);
+                             const float *vals_centered, size_t, const float *grad_angles, size_t,
+                             const float *grad_weights, size_t);
 struct pairs fl_rank(struct pairs pool);
 struct leaders fl_insert_top(struct fit9 first, struct fit9 second, const float fit[9]);
 struct fit9 fl_refine_fit_cached(const float seed[9], float val_energy, const float *xs, size_t, const float *ys, size_t,
-                                 const float *vals, size_t, const float *angles, size_t, const float *weights, size_t);
-float fl_edge_weight_total(const float *weights, size_t);
-struct rows fl_build_axis_rows(const float *xs, size_t, const float *ys, size_t, const float *angles, size_t,
-                               const float *weights, size_t, float base, const float offsets[3], float width);
+                                 const float *vals_centered, size_t, const float *grad_angles, size_t,
+                                 const float *grad_weights, size_t);
+float fl_edge_weight_total(const float *grad_weights, size_t);
+struct rows fl_build_axis_rows(const float *xs, size_t, const float *ys, size_t, const float *grad_angles, size_t,
+                               const float *grad_weights, size_t, float base, const float offsets[3], float width);
 
 #endif

@@ -13,6 +13,8 @@ use search_ranking::Ranked;
 ghost use mathlib.Core.Path.{_≡_};
 ghost use Prim.Native.Nat.{_≤_};
 ghost use lib.ListN.{length};
+ghost use Rattle.data.specs.Data.{Sized};
+ghost use Rattle.search_rows.specs.Rows.{Outlined};
 
 // ---- what crosses to C, under the names of tests/funclines.h; `some` is false where there is nothing
 
@@ -78,11 +80,11 @@ pub struct Sums {
     pub sums: [f32; 64],
 }
 
-// Three rows, 320 places apart.
+// Three rows, 320 places apart, and what else their maker had room for.
 #[repr(C)]
 pub struct Rows {
     pub sums: [f32; 3],
-    pub rows: [f32; 960],
+    pub rows: [f32; 2240],
 }
 
 fn candidates_of(s: Set) -> CandidateSet
@@ -186,42 +188,33 @@ fn ranking_of(p: PairScore) -> Ranking {
     }
 }
 
-// The places behind the n pairs hold the first: nobody reads them.
 fn pool_of(ps: Pairs) -> Pool
-    requires { ⌜ ps .n ≤ 276 ⌝ }
     ensures { λ r. ⌜ r .n ≡ ps .n ⌝ }
 {
-    let n = ps.n;
     let first = score_of(ps.pairs[0]);
     let mut pairs = [first; 276];
-    for k in 0..n {
+    for k in 0..276usize {
         pairs[k] = score_of(ps.pairs[k]);
     }
-    Pool { n, pairs }
+    Pool { n: ps.n, pairs }
 }
 
-fn pairs_of(pool: Pool) -> Pairs
-    requires { ⌜ pool .n ≤ 276 ⌝ }
-{
-    let n = pool.n;
+fn pairs_of(pool: Pool) -> Pairs {
     let first = ranking_of(pool.pairs[0]);
     let mut pairs = [first; 276];
-    for k in 0..n {
+    for k in 0..276usize {
         pairs[k] = ranking_of(pool.pairs[k]);
     }
-    Pairs { n, pairs }
+    Pairs { n: pool.n, pairs }
 }
 
-fn ranked_of(top: Ranked) -> Pairs
-    requires { ⌜ top .n ≤ 24 ⌝ }
-{
-    let n = top.n;
+fn ranked_of(top: Ranked) -> Pairs {
     let first = ranking_of(top.pairs[0]);
     let mut pairs = [first; 276];
-    for k in 0..n {
+    for k in 0..24usize {
         pairs[k] = ranking_of(top.pairs[k]);
     }
-    Pairs { n, pairs }
+    Pairs { n: top.n, pairs }
 }
 
 // ---- 70 to 77: candidate angles and their pairs
@@ -236,14 +229,14 @@ pub extern "C" fn fl_push_unique(set: Set, angle: f32, min_sep: f32) -> Set
 
 #[no_mangle]
 pub extern "C" fn fl_histogram_candidates(
-    angles: &[f32],
-    weights: &[f32],
+    grad_angles: &[f32],
+    grad_weights: &[f32],
     base0: f32,
     base1: f32,
 ) -> Set
-    requires { ⌜ length (now weights) ≡ length (now angles) ⌝ }
+    requires { ⌜ length (now «grad_weights») ≡ length (now «grad_angles») ⌝ }
 {
-    set_of(candidates::histogram_candidates(angles, weights, base0, base1))
+    set_of(candidates::histogram_candidates(grad_angles, grad_weights, base0, base1))
 }
 
 #[no_mangle]
@@ -305,7 +298,7 @@ pub extern "C" fn fl_combine_edge_pair(a: f32, b: f32, total: f32) -> f32 {
 #[no_mangle]
 pub extern "C" fn fl_score_pair_cached(
     val_energy: f32,
-    vals: &[f32],
+    vals_centered: &[f32],
     theta0: f32,
     theta1: f32,
     width: f32,
@@ -313,13 +306,13 @@ pub extern "C" fn fl_score_pair_cached(
     h0: &[f32],
     h1: &[f32],
 ) -> Fit9
-    requires { ⌜ length (now h0) ≡ length (now vals) ⌝ }
-    requires { ⌜ length (now h1) ≡ length (now vals) ⌝ }
-    requires { ⌜ length (now vals) ≤ 320 ⌝ }
+    requires { ⌜ length (now h0) ≡ length (now «vals_centered») ⌝ }
+    requires { ⌜ length (now h1) ≡ length (now «vals_centered») ⌝ }
+    requires { ⌜ length (now «vals_centered») ≤ 320 ⌝ }
 {
     optional_of(score::score_pair_cached(
         val_energy,
-        vals,
+        vals_centered,
         theta0,
         theta1,
         width,
@@ -330,18 +323,22 @@ pub extern "C" fn fl_score_pair_cached(
 }
 
 #[no_mangle]
-pub extern "C" fn fl_precompute_edge_alignments(angles: &[f32], weights: &[f32], set: Set) -> Sums
-    requires { ⌜ length (now weights) ≡ length (now angles) ⌝ }
-    requires { ⌜ length (now angles) ≤ 320 ⌝ }
+pub extern "C" fn fl_precompute_edge_alignments(
+    grad_angles: &[f32],
+    grad_weights: &[f32],
+    set: Set,
+) -> Sums
+    requires { ⌜ length (now «grad_weights») ≡ length (now «grad_angles») ⌝ }
+    requires { ⌜ length (now «grad_angles») ≤ 320 ⌝ }
     requires { ⌜ set .n ≤ 64 ⌝ }
 {
     let mut terms = [0.0f32; 320];
     let mut sums = [0.0f32; 64];
     let from = 0usize;
-    let n = angles.len();
+    let n = grad_angles.len();
     let total = score::precompute_edge_alignments(
-        angles,
-        weights,
+        grad_angles,
+        grad_weights,
         candidates_of(set),
         &mut terms[from..n],
         &mut sums,
@@ -355,12 +352,17 @@ pub extern "C" fn fl_fit_is_better(a: &[f32; 9], b: &[f32; 9]) -> bool {
 }
 
 #[no_mangle]
-pub extern "C" fn fl_fit_std_errors(xs: &[f32], ys: &[f32], vals: &[f32], fit: &[f32; 9]) -> Two
+pub extern "C" fn fl_fit_std_errors(
+    xs: &[f32],
+    ys: &[f32],
+    vals_centered: &[f32],
+    fit: &[f32; 9],
+) -> Two
     requires { ⌜ length (now ys) ≡ length (now xs) ⌝ }
-    requires { ⌜ length (now vals) ≡ length (now xs) ⌝ }
+    requires { ⌜ length (now «vals_centered») ≡ length (now xs) ⌝ }
     requires { ⌜ length (now xs) ≤ 320 ⌝ }
 {
-    let e = score::fit_std_errors(xs, ys, vals, fit_of(*fit));
+    let e = score::fit_std_errors(xs, ys, vals_centered, fit_of(*fit));
     Two {
         values: [e.error1, e.error2],
     }
@@ -375,17 +377,22 @@ pub extern "C" fn fl_best_disk_fit(
     base1: f32,
     xs: &[f32],
     ys: &[f32],
-    vals: &[f32],
-    angles: &[f32],
-    weights: &[f32],
+    vals_centered: &[f32],
+    grad_angles: &[f32],
+    grad_weights: &[f32],
 ) -> Best
-    requires { ⌜ length (now xs) ≤ 320 ⌝ }
-    requires { ⌜ length (now ys) ≡ length (now xs) ⌝ }
-    requires { ⌜ length (now vals) ≡ length (now xs) ⌝ }
-    requires { ⌜ length (now angles) ≡ length (now xs) ⌝ }
-    requires { ⌜ length (now weights) ≡ length (now xs) ⌝ }
+    requires { ⌜ Sized (now xs) (now ys) (now «vals_centered») (now «grad_angles») (now «grad_weights») ⌝ }
 {
-    let found = search::best_disk_fit(val_energy, base0, base1, xs, ys, vals, angles, weights);
+    let found = search::best_disk_fit(
+        val_energy,
+        base0,
+        base1,
+        xs,
+        ys,
+        vals_centered,
+        grad_angles,
+        grad_weights,
+    );
     match found {
         DiskFit::Best(f, trials) => {
             let fit = values_of(f);
@@ -428,76 +435,53 @@ pub extern "C" fn fl_refine_fit_cached(
     val_energy: f32,
     xs: &[f32],
     ys: &[f32],
-    vals: &[f32],
-    angles: &[f32],
-    weights: &[f32],
+    vals_centered: &[f32],
+    grad_angles: &[f32],
+    grad_weights: &[f32],
 ) -> Fit9
-    requires { ⌜ length (now xs) ≤ 320 ⌝ }
-    requires { ⌜ length (now ys) ≡ length (now xs) ⌝ }
-    requires { ⌜ length (now vals) ≡ length (now xs) ⌝ }
-    requires { ⌜ length (now angles) ≡ length (now xs) ⌝ }
-    requires { ⌜ length (now weights) ≡ length (now xs) ⌝ }
+    requires { ⌜ Sized (now xs) (now ys) (now «vals_centered») (now «grad_angles») (now «grad_weights») ⌝ }
 {
-    let mut r1 = [0.0f32; 960];
-    let mut e1 = [0.0f32; 3];
-    let mut r2 = [0.0f32; 960];
-    let mut e2 = [0.0f32; 3];
-    let mut terms = [0.0f32; 320];
-    let from = 0usize;
-    let n = xs.len();
+    let mut rows = [0.0f32; 2240];
     let r = search_refine::refine_fit_cached(
         fit_of(*seed),
         val_energy,
         xs,
         ys,
-        vals,
-        angles,
-        weights,
-        &mut r1,
-        &mut e1,
-        &mut r2,
-        &mut e2,
-        &mut terms[from..n],
+        vals_centered,
+        grad_angles,
+        grad_weights,
+        &mut rows,
     );
     values_of(r.best)
 }
 
 #[no_mangle]
-pub extern "C" fn fl_edge_weight_total(weights: &[f32]) -> f32 {
-    score_edges::edge_weight_total(weights)
+pub extern "C" fn fl_edge_weight_total(grad_weights: &[f32]) -> f32 {
+    score_edges::edge_weight_total(grad_weights)
 }
 
 #[no_mangle]
 pub extern "C" fn fl_build_axis_rows(
     xs: &[f32],
     ys: &[f32],
-    angles: &[f32],
-    weights: &[f32],
+    grad_angles: &[f32],
+    grad_weights: &[f32],
     base: f32,
     offsets: &[f32; 3],
     width: f32,
 ) -> Rows
-    requires { ⌜ length (now xs) ≤ 320 ⌝ }
-    requires { ⌜ length (now ys) ≡ length (now xs) ⌝ }
-    requires { ⌜ length (now angles) ≡ length (now xs) ⌝ }
-    requires { ⌜ length (now weights) ≡ length (now xs) ⌝ }
+    requires { ⌜ Outlined (now xs) (now ys) (now «grad_angles») (now «grad_weights») ⌝ }
 {
-    let mut rows = [0.0f32; 960];
-    let mut sums = [0.0f32; 3];
-    let mut terms = [0.0f32; 320];
-    let from = 0usize;
-    let n = xs.len();
-    search_refine::build_axis_rows(
+    let mut rows = [0.0f32; 2240];
+    let sums = search_rows::build_axis_rows(
         xs,
         ys,
-        angles,
-        weights,
+        grad_angles,
+        grad_weights,
         base,
         offsets,
         width,
         &mut rows,
-        &mut sums,
-        &mut terms[from..n],
     );
     Rows { sums, rows }
 }
