@@ -83,6 +83,32 @@ module _ (samples angles : List Float) where
       go (wrong-value p b f e) = rw e tt
       go (answered s l c e) = rw e tt
 
+  -- what number 1 means: a length is not 16, and the place is 0
+  pub ring-wrong-length : ringNumber answer ≡ 1 → ((eqb (length samples) 16 && eqb (length angles) 16) ≡ false) × (ringPlace answer ≡ 0)
+  unfolding ringNumber ringPlace C.ringFitted
+  ring-wrong-length n = go ring-cases
+    where
+      no : {A : Type 0} (m : ℕ) → ringNumber answer ≡ m → (m ≡ 1 → ⊥) → A
+      no m e f = absurd (f (sym e ∙ n))
+
+      go : RingCase answer → ((eqb (length samples) 16 && eqb (length angles) 16) ≡ false) × (ringPlace answer ≡ 0)
+      go (wrong-length l e) = rw e (l, refl)
+      go (wrong-value p b f e) = no 3 (ap ringNumber e) (λ z. omega arith)
+      go (answered s l c e) = no 0 (ap ringNumber e) (λ z. omega arith)
+
+  -- what number 3 means: the value at the place is not finite, all before it are, and the place is one of the 32
+  pub ring-wrong-value : ringNumber answer ≡ 3 → IsFirstWild inputs (ringPlace answer) × (ringPlace answer < 32)
+  unfolding ringNumber ringPlace C.ringFitted
+  ring-wrong-value n = go ring-cases
+    where
+      no : {A : Type 0} (m : ℕ) → ringNumber answer ≡ m → (m ≡ 3 → ⊥) → A
+      no m e f = absurd (f (sym e ∙ n))
+
+      go : RingCase answer → IsFirstWild inputs (ringPlace answer) × (ringPlace answer < 32)
+      go (wrong-length l e) = no 1 (ap ringNumber e) (λ z. omega arith)
+      go (wrong-value p b f e) = rw e (f, b)
+      go (answered s l c e) = no 0 (ap ringNumber e) (λ z. omega arith)
+
   -- what number 0 means: 32 finite values, and the fit of the Rust with its own counts, value by value
   pub record RingFitted : Type 0 where
     pub sixteen : length samples ≡ 16
@@ -228,6 +254,21 @@ module _ (D : DiskData) (base0 base1 : Float) where
       go (wrong-disk-value p b c f e) = rw e (omega arith)
       go (no-fit u l c g e) = rw e (omega arith)
       go (disk-answered f u l c g e) = rw e (omega arith)
+
+  -- number 3: the value at the place is not finite, all before it are, and the place is one of the 3 + 5 n
+  pub disk-wrong-value : diskNumber disk-answer ≡ 3 → IsFirstWild disk-inputs (diskPlace disk-answer) × (diskPlace disk-answer < 3 + 5 * D .n)
+  unfolding diskNumber diskPlace C.measuredOf
+  disk-wrong-value n = go disk-cases
+    where
+      no : {A : Type 0} (m : ℕ) → diskNumber disk-answer ≡ m → (m ≡ 3 → ⊥) → A
+      no m e f = absurd (f (sym e ∙ n))
+
+      go : DiskCase disk-answer → IsFirstWild disk-inputs (diskPlace disk-answer) × (diskPlace disk-answer < 3 + 5 * D .n)
+      go (wrong-count x e) = no 2 (ap diskNumber e) (λ z. omega arith)
+      go (wrong-lengths x y e) = no 1 (ap diskNumber e) (λ z. omega arith)
+      go (wrong-disk-value p b c f e) = rw e (f, b)
+      go (no-fit u l c g e) = no 4 (ap diskNumber e) (λ z. omega arith)
+      go (disk-answered f u l c g e) = no 0 (ap diskNumber e) (λ z. omega arith)
 
   -- number 4: every value is finite, the search answers nothing, its trials are the place, exactly 4 k of them, and no trial had answered
   pub disk-nothing : diskNumber disk-answer ≡ 4 → AllFinite disk-inputs × (bestDiskFit D base0 base1 ≡ Missing (diskPlace disk-answer)) ×
