@@ -1,5 +1,5 @@
 -- What Rust's library does on f32 and f64, for every value: NaN, infinities, both zeros and subnormals. Definitions only.
--- Document 01, "Float meaning", decides what Rust leaves open: a NaN counts as 7fc00000, and `max` and `min` take +0 as greater than -0.
+-- What Rust leaves open docs/RULES.md, Floats, decides: a NaN counts as 7fc00000, and `max` and `min` take +0 as greater than -0.
 use mathlib.Core.Bool.{Bool, true, false, not, _&&_, _||_, cond}
 use Prim.Native.Nat.{ℕ, zero, suc, _+_, _-_, _*_, _/_, _%_, _^_}
 use lib.IntN.{pos, negsuc}

@@ -12,7 +12,7 @@ use Rattle.loops.specs.TabLaws.{tab-length, part-kept, part-same, part-length}
 use Rattle.candidates.specs.declared.CandidateSet.{CandidateSet}
 use Rattle.score.specs.Score.{scorePairCached}
 use Rattle.score.specs.declared.Scored.{Scored}
-use Rattle.data.specs.Data.{Row, at}
+use Rattle.floats.specs.Rows.{Row, at}
 use Rattle.search_refine.specs.Refine.{axisRow}
 use Rattle.search_refine.specs.RefineLaws.{part-after}
 use Rattle.candidates.specs.declared.PairScore.{PairScore}
