@@ -2,16 +2,17 @@
 -- one given; both errors of a fit lie from 0 to PI, as those of every matrix do. The candidates' edge sums are stored one by one, unless
 -- the weights' total is at most 1e-9. Assumes nothing.
 use mathlib.Core.Path.{_≡_, refl, sym, subst}
-use mathlib.Core.Bool.{Bool, true, false, cond, _||_}
+use mathlib.Core.Bool.{Bool, true, false, cond}
 use Prim.Native.Nat.{ℕ}
 use lib.Dec.{T}
-use lib.Ieee.{Float, binary32, lt, le, fits, isNan}
+use lib.Ieee.{Float, binary32, le, fits}
 use lib.Ieee.Fits.{div-fits}
 use lib.ListN.{length}
-use Rattle.floats.specs.Ops.{_⊖_, _⊗_, _⊘_, nought, one, pi, tau}
+use Rattle.floats.specs.Ops.{_⊖_, _⊗_, _⊘_, nought, one}
 use Rattle.floats.specs.Library.{narrow}
 use Rattle.geometry.specs.Geometry.{validPair}
-use Rattle.solver_axes.specs.CanonicalLaws.{canonical-range, canonical-amp}
+use Rattle.solver_axes.specs.Canonical.{CanonicalRange}
+use Rattle.solver_axes.specs.CanonicalLaws.{canonical-range}
 use Rattle.solver_elimination.specs.SolveLaws.{Bounded, errors-bounded}
 use Rattle.floats.specs.Rows.{Row, at, count}
 use Rattle.data.specs.Data.{DiskData, diskOf}
@@ -60,12 +61,8 @@ module _ (P : Fit → Type 0) (theta0 theta1 width edgeScore : Float) where
       go true false = sums-every h (D .«val_energy») (one ⊘ count (D .n)) (pairSums (D .n) (D .«vals_centered») h0 h1)
 
 -- ---- a sound fit
-pub record SoundFit (f : Fit) : Type 0 where
-  pub low : T (le nought (f .theta1))
-  pub first : T (lt (f .theta1) pi)
-  pub order : T (le (f .theta1) (f .theta2))
-  pub second : T (lt (f .theta2) tau)
-  pub size : T (isNan (f .amp) || le nought (f .amp))
+abbrev pub SoundFit : Fit → Type 0
+SoundFit f = CanonicalRange (f .theta1) (f .theta2) (f .amp)
 
 -- where theta0 and theta1 are values that an f32 holds
 module _ (D : DiskData) (theta0 theta1 width edgeScore : Float) (h0 h1 : Row) (f : Fit) where
@@ -74,11 +71,7 @@ module _ (D : DiskData) (theta0 theta1 width edgeScore : Float) (h0 h1 : Row) (f
   unfolding fitOf
   scored-sound p q =
       scored-every SoundFit theta0 theta1 width edgeScore
-      (λ valEnergy nInv dot denom.
-      let r = canonical-range theta0 theta1 (dot ⊘ denom) p q in
-      let a = canonical-amp theta0 theta1 (dot ⊘ denom) (div-fits binary32 dot denom) in
-      record { low = r .low; first = r .first; order = r .order; second = r .second; size = a })
-      D h0 h1 f
+      (λ valEnergy nInv dot denom. canonical-range theta0 theta1 (dot ⊘ denom) p q (div-fits binary32 dot denom)) D h0 h1 f
 
   -- a scored fit has the width that was given
   pub scored-width : scorePairCached D theta0 theta1 width edgeScore h0 h1 ≡ Found f → f .width ≡ width

@@ -17,6 +17,9 @@ ghost use Rattle.search_rows.specs.Rows as R;
 
 const SCRATCH: usize = 6 * data::MAX_TANH_PIXELS;
 
+// The buffer's length.
+pub const ROWS: usize = SCRATCH + data::MAX_TANH_PIXELS;
+
 // The angle and the edge sum of each slot's row, and the total of the weights.
 pub struct Slots {
     pub keys: [f32; 6],

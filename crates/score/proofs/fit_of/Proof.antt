@@ -12,7 +12,7 @@ returns c =
     let c5 = c4 .before in
     let c6 = c5 .before in
     rw (
-      c .canonicalize-tracking-swap .ensures,
+      c .canonicalize-tracking-swap .ensures .0,
       c .before .max2 .ensures,
       c .before .before .abs2 .ensures,
       c3 .sqrt2 .ensures,
