@@ -4,8 +4,9 @@ use mathlib.Core.Bool.{Bool, true, false, not, _&&_, _||_, cond}
 use Prim.Native.Nat.{ℕ, zero, suc, _+_, _-_, _*_, _/_, _%_, _^_}
 use lib.IntN.{pos, negsuc}
 use lib.Dec.{leb, ltb}
-use lib.Ieee.{Float, nan, inf, fin, Format, binary32, prec, emax, low, up, down, size, units, round, add, rem, neg, lt, eq, isNan, ofInt, toUnsigned, toBits}
+use lib.Ieee.{Float, nan, inf, fin, Format, binary32, prec, emax, low, up, down, size, units, round, add, rem, neg, lt, eq, isNan, toUnsigned, toBits}
 use Rattle.floats.specs.Ops.{_⊗_, _⊘_, lit, nought, one, pi}
+use Rattle.floats.specs.Rows.{count}
 
 -- whether the sign is set, that of a zero or an infinity too
 unfoldable pub negative : Float → Bool
@@ -105,4 +106,4 @@ abbrev pub histBins : ℕ
 histBins = 72
 
 unfoldable pub bin : Float → ℕ
-bin a = toIndex (floor binary32 (a ⊘ pi ⊗ ofInt binary32 (pos histBins))) % histBins
+bin a = toIndex (floor binary32 (a ⊘ pi ⊗ count histBins)) % histBins
