@@ -306,10 +306,10 @@ fn moved(p: Params, d0: f32, d1: f32, d2: f32, d3: f32) -> Params
     }
 }
 
-// Where the updates stopped: the parameters, the last pass's sum of squares, and the count.
+// Where the updates stopped: the parameters, the last pass's sums, and the count.
 struct Run {
     p: Params,
-    ssr: f32,
+    s: Sums,
     count: usize,
 }
 
@@ -324,13 +324,13 @@ fn run_updates(
     jtj: &mut [[f32; 4]; 4],
 ) -> Run
     requires { ⌜ B.Room (now samples) (now sphi) (now cphi) (now js) ⌝ }
-    ensures { λ r. ⌜ B.Stopped (r .p) (now (jtj .exit)) (r .ssr) (r .count)
+    ensures { λ r. ⌜ B.Stopped (r .p) (now (jtj .exit)) (r .s .rr) (r .count)
         (S.updates (length (now (samples .entry))) (now (samples .entry)) (now (sphi .entry)) (now (cphi .entry)) seed) ⌝ }
 {
     let mut p = seed;
     let mut count = 0usize;
-    // `pass` has two calls, here and at the loop's end, and so stays a function of its own: put into
-    // the loop, its sums would be packed as the matrix is, at 47 instructions a sample and not 21.
+    // Two calls, here and at the loop's end, keep `pass` a function of its own: put into the loop, its
+    // sums would be packed as the matrix is, at 47 instructions a sample and not 21.
     let mut s = pass(samples, sphi, cphi, p, js);
     loop {
         let m = matrix_of(s);
@@ -351,11 +351,7 @@ fn run_updates(
         count += 1;
         s = pass(samples, sphi, cphi, p, js);
     }
-    Run {
-        p,
-        ssr: s.rr,
-        count,
-    }
+    Run { p, s, count }
 }
 
 pub fn degenerate_fit(centered_var: f32) -> TwoAxisFit
@@ -432,7 +428,8 @@ pub fn fit_prepared(
 {
     let mut jtj = [[0.0f32; 4]; 4];
     let run = run_updates(samples, sphi, cphi, seed, js, &mut jtj);
-    let fit = finished(run.p, &jtj, run.ssr, samples.len());
+    let s = run.s;
+    let fit = finished(run.p, &jtj, s.rr, samples.len());
     Started {
         fit,
         updates: run.count,
