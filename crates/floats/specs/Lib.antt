@@ -19,3 +19,4 @@ pub mod ProductLaws
 pub mod MaxMinLaws
 pub mod NanLaws
 pub mod RootRangeLaws
+pub mod RootOrderLaws
