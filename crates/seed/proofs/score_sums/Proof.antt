@@ -1,8 +1,8 @@
 -- The flat pair answers nothing, and the rest is straight steps. Assumes nothing.
 use Rattle.seed.specs.Seed as S
 use borrow.Author.Needs.{needs}
-use Rattle.seed.proofs.scored.Statement.{statement}
-use Rattle.seed.proofs.scored.Tie as tie
+use Rattle.seed.proofs.score_sums.Statement.{statement}
+use Rattle.seed.proofs.score_sums.Tie as tie
 
 returns : tie.Need-returns
 unfolding S.scored
@@ -10,10 +10,12 @@ returns c = rw (← c .before .is-flat .ensures, c .if1 .taken)
 
 returns-2 : tie.Need-returns-2
 unfolding S.scored
-returns-2 c = rw (← c .before .before .before .before .before .before .is-flat .ensures, c .before .before .before .before .before .if1 .left, ← c .before .before .max .ensures, ← c .before .sqrt .ensures) (c .kept .ensures)
+returns-2 c =
+    let flat = c .before .before .before .before .before .before .is-flat .ensures in
+    rw (← flat, c .before .before .before .before .before .if1 .left, ← c .before .before .max .ensures, ← c .before .sqrt .ensures) (c .kept .ensures)
 
-pub scored-spec : {M : Type 1} → statement M
-scored-spec =
+pub score-sums-spec : {M : Type 1} → statement M
+score-sums-spec =
     tie.close
     (tie.spec
     (λ c κs. search needs) returns (λ c κs. search needs) (λ c κs. search needs) (λ c κs. search needs) returns-2)

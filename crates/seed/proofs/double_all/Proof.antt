@@ -1,0 +1,18 @@
+-- Twice an angle that is near needs no remainder. Assumes nothing.
+use mathlib.Core.Path.{_∙_, sym}
+use Rattle.seed.specs.BufferLaws.{near-doubled}
+use borrow.Author.Needs.{needs}
+use Rattle.seed.proofs.double_all.Statement.{statement}
+use Rattle.seed.proofs.double_all.Tie as tie
+
+returns : tie.Need-returns
+returns c =
+    let near = sym (c .before .before .before .before .before .all-near .ensures) ∙ c .before .before .before .before .if1 .taken in
+    near-doubled _ _ _ near (c .before .before .double-near .ensures)
+
+pub double-all-spec : {M : Type 1} → statement M
+double-all-spec =
+    tie.close
+    (tie.spec
+    (λ c κs. search needs) (λ c κs. search needs) (λ c. search needs) returns (λ c κs. search needs)
+    (λ c. search needs) (λ c. search needs))
