@@ -179,24 +179,10 @@ fn axes_line(w: &[u32], out: &mut [u32]) -> usize
 }
 
 fn fit_with_seed_16(vs: &[f32; 16], phis: &[f32; 16], p: Params, var: f32) -> Started {
-    let mut ss = [0.0f32; 16];
-    let mut cs = [0.0f32; 16];
-    let mut rs = [0.0f32; 16];
-    let mut qs = [0.0f32; 16];
-    let mut d1s = [0.0f32; 16];
-    let mut d2s = [0.0f32; 16];
-    solver::fit_with_seed(
-        vs,
-        phis,
-        p,
-        var,
-        &mut ss,
-        &mut cs,
-        &mut rs,
-        &mut qs,
-        &mut d1s,
-        &mut d2s,
-    )
+    let mut sphi = [0.0f32; 16];
+    let mut cphi = [0.0f32; 16];
+    let mut js = [0.0f32; 64];
+    solver::fit_with_seed(vs, phis, p, var, &mut sphi, &mut cphi, &mut js)
 }
 
 fn start_line(w: &[u32], out: &mut [u32]) -> usize
@@ -310,7 +296,11 @@ fn harmonic_line(w: &[u32], out: &mut [u32]) -> usize
     let mut phis = [0.0f32; 16];
     funclines_wire::values(w, 0, &mut vs);
     funclines_wire::values(w, 16, &mut phis);
-    let h = seed::second_harmonic(&vs, &phis, funclines_wire::value(w, 32));
+    let mean = funclines_wire::value(w, 32);
+    let mut turned = [0.0f32; 16];
+    let mut sphi = [0.0f32; 16];
+    let mut cphi = [0.0f32; 16];
+    let h = seed::second_harmonic(&vs, &phis, mean, &mut turned, &mut sphi, &mut cphi);
     funclines_wire::put(out, 0, h.theta);
     funclines_wire::put(out, 1, h.mag);
     2
@@ -399,27 +389,6 @@ fn seed_line(number: u32, w: &[u32], out: &mut [u32]) -> usize
 
 // ---- 60 to 64: the whole ring
 
-fn fit_ring_16(vs: &[f32; 16], phis: &[f32; 16]) -> RingFit {
-    let mut ss = [0.0f32; 16];
-    let mut cs = [0.0f32; 16];
-    let mut rs = [0.0f32; 16];
-    let mut qs = [0.0f32; 16];
-    let mut d1s = [0.0f32; 16];
-    let mut d2s = [0.0f32; 16];
-    let mut h = [0.0f32; 552];
-    robust::fit_samples(
-        vs,
-        phis,
-        &mut ss,
-        &mut cs,
-        &mut rs,
-        &mut qs,
-        &mut d1s,
-        &mut d2s,
-        &mut h,
-    )
-}
-
 fn put_ring(out: &mut [u32], r: RingFit)
     requires { ⌜ 16 < length (now out) ⌝ }
 {
@@ -437,7 +406,7 @@ fn whole_ring_line(w: &[u32], out: &mut [u32]) -> usize
     let mut phis = [0.0f32; 16];
     funclines_wire::values(w, 0, &mut vs);
     funclines_wire::values(w, 16, &mut phis);
-    put_ring(out, fit_ring_16(&vs, &phis));
+    put_ring(out, robust::fit_ring(&vs, &phis));
     9
 }
 
@@ -455,26 +424,11 @@ fn put_second(out: &mut [u32], s: Second) -> usize
 }
 
 fn grid_fit_16(vs: &[f32; 16], phis: &[f32; 16], mean: f32, var: f32) -> Second {
-    let mut ss = [0.0f32; 16];
-    let mut cs = [0.0f32; 16];
-    let mut rs = [0.0f32; 16];
-    let mut qs = [0.0f32; 16];
-    let mut d1s = [0.0f32; 16];
-    let mut d2s = [0.0f32; 16];
-    let mut h = [0.0f32; 552];
-    robust::robust_grid_fit(
-        vs,
-        phis,
-        mean,
-        var,
-        &mut ss,
-        &mut cs,
-        &mut rs,
-        &mut qs,
-        &mut d1s,
-        &mut d2s,
-        &mut h,
-    )
+    let mut sphi = [0.0f32; 16];
+    let mut cphi = [0.0f32; 16];
+    let mut js = [0.0f32; 64];
+    let mut h = [0.0f32; 386];
+    robust::robust_grid_fit(vs, phis, mean, var, &mut sphi, &mut cphi, &mut js, &mut h)
 }
 
 fn grid_line(w: &[u32], out: &mut [u32]) -> usize
@@ -497,24 +451,10 @@ fn grid_line(w: &[u32], out: &mut [u32]) -> usize
 }
 
 fn refined_16(vs: &[f32; 16], phis: &[f32; 16], var: f32, top: Seed) -> Second {
-    let mut ss = [0.0f32; 16];
-    let mut cs = [0.0f32; 16];
-    let mut rs = [0.0f32; 16];
-    let mut qs = [0.0f32; 16];
-    let mut d1s = [0.0f32; 16];
-    let mut d2s = [0.0f32; 16];
-    robust::refine_seed_candidates(
-        vs,
-        phis,
-        var,
-        top,
-        &mut ss,
-        &mut cs,
-        &mut rs,
-        &mut qs,
-        &mut d1s,
-        &mut d2s,
-    )
+    let mut sphi = [0.0f32; 16];
+    let mut cphi = [0.0f32; 16];
+    let mut js = [0.0f32; 64];
+    robust::refine_seed_candidates(vs, phis, var, top, &mut sphi, &mut cphi, &mut js)
 }
 
 fn refine_line(w: &[u32], top: Seed, out: &mut [u32]) -> usize

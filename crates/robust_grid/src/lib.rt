@@ -165,15 +165,16 @@ fn tried(best: Best, x: f32, c: Seed) -> Best
     requires { ⌜ P.Kept best × P.Squared x c ⌝ }
     ensures { λ r. ⌜ (r .top ≡ G.inserted (best .top) c) × P.Kept r ⌝ }
 {
+    let next = Best { top: c, bound: x };
     let Seed::Found(s) = c else {
         return best;
     };
     let top = best.top;
     let Seed::Found(d) = top else {
-        return Best { top: c, bound: x };
+        return next;
     };
     if s.rms < d.rms {
-        return Best { top: c, bound: x };
+        return next;
     }
     best
 }
