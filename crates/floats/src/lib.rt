@@ -17,16 +17,14 @@ pub const HALF_PI: f32 = 1.57079637;
 pub const QUARTER_PI: f32 = 0.785398185;
 
 // The constants are those of specs/Ops.antt: each is compared there by its bit pattern.
+// 0 - x is +0 at both zeros. Where the result is compared this compiles to one instruction.
 pub fn abs(x: f32) -> f32
     ensures { λ r. ⌜ r ≡ L.abs x ⌝ }
 {
-    if x < 0.0 {
-        return -x;
+    if x > 0.0 {
+        return x;
     }
-    if x == 0.0 {
-        return 0.0;
-    }
-    x
+    0.0 - x
 }
 
 // An infinity less itself is a NaN, and so is a NaN; what is finite leaves a zero.
