@@ -10,9 +10,8 @@ use lib.Ieee.{Float, nan, lt, le, eq, isNan}
 use lib.Ieee.Scale.{finite}
 use Rattle.floats.specs.Ops.{lit, nought, pi, tau}
 use Rattle.solver.specs.SoundLaws.{Sound}
-use Rattle.robust.specs.Robust.{fitRing}
+use Rattle.robust.specs.Robust.{fitRing, ringSum}
 use Rattle.robust.specs.SoundLaws.{Billed, SoundRing, ring-sound}
-use Rattle.robust.specs.Residual.{ringSum}
 use Rattle.robust.specs.ResidualLaws.{ring-tiny}
 use Rattle.robust.specs.declared.RingFit.{RingFit}
 use Rattle.score.specs.Score.{fitStdErrors}
@@ -111,14 +110,17 @@ module _ (samples angles : List Float) (r : RingFit) (known : Bool) where
       go true false w l c e = absurd (never e)
       go false b w l c e = absurd (never e)
 
-  -- A residual of 0 is never a non-number in disguise: the sum of squares that the rms was made of is a number and at most 2 ^ -146, the largest whose sixteenth rounds to 0.
-  -- `ringSum` goes through the fit's own cases, and `ring-made` of ring_fit's ResidualLaws says of every such ring that the rms is the root of its sixteenth, or, for a start that is refused, of the greater of that and 0.
-  pub ring-zero : checkedRing samples angles ≡ Fitted r known → eq (r .fit .rms) nought ≡ true → T (not (isNan (ringSum 16 samples angles))) × T (le (ringSum 16 samples angles) (lit 0x0000_0008))
+  -- A residual of 0 is never a non-number in disguise: the sum of squares that the rms was made of is a number, not below 0, and at most 2 ^ -146, the
+  -- largest whose sixteenth rounds to 0. The sum is that of the answered start, and `ring-made` of robust's ResidualLaws says of every ring that the rms
+  -- is the root of the sum's sixteenth, or, for a start that is refused, of the greater of that and 0.
+  pub ring-zero : checkedRing samples angles ≡ Fitted r known → eq (r .fit .rms) nought ≡ true
+      → T (not (isNan (ringSum 16 samples angles))) × T (le nought (ringSum 16 samples angles)) × T (le (ringSum 16 samples angles) (lit 0x0000_0008))
   ring-zero e z =
       let c = answered-clean e in
       let w : wildFrom samples 16 0 ≡ Clean = subst (λ (n : ℕ). wildFrom samples n 0 ≡ Clean) (c .0) (unfold firstWild in c .1) in
-      let t = ring-tiny samples angles (λ i l. let z : 0 + i ≡ i = omega arith in rw z at (all-finite samples 16 0 w i l)) (subst (λ (x : RingFit). eq (x .fit .rms) nought ≡ true) (answered-is-the-fit e) z) in
-      (t .number, t .small)
+      let fine = λ i l. let z : 0 + i ≡ i = omega arith in rw z at (all-finite samples 16 0 w i l) in
+      let t = ring-tiny samples angles fine (subst (λ (x : RingFit). eq (x .fit .rms) nought ≡ true) (answered-is-the-fit e) z) in
+      (t .number, t .above, t .small)
 
 -- ---- the disk
 -- what an answer is made of: the search's own fit with its number of trials, and the errors of that fit

@@ -1,18 +1,20 @@
 -- What the code's own steps come to: constants as they are derived, a refused start that is never suspicious, and the answers of one or two starts, which
 -- need no sum. Assumes nothing.
 use mathlib.Core.Path.{_≡_, refl, sym, ap, _∙_, subst}
-use mathlib.Core.Bool.{Bool, true, false, cond, _||_, false≢true}
+use mathlib.Core.Bool.{Bool, true, false, cond, not, _||_}
 use mathlib.Core.Option.{Option, none, some}
 use Prim.Native.Nat.{ℕ}
+use native.Mathlib.Omega.{arith}
 use lib.ListN.{length}
 use lib.Ieee.{Float, lt, mul, ofBits}
 use lib.Ieee.Scale.{finite}
-use Rattle.floats.specs.Ops.{_⊗_, lit, quarterPi}
+use Rattle.floats.specs.Ops.{lit}
 use Rattle.floats.specs.Library.{toRadians}
 use Rattle.loops.specs.TabLaws.{tab-length}
 use Rattle.solver_elimination.specs.Solve.{Row}
 use Rattle.solver.specs.Solver.{sines, cosines, updates, whole, degenerate, degenerateFit, fitWithSeed}
 use Rattle.solver.specs.Buffers.{Prepared}
+use Rattle.solver.specs.SolverLaws.{prepared-length, whole-prepared}
 use Rattle.solver.specs.declared.Params.{Params}
 use Rattle.solver.specs.declared.Started.{Started}
 use Rattle.solver.specs.declared.TwoAxisFit.{TwoAxisFit}
@@ -22,7 +24,7 @@ use Rattle.robust_grid.specs.Grid.{bestOf, bestSeed}
 use Rattle.robust_grid.specs.Places.{Grid, scoreAt}
 use Rattle.robust_grid.specs.PlaceLaws.{grid-best}
 use Rattle.robust.specs.declared.Second.{Second}
-use Rattle.robust.specs.declared.Second.the-variants.{Missing}
+use Rattle.robust.specs.declared.Second.the-variants.{Made, Missing}
 use Rattle.robust.specs.declared.RingFit.{RingFit}
 use Rattle.robust.specs.Robust as R
 use Rattle.robust.specs.Parts.{startedOf, secondOf, Alone, Chosen}
@@ -36,21 +38,97 @@ pub max-rad-is : R.robustSepTriggerMaxRad ≡ lit 0x4000_74cc
 unfolding toRadians mul ofBits
 max-rad-is = refl
 
--- ---- a refused start has the amplitude 0, which is below the floor
+-- ---- a refused start has the amplitude 0, which is below the floor: it is never suspicious
 pub degenerate-calm : (centeredVar : Float) → R.fitIsSuspicious (degenerateFit centeredVar) ≡ false
 unfolding R.fitIsSuspicious degenerateFit lt ofBits
-degenerate-calm centeredVar = go (finite (R.relativeRms (degenerateFit centeredVar)))
+degenerate-calm centeredVar = go (not (finite (degenerateFit centeredVar .rms)))
   where
-    go : (b : Bool) → R.fitIsSuspicious (degenerateFit centeredVar) ≡ false
-    go b = ?
+    go : (b : Bool) → cond (b || true) false (R.triggered (degenerateFit centeredVar)) ≡ false
+    go true = refl
+    go false = refl
 
--- ---- a start where the sines and cosines are at hand
-module _ (n : ℕ) (samples ringPhi sphi cphi : Row) (seed : Params) (centeredVar : Float) where
-  pub start-refused : degenerate (seed .amp) centeredVar ≡ true → record { fit = degenerateFit centeredVar; updates = 0 } ≡ fitWithSeed n samples ringPhi seed centeredVar
+-- ---- a start, where it is refused and where the sines and cosines are at hand
+module _ (n : ℕ) (samples ringPhi : Row) (seed : Params) (centeredVar : Float) where
+  pub start-refused : {b : Bool} {f : TwoAxisFit} → b ≡ degenerate (seed .amp) centeredVar → b ≡ true → f ≡ degenerateFit centeredVar
+      → _≡_ {A = Started} (record { fit = f; updates = 0 }) (fitWithSeed n samples ringPhi seed centeredVar)
   unfolding fitWithSeed
-  start-refused e = rw e
+  start-refused d t e = rw (← d, t, e)
 
-  pub start-made : {s : Started} → degenerate (seed .amp) centeredVar ≡ false → length ringPhi ≡ n → Prepared ringPhi sphi cphi → s ≡ whole n (updates n samples sphi cphi seed)
-      → s ≡ fitWithSeed n samples ringPhi seed centeredVar
+  pub start-made : (sphi cphi : Row) {b : Bool} {s : Started} → b ≡ degenerate (seed .amp) centeredVar → b ≡ false → length ringPhi ≡ n
+      → Prepared ringPhi sphi cphi → s ≡ whole n (updates n samples sphi cphi seed) → s ≡ fitWithSeed n samples ringPhi seed centeredVar
   unfolding fitWithSeed
-  start-made e l p h = rw (e, ← ap (λ (k : ℕ). sines k ringPhi) l, ← ap (λ (k : ℕ). cosines k ringPhi) l, ← p .s, ← p .c) h
+  start-made sphi cphi d t l p h = rw (← d, t) (h ∙ whole-prepared n samples ringPhi sphi cphi seed p l)
+
+-- ---- the grid's start: refused by the sum of squares, or made
+module _ (n : ℕ) (samples ringPhi : Row) (mean centeredVar : Float) (centered : Row) (centeredSs : Float) where
+  sum-is : centered ≡ R.centeredOf n samples mean → centeredSs ≡ R.squares (length centered) centered → centeredSs ≡ R.squares n (R.centeredOf n samples mean)
+  sum-is ec es = es ∙ ap (λ (k : ℕ). R.squares k centered) (ap length ec ∙ tab-length _ n) ∙ ap (R.squares n) ec
+
+  pub grid-flat : {b : Bool} → centered ≡ R.centeredOf n samples mean → centeredSs ≡ R.squares (length centered) centered → b ≡ flat centeredSs → b ≡ true
+      → Missing ≡ secondOf (R.robustGridFit n samples ringPhi mean centeredVar)
+  unfolding R.robustGridFit
+  grid-flat ec es eb et =
+      let t : flat (R.squares n (R.centeredOf n samples mean)) ≡ true = ap flat (sym (sum-is ec es)) ∙ sym eb ∙ et in
+      rw t (sym (ap secondOf (either (lt centeredVar (lit 0x3586_37bd)) _)))
+    where
+      either : (x : Bool) (o : Option R.Start) → cond (x || true) none o ≡ none
+      either true o = refl
+      either false o = refl
+
+  pub grid-goes : (sphi cphi h : Row) (top : Seed) {b : Bool} {r : Second} → lt centeredVar (lit 0x3586_37bd) ≡ false
+      → centered ≡ R.centeredOf n samples mean → centeredSs ≡ R.squares (length centered) centered → b ≡ flat centeredSs → b ≡ false
+      → length ringPhi ≡ n → Prepared ringPhi sphi cphi → Grid sphi cphi h (length sphi)
+      → top ≡ bestOf (scoreAt (length centered) h centered centeredSs mean)
+      → r ≡ secondOf (R.refineSeedCandidates n samples ringPhi centeredVar top) → r ≡ secondOf (R.robustGridFit n samples ringPhi mean centeredVar)
+  unfolding R.robustGridFit
+  grid-goes sphi cphi h top {b} {r} ev ec es eb et el p g eh er =
+      let s = sum-is ec es in
+      let t : flat (R.squares n (R.centeredOf n samples mean)) ≡ false = ap flat (sym s) ∙ sym eb ∙ et in
+      let ls : length sphi ≡ n = prepared-length ringPhi sphi cphi p .0 ∙ el in
+      let lc : length centered ≡ n = ap length ec ∙ tab-length _ n in
+      let best : top ≡ bestSeed n sphi cphi centered centeredSs mean =
+      eh ∙ ap (λ (k : ℕ). bestOf (scoreAt k h centered centeredSs mean)) lc ∙ grid-best (subst (Grid sphi cphi h) ls g) centered centeredSs mean in
+      let es : sphi ≡ sines n ringPhi = p .s ∙ ap (λ (k : ℕ). sines k ringPhi) el in
+      let ek : cphi ≡ cosines n ringPhi = p .c ∙ ap (λ (k : ℕ). cosines k ringPhi) el in
+      rw (ev, t, ← ec, ← s, ← es, ← ek, ← best) er
+
+-- ---- the answers of one start, and of two
+pub alone-is : (primary : Started) → Alone primary (record { fit = primary .fit; starts = 1; first = primary .updates; second = 0 })
+alone-is primary = record { is = λ f e. rw e }
+
+module _ (primary : Started) (s : Second) where
+  pub chosen-alone : (r : RingFit) → s ≡ Missing → Alone primary r → Chosen primary s r
+  chosen-alone r e a = record { is = go e a }
+    where
+      go : s ≡ Missing → Alone primary r → (f : R.Start) (o : Option R.Start) → primary ≡ startedOf f → s ≡ secondOf o → r ≡ R.fitOf (R.chosen f o)
+      go e a f none p q = unfold R.chosen in a .is f p
+      go e a f (some g) p q = absurd (never (sym q ∙ e))
+        where
+          never : Made (startedOf g) ≡ Missing → ⊥
+          never e = let z : _≡_ {A = ℕ} 0 1 = cc in omega arith
+
+  pub chosen-two : (candidate : Started) (fit : TwoAxisFit) → s ≡ Made candidate
+      → fit ≡ cond (R.isLower (candidate .fit) (primary .fit)) (candidate .fit) (primary .fit)
+      → Chosen primary s (record { fit = fit; starts = 2; first = primary .updates; second = candidate .updates })
+  unfolding R.chosen
+  chosen-two candidate fit e h = record { is = go }
+    where
+      pick : (b : Bool) (f g : R.Start) → cond b (g .fit) (f .fit) ≡ cond b g f .fit
+      pick true f g = refl
+      pick false f g = refl
+
+      same : (g : R.Start) → Made candidate ≡ Made (startedOf g) → candidate ≡ startedOf g
+      same g e = cc
+
+      go : (f : R.Start) (o : Option R.Start) → primary ≡ startedOf f → s ≡ secondOf o
+          → record { fit = fit; starts = 2; first = primary .updates; second = candidate .updates } ≡ R.fitOf (R.chosen f o)
+      go f none p q = absurd (never (sym e ∙ q))
+        where
+          never : Made candidate ≡ Missing → ⊥
+          never e = let z : _≡_ {A = ℕ} 0 1 = cc in omega arith
+      go f (some g) p q =
+          rw (h, p, same g (sym e ∙ q))
+          (ap (λ (x : TwoAxisFit). answer x (f .updates) (g .updates)) (pick (R.isLower (g .fit) (f .fit)) f g))
+        where
+          answer : TwoAxisFit → ℕ → ℕ → RingFit
+          answer x m n = record { fit = x; starts = 2; first = m; second = n }

@@ -1,5 +1,28 @@
+// The whole ring fit: ring_fit/robust.rs, the suspicion gate and the grid search behind it. The grid itself is the crate
+// robust_grid.
+use seed::Harmonic;
+use seed::Seed;
+use solver::Params;
 use solver::Started;
 use solver::TwoAxisFit;
+ghost use mathlib.Core.Path.{_≡_};
+ghost use mathlib.Core.Bool.{true, cond};
+ghost use lib.ListN.{length};
+ghost use Rattle.solver.specs.Solver.{fitWithSeed};
+ghost use Rattle.solver.specs.Buffers.{Prepared};
+ghost use Rattle.robust.specs.Robust as R;
+ghost use Rattle.robust.specs.Parts as P;
+
+const AMP_FLOOR: f32 = 1.0;
+
+const ROBUST_REL_RMS_TRIGGER: f32 = 0.12;
+
+// 65 and 115 degrees, by `to_radians`.
+const ROBUST_SEP_TRIGGER_MIN_RAD: f32 = 1.13446403;
+
+const ROBUST_SEP_TRIGGER_MAX_RAD: f32 = 2.00712872;
+
+// The second start's fit, or that there was none.
 pub enum Second {
     Made(Started),
     Missing,
@@ -13,12 +36,358 @@ pub struct RingFit {
     pub second: usize,
 }
 
-fn single(f: Started) -> RingFit {
-    let fit = f.fit;
+// Rust's `sum` begins at -0.
+fn total(samples: &[f32]) -> f32
+    ensures { λ r. ⌜ r ≡ R.total (length (now (samples .entry))) (now (samples .entry)) ⌝ }
+{
+    let n = samples.len();
+    let mut s = -0.0f32;
+    for i in 0..n {
+        s = s + samples[i];
+    }
+    s
+}
+
+fn deviations(samples: &[f32], mean: f32) -> f32
+    ensures { λ r. ⌜ r ≡ R.deviations (length (now (samples .entry))) (now (samples .entry)) mean ⌝ }
+{
+    let n = samples.len();
+    let mut s = -0.0f32;
+    for i in 0..n {
+        s = s + (samples[i] - mean) * (samples[i] - mean);
+    }
+    s
+}
+
+pub fn relative_rms(f: TwoAxisFit) -> f32
+    ensures { λ r. ⌜ r ≡ R.relativeRms f ⌝ }
+{
+    if floats::is_finite(f.rms) {
+        return floats::max(f.rms, 0.0) / floats::max(f.amp, AMP_FLOOR);
+    }
+    1.0 / 0.0
+}
+
+fn is_outside(sep: f32) -> bool
+    ensures { λ r. ⌜ r ≡ R.outside sep ⌝ }
+{
+    if sep >= ROBUST_SEP_TRIGGER_MIN_RAD {
+        if sep <= ROBUST_SEP_TRIGGER_MAX_RAD {
+            return false;
+        }
+    }
+    true
+}
+
+// The two triggers of the grid.
+fn is_triggered(f: TwoAxisFit) -> bool
+    ensures { λ r. ⌜ r ≡ R.triggered f ⌝ }
+{
+    if is_outside(geometry::line_separation(f.theta1, f.theta2)) {
+        return true;
+    }
+    relative_rms(f) >= ROBUST_REL_RMS_TRIGGER
+}
+
+pub fn fit_is_suspicious(f: TwoAxisFit) -> bool
+    ensures { λ r. ⌜ r ≡ R.fitIsSuspicious f ⌝ }
+{
+    if floats::is_finite(f.amp) {
+        if floats::is_finite(f.rms) {
+            if f.amp < AMP_FLOOR {
+                return false;
+            }
+            return is_triggered(f);
+        }
+    }
+    false
+}
+
+fn center(samples: &[f32], mean: f32, centered: &mut [f32])
+    requires { ⌜ length (now centered) ≡ length (now samples) ⌝ }
+    ensures { λ _. ⌜ now (centered .exit) ≡ R.centeredOf (length (now (samples .entry))) (now (samples .entry)) mean ⌝ }
+{
+    let n = samples.len();
+    for i in 0..n {
+        centered[i] = samples[i] - mean;
+    }
+}
+
+fn squares(centered: &[f32]) -> f32
+    ensures { λ r. ⌜ r ≡ R.squares (length (now (centered .entry))) (now (centered .entry)) ⌝ }
+{
+    let n = centered.len();
+    let mut s = 0.0f32;
+    for i in 0..n {
+        s = s + centered[i] * centered[i];
+    }
+    s
+}
+
+// A start from a seed, with the sines and cosines of the angles at hand: solver.rs, fit_with_seed behind its sin_cos.
+fn started(
+    samples: &[f32],
+    ring_phi: &[f32],
+    seed: Params,
+    centered_var: f32,
+    sphi: &[f32],
+    cphi: &[f32],
+    js: &mut [f32],
+) -> Started
+    requires { ⌜ P.Ready (now samples) (now «ring_phi») (now sphi) (now cphi) (now js) ⌝ }
+    ensures { λ r. ⌜ r ≡ fitWithSeed (length (now (samples .entry))) (now (samples .entry)) (now («ring_phi» .entry)) seed «centered_var» ⌝ }
+{
+    if solver::is_degenerate(seed.amp, centered_var) {
+        let fit = solver::degenerate_fit(centered_var);
+        return Started { fit, updates: 0 };
+    }
+    solver::fit_prepared(samples, seed, sphi, cphi, js)
+}
+
+// The one seed's fit, where there is a seed; the sines and cosines are at hand.
+fn refined(
+    samples: &[f32],
+    ring_phi: &[f32],
+    centered_var: f32,
+    top: Seed,
+    sphi: &[f32],
+    cphi: &[f32],
+    js: &mut [f32],
+) -> Second
+    requires { ⌜ P.Ready (now samples) (now «ring_phi») (now sphi) (now cphi) (now js) ⌝ }
+    ensures { λ r. ⌜ r ≡ P.secondOf (R.refineSeedCandidates (length (now (samples .entry))) (now (samples .entry)) (now («ring_phi» .entry))
+        «centered_var» top) ⌝ }
+{
+    let Seed::Found(s) = top else {
+        return Second::Missing;
+    };
+    let seed = Params {
+        mu: s.mu,
+        amp: s.amp,
+        theta1: s.theta1,
+        theta2: s.theta2,
+    };
+    let f = started(samples, ring_phi, seed, centered_var, sphi, cphi, js);
+    Second::Made(f)
+}
+
+// The start behind the grid, the sines and cosines at hand: `js` holds the centred samples until the fit takes it.
+fn grid_fit(
+    samples: &[f32],
+    ring_phi: &[f32],
+    mean: f32,
+    centered_var: f32,
+    sphi: &[f32],
+    cphi: &[f32],
+    js: &mut [f32],
+    h: &mut [f32],
+) -> Second
+    requires { ⌜ P.Ready (now samples) (now «ring_phi») (now sphi) (now cphi) (now js) × P.Rows (now samples) (now h) ⌝ }
+    ensures { λ r. ⌜ r ≡ P.secondOf (R.robustGridFit (length (now (samples .entry))) (now (samples .entry)) (now («ring_phi» .entry))
+        mean «centered_var») ⌝ }
+{
+    if centered_var < 1e-6 {
+        return Second::Missing;
+    }
+    let n = samples.len();
+    center(samples, mean, &mut js[..n]);
+    let centered_ss = squares(&js[..n]);
+    if seed::is_flat(centered_ss) {
+        return Second::Missing;
+    }
+    robust_grid::fill_grid(sphi, cphi, h);
+    let top = robust_grid::best_seed(h, &js[..n], centered_ss, mean);
+    refined(samples, ring_phi, centered_var, top, sphi, cphi, js)
+}
+
+// The buffers are lent: `sphi` and `cphi` as long as the samples, `js` four times that; of no meaning afterwards.
+pub fn refine_seed_candidates(
+    samples: &[f32],
+    ring_phi: &[f32],
+    centered_var: f32,
+    top: Seed,
+    sphi: &mut [f32],
+    cphi: &mut [f32],
+    js: &mut [f32],
+) -> Second
+    requires { ⌜ P.Lent (now samples) (now «ring_phi») (now sphi) (now cphi) (now js) ⌝ }
+    ensures { λ r. ⌜ r ≡ P.secondOf (R.refineSeedCandidates (length (now (samples .entry))) (now (samples .entry)) (now («ring_phi» .entry))
+        «centered_var» top) ⌝ }
+{
+    let n = ring_phi.len();
+    solver::prepare(ring_phi, &mut js[..n], sphi, cphi);
+    refined(samples, ring_phi, centered_var, top, sphi, cphi, js)
+}
+
+// `h` has 24 places for each sample, and two more.
+pub fn robust_grid_fit(
+    samples: &[f32],
+    ring_phi: &[f32],
+    mean: f32,
+    centered_var: f32,
+    sphi: &mut [f32],
+    cphi: &mut [f32],
+    js: &mut [f32],
+    h: &mut [f32],
+) -> Second
+    requires { ⌜ P.Lent (now samples) (now «ring_phi») (now sphi) (now cphi) (now js) × P.Rows (now samples) (now h) ⌝ }
+    ensures { λ r. ⌜ r ≡ P.secondOf (R.robustGridFit (length (now (samples .entry))) (now (samples .entry)) (now («ring_phi» .entry))
+        mean «centered_var») ⌝ }
+{
+    let n = ring_phi.len();
+    solver::prepare(ring_phi, &mut js[..n], sphi, cphi);
+    grid_fit(samples, ring_phi, mean, centered_var, sphi, cphi, js, h)
+}
+
+// The axes lie PI/4 on either side of the sector's midpoint.
+fn first_seed(h: Harmonic, mean: f32) -> Params
+    ensures { λ r. ⌜ r ≡ R.firstSeed h mean ⌝ }
+{
+    Params {
+        mu: mean,
+        amp: h.mag,
+        theta1: h.theta + floats::QUARTER_PI,
+        theta2: h.theta + 3.0 * floats::QUARTER_PI,
+    }
+}
+
+// The first start, with the mean and the variance of the samples.
+pub struct First {
+    pub primary: Started,
+    pub mean: f32,
+    pub centered_var: f32,
+}
+
+// What solver::fit_with_seed does. A start that is not refused leaves the sines and cosines for the grid, and no refused
+// start is suspicious.
+fn start(
+    samples: &[f32],
+    ring_phi: &[f32],
+    seed: Params,
+    centered_var: f32,
+    sphi: &mut [f32],
+    cphi: &mut [f32],
+    js: &mut [f32],
+) -> Started
+    requires { ⌜ P.Lent (now samples) (now «ring_phi») (now sphi) (now cphi) (now js) ⌝ }
+    ensures { λ r. ⌜ r ≡ fitWithSeed (length (now (samples .entry))) (now (samples .entry)) (now («ring_phi» .entry)) seed «centered_var» ⌝ }
+    ensures { λ r. ⌜ (R.fitIsSuspicious (r .fit) ≡ true → Prepared (now («ring_phi» .entry)) (now (sphi .exit)) (now (cphi .exit))) ⌝ }
+{
+    if solver::is_degenerate(seed.amp, centered_var) {
+        let fit = solver::degenerate_fit(centered_var);
+        return Started { fit, updates: 0 };
+    }
+    let n = ring_phi.len();
+    solver::prepare(ring_phi, &mut js[..n], sphi, cphi);
+    solver::fit_prepared(samples, seed, sphi, cphi, js)
+}
+
+fn first_start(
+    samples: &[f32],
+    ring_phi: &[f32],
+    sphi: &mut [f32],
+    cphi: &mut [f32],
+    js: &mut [f32],
+) -> First
+    requires { ⌜ P.Lent (now samples) (now «ring_phi») (now sphi) (now cphi) (now js) ⌝ }
+    ensures { λ r. ⌜ r ≡ P.firstOf (length (now (samples .entry))) (now (samples .entry)) (now («ring_phi» .entry)) ⌝ }
+    ensures { λ r. ⌜ (R.fitIsSuspicious (r .primary .fit) ≡ true → Prepared (now («ring_phi» .entry)) (now (sphi .exit)) (now (cphi .exit))) ⌝ }
+{
+    let n = samples.len();
+    let count = floats::count_f32(n);
+    let mean = total(samples) / count;
+    let centered_var = deviations(samples, mean) / count;
+    let h = seed::second_harmonic(samples, ring_phi, mean, &mut js[..n], sphi, cphi);
+    let seed = first_seed(h, mean);
+    let primary = start(samples, ring_phi, seed, centered_var, sphi, cphi, js);
+    First {
+        primary,
+        mean,
+        centered_var,
+    }
+}
+
+// The answer without the grid.
+fn alone(primary: Started) -> RingFit
+    ensures { λ r. ⌜ P.Alone primary r ⌝ }
+{
+    let fit = primary.fit;
     RingFit {
         fit,
         starts: 1,
-        first: f.updates,
+        first: primary.updates,
         second: 0,
     }
+}
+
+// Of two fits the second is answered only where its residual is lower by more than 1e-3.
+fn lower(f: TwoAxisFit, g: TwoAxisFit) -> TwoAxisFit
+    ensures { λ r. ⌜ r ≡ cond (R.isLower g f) g f ⌝ }
+{
+    if g.rms < f.rms - 1e-3 {
+        return g;
+    }
+    f
+}
+
+// The answer with a second start.
+fn chosen(primary: Started, s: Second) -> RingFit
+    ensures { λ r. ⌜ P.Chosen primary s r ⌝ }
+{
+    let Second::Made(candidate) = s else {
+        return alone(primary);
+    };
+    let f = primary.fit;
+    let g = candidate.fit;
+    let fit = lower(f, g);
+    RingFit {
+        fit,
+        starts: 2,
+        first: primary.updates,
+        second: candidate.updates,
+    }
+}
+
+// The answer behind a suspicious first start. The grid's rows are on this call's stack, so they are cleared only where the
+// grid is reached.
+fn with_grid_16(
+    samples: &[f32],
+    ring_phi: &[f32],
+    f: First,
+    sphi: &[f32],
+    cphi: &[f32],
+    js: &mut [f32],
+) -> RingFit
+    requires { ⌜ (length (now samples) ≡ 16) × P.Ready (now samples) (now «ring_phi») (now sphi) (now cphi) (now js) ⌝ }
+    ensures { λ r. ⌜ P.Chosen (f .primary) (P.secondOf (R.robustGridFit 16 (now (samples .entry)) (now («ring_phi» .entry))
+        (f .mean) (f .«centered_var»))) r ⌝ }
+{
+    let mut h = [0.0f32; 386];
+    let s = grid_fit(
+        samples,
+        ring_phi,
+        f.mean,
+        f.centered_var,
+        sphi,
+        cphi,
+        js,
+        &mut h,
+    );
+    chosen(f.primary, s)
+}
+
+// The fit of 16 samples, with its working buffers on this call's stack.
+pub fn fit_ring(samples: &[f32], ring_phi: &[f32]) -> RingFit
+    requires { ⌜ (length (now samples) ≡ 16) × (length (now «ring_phi») ≡ 16) ⌝ }
+    ensures { λ r. ⌜ r ≡ R.fitRing 16 (now (samples .entry)) (now («ring_phi» .entry)) ⌝ }
+{
+    let mut sphi = [0.0f32; 16];
+    let mut cphi = [0.0f32; 16];
+    let mut js = [0.0f32; 64];
+    let f = first_start(samples, ring_phi, &mut sphi, &mut cphi, &mut js);
+    let primary = f.primary;
+    if fit_is_suspicious(primary.fit) {
+        return with_grid_16(samples, ring_phi, f, &sphi, &cphi, &mut js);
+    }
+    alone(primary)
 }

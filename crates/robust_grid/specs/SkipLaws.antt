@@ -54,15 +54,15 @@ module _ (top c : Seed) where
   tried-nothing e = rw e
 
   module _ (s : SeedCandidate) (e : c ≡ Found s) where
-    pub tried-first : top ≡ Nothing → Found s ≡ inserted top c
+    pub tried-first : top ≡ Nothing → c ≡ inserted top c
     unfolding inserted insertSeedCandidate
     tried-first f = rw (e, f)
 
-    pub tried-lower : (d : SeedCandidate) → top ≡ Found d → lt (s .rms) (d .rms) ≡ true → Found s ≡ inserted top c
+    pub tried-lower : (d : SeedCandidate) → top ≡ Found d → lt (s .rms) (d .rms) ≡ true → c ≡ inserted top c
     tried-lower d f h = rw (e, f) (sym (chosen s d true h))
 
     pub tried-not : (d : SeedCandidate) → top ≡ Found d → lt (s .rms) (d .rms) ≡ false → top ≡ inserted top c
     tried-not d f h = rw (e, f) (sym (chosen s d false h))
 
-    pub taken-kept : (x : Float) → Squared x c → Kept (record { top = Found s; bound = x })
-    taken-kept x q = record { is = subst (Squared x) e q }
+    pub taken-kept : (x : Float) → Squared x c → Kept (record { top = c; bound = x })
+    taken-kept x q = record { is = subst (λ (z : Seed). Bounded z x) (sym e) (subst (Squared x) e q) }

@@ -1,49 +1,32 @@
 -- The sums of the second harmonic from rows of sines are those of the definition: an angle up to 64 in size is not reduced, and a row's element is
 -- its sample's own. Assumes nothing.
-use mathlib.Core.Path.{_≡_, refl, sym, ap, _∙_}
-use mathlib.Core.Bool.{Bool, true, false, cond, false≢true}
-use Prim.Native.Nat.{ℕ, zero, suc, _<_}
-use native.Mathlib.Omega.{arith}
-use native.Mathlib.Nat.{eq-or-lt-of-le, le-of-suc-le-suc}
-use mathlib.Core.Logic.{_⊎_, inl, inr}
+use mathlib.Core.Path.{_≡_, sym, ap, _∙_, subst}
+use Prim.Native.Nat.{ℕ, _<_}
 use lib.ListN.{length}
 use lib.Ieee.{Float, nan}
 use Rattle.elementary.specs.Elementary.{sinCos, sinCosNear, turn}
 use Rattle.elementary.specs.declared.SinCos.{SinCos}
-use Rattle.loops.specs.Loops.{iter, tab}
+use Rattle.loops.specs.Loops.{tab}
 use Rattle.loops.specs.IterLaws.{iter-same}
 use Rattle.loops.specs.TabLaws.{tab-at, tab-length, tab-same}
 use Rattle.solver_elimination.specs.Solve.{Row, at}
 use Rattle.seed.specs.declared.Waves.{Waves}
 use Rattle.seed.specs.Seed.{wavedBy, waves}
-use Rattle.seed.specs.Buffers.{twice, far, stillNear, allNear, doubledNear, doubled, Sines, wavesFrom}
+use Rattle.solver.specs.Buffers.{AllNear, Sines}
+use Rattle.seed.specs.Buffers.{twice, doubledNear, doubled, wavesFrom}
 
--- what is not far is not reduced
-near-stays : (x : Float) → far x ≡ false → x ≡ turn x
-unfolding turn
-near-stays x e = rw e
-
-all-near : (n : ℕ) (ringPhi : Row) → allNear n ringPhi ≡ true → (i : ℕ) → i < n → far (twice (at ringPhi i)) ≡ false
-unfolding allNear iter
-all-near zero ringPhi e i l = absurd (none l)
-  where
-    none : i < 0 → ⊥
-    none l = omega arith
-all-near (suc n) ringPhi e i l =
-    let both = split (far (twice (at ringPhi n))) (allNear n ringPhi) e in
-    go (both .0) (λ k. all-near n ringPhi (both .1) i k) (eq-or-lt-of-le (le-of-suc-le-suc l))
-  where
-    split : (a near : Bool) → cond a false near ≡ true → (a ≡ false) × (near ≡ true)
-    split true near e = absurd (false≢true e)
-    split false near e = (refl, e)
-
-    go : far (twice (at ringPhi n)) ≡ false → (i < n → far (twice (at ringPhi i)) ≡ false) → (i ≡ n) ⊎ (i < n) → far (twice (at ringPhi i)) ≡ false
-    go here earlier (inl q) = rw q here
-    go here earlier (inr k) = earlier k
-
-pub near-doubled : (n : ℕ) (ringPhi turned : Row) → allNear n ringPhi ≡ true → turned ≡ doubledNear n ringPhi → turned ≡ doubled n ringPhi
+-- angles that turning leaves need no turning
+pub near-doubled : (n : ℕ) (ringPhi turned : Row) → turned ≡ doubledNear n ringPhi → AllNear (length turned) turned → turned ≡ doubled n ringPhi
 unfolding doubledNear doubled
-near-doubled n ringPhi turned e h = h ∙ tab-same _ _ n (λ i l. near-stays (twice (at ringPhi i)) (all-near n ringPhi e i l))
+near-doubled n ringPhi turned e h = e ∙ tab-same _ _ n here
+  where
+    len : n ≡ length turned
+    len = sym (ap length e ∙ tab-length _ n)
+
+    here : (i : ℕ) → i < n → twice (at ringPhi i) ≡ turn (twice (at ringPhi i))
+    here i l =
+        let place : at turned i ≡ twice (at ringPhi i) = ap (λ (r : Row). at r i) e ∙ tab-at (λ i. twice (at ringPhi i)) nan n i l in
+        sym place ∙ sym (h .is i (subst (λ (k : ℕ). i < k) len l)) ∙ ap turn place
 
 -- ---- rows first, sums after
 module _ (samples ringPhi turned sphi cphi : Row) (mean : Float) (w : Waves) (same : length ringPhi ≡ length samples) where

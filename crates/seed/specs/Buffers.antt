@@ -1,11 +1,10 @@
 -- What the contracts of crates/seed say of the lent buffers of the second harmonic. Definitions only.
 use mathlib.Core.Path.{_≡_}
-use mathlib.Core.Bool.{Bool, true, false, cond, _||_}
 use Prim.Native.Nat.{ℕ, _≤_}
 use lib.ListN.{length}
-use lib.Ieee.{Float, lt}
-use Rattle.floats.specs.Ops.{_⊕_, _⊖_, _⊗_, lit, minus}
-use Rattle.elementary.specs.Elementary.{sinCosNear, turn}
+use lib.Ieee.{Float}
+use Rattle.floats.specs.Ops.{_⊕_, _⊖_, _⊗_, lit}
+use Rattle.elementary.specs.Elementary.{turn}
 use Rattle.loops.specs.Loops.{iter, tab}
 use Rattle.solver_elimination.specs.Solve.{Row, at}
 use Rattle.seed.specs.declared.Waves.{Waves}
@@ -19,28 +18,15 @@ pub record Room (samples ringPhi turned sphi cphi : Row) : Type 0 where
   pub s : length sphi ≡ length samples
   pub c : length cphi ≡ length samples
 
--- twice an angle; above 64 in size
+-- twice each angle, as it is and brought to at most 64 in size
 abbrev pub twice : Float → Float
 twice phi = lit 0x4000_0000 ⊗ phi
-
-abbrev pub far : Float → Bool
-far x = lt (lit 0x4280_0000) x || lt x (minus 0x4280_0000)
-
-abbrev pub stillNear : Float → Bool → Bool
-stillNear x near = cond (far x) false near
-
-unfoldable pub allNear : ℕ → Row → Bool
-allNear n ringPhi = iter (λ i. stillNear (twice (at ringPhi i))) true n
 
 unfoldable pub doubledNear : ℕ → Row → Row
 doubledNear n ringPhi = tab (λ i. twice (at ringPhi i)) n
 
 unfoldable pub doubled : ℕ → Row → Row
 doubled n ringPhi = tab (λ i. turn (twice (at ringPhi i))) n
-
-pub record Sines (turned sphi cphi : Row) : Type 0 where
-  pub s : sphi ≡ tab (λ i. sinCosNear (at turned i) .s) (length turned)
-  pub c : cphi ≡ tab (λ i. sinCosNear (at turned i) .c) (length turned)
 
 -- the sums of the second harmonic, from the sines and cosines of the doubled angles
 abbrev pub wavedFrom : Float → Float → Float → Float → Waves → Waves

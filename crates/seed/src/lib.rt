@@ -39,30 +39,6 @@ pub enum Seed {
     Nothing,
 }
 
-fn still_near(near: bool, x: f32) -> bool
-    ensures { λ r. ⌜ r ≡ B.stillNear x near ⌝ }
-{
-    if x > 64.0 {
-        return false;
-    }
-    if x < -64.0 {
-        return false;
-    }
-    near
-}
-
-// Whether twice each angle is at most 64 in size: the common case, told by a loop that becomes vector code.
-fn all_near(ring_phi: &[f32]) -> bool
-    ensures { λ r. ⌜ r ≡ B.allNear (length (now («ring_phi» .entry))) (now («ring_phi» .entry)) ⌝ }
-{
-    let n = ring_phi.len();
-    let mut near = true;
-    for i in 0..n {
-        near = still_near(near, 2.0 * ring_phi[i]);
-    }
-    near
-}
-
 fn double_near(ring_phi: &[f32], turned: &mut [f32])
     requires { ⌜ length (now turned) ≡ length (now «ring_phi») ⌝ }
     ensures { λ _. ⌜ now (turned .exit) ≡ B.doubledNear (length (now («ring_phi» .entry))) (now («ring_phi» .entry)) ⌝ }
@@ -89,23 +65,11 @@ fn double_all(ring_phi: &[f32], turned: &mut [f32])
     requires { ⌜ length (now turned) ≡ length (now «ring_phi») ⌝ }
     ensures { λ _. ⌜ now (turned .exit) ≡ B.doubled (length (now («ring_phi» .entry))) (now («ring_phi» .entry)) ⌝ }
 {
-    if all_near(ring_phi) {
-        double_near(ring_phi, turned);
+    double_near(ring_phi, turned);
+    if solver::all_near(turned) {
         return;
     }
     double_each(ring_phi, turned);
-}
-
-fn sin_cos_all(turned: &[f32], sphi: &mut [f32], cphi: &mut [f32])
-    requires { ⌜ (length (now sphi) ≡ length (now turned)) × (length (now cphi) ≡ length (now turned)) ⌝ }
-    ensures { λ _. ⌜ B.Sines (now (turned .entry)) (now (sphi .exit)) (now (cphi .exit)) ⌝ }
-{
-    let n = turned.len();
-    for i in 0..n {
-        let t = elementary::sin_cos_near(turned[i]);
-        sphi[i] = t.s;
-        cphi[i] = t.c;
-    }
 }
 
 // The ordered sums, once the sines and cosines of the doubled angles are there.
@@ -145,7 +109,7 @@ pub fn second_harmonic(
     ensures { λ r. ⌜ r ≡ S.secondHarmonic (length (now (samples .entry))) (now (samples .entry)) (now («ring_phi» .entry)) mean ⌝ }
 {
     double_all(ring_phi, turned);
-    sin_cos_all(turned, sphi, cphi);
+    solver::sin_cos_all(turned, sphi, cphi);
     let w = wave_sums(samples, mean, sphi, cphi);
     let n = samples.len();
     let theta = settled(0.5 * elementary::atan2(w.s2, w.c2));

@@ -107,7 +107,7 @@ fn near_too(near: bool, x: f32) -> bool
 }
 
 // No early return, so that the loop becomes vector code.
-fn all_near(ring_phi: &[f32]) -> bool
+pub fn all_near(ring_phi: &[f32]) -> bool
     ensures { λ r. ⌜ (r ≡ true → B.AllNear (length (now («ring_phi» .entry))) (now («ring_phi» .entry))) ⌝ }
 {
     let n = ring_phi.len();
@@ -128,7 +128,7 @@ fn turn_all(ring_phi: &[f32], turned: &mut [f32])
     }
 }
 
-fn sin_cos_all(turned: &[f32], sphi: &mut [f32], cphi: &mut [f32])
+pub fn sin_cos_all(turned: &[f32], sphi: &mut [f32], cphi: &mut [f32])
     requires { ⌜ (length (now sphi) ≡ length (now turned)) × (length (now cphi) ≡ length (now turned)) ⌝ }
     ensures { λ _. ⌜ B.Sines (now (turned .entry)) (now (sphi .exit)) (now (cphi .exit)) ⌝ }
 {

@@ -6,7 +6,7 @@ use Rattle.checked.proofs.ring_fitted.Tie as tie
 
 returns : tie.Need-returns
 unfolding C.ringFitted
-returns c = rw (c .errors-known .ensures, c .before .fit-16 .ensures)
+returns c = rw (c .errors-known .ensures, c .before .fit-ring .ensures)
 
 pub ring-fitted-spec : {M : Type 1} → statement M
 ring-fitted-spec =

@@ -1,5 +1,4 @@
 -- Twice an angle that is near needs no remainder. Assumes nothing.
-use mathlib.Core.Path.{_∙_, sym}
 use Rattle.seed.specs.BufferLaws.{near-doubled}
 use borrow.Author.Needs.{needs}
 use Rattle.seed.proofs.double_all.Statement.{statement}
@@ -7,8 +6,8 @@ use Rattle.seed.proofs.double_all.Tie as tie
 
 returns : tie.Need-returns
 returns c =
-    let near = sym (c .before .before .before .before .before .all-near .ensures) ∙ c .before .before .before .before .if1 .taken in
-    near-doubled _ _ _ near (c .before .before .double-near .ensures)
+    let c5 = c .before .before .before .before .before in
+    near-doubled _ _ _ (c5 .double-near .ensures) (c .before .all-near .ensures (c .if1 .taken))
 
 pub double-all-spec : {M : Type 1} → statement M
 double-all-spec =

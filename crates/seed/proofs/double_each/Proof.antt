@@ -26,7 +26,8 @@ loop-again c = (search needs, stores-next _ _ _ _ _ (c .before .before .before .
 returns : tie.Need-returns Inv-loop μ-loop
 unfolding B.doubled
 returns c =
-    let h : c .before .loop .i ≡ length (c .before .before .before .before .args .ring-phi .now) = omega arith in
+    let c4 = c .before .before .before .before in
+    let h : c .before .loop .i ≡ length (c4 .args .ring-phi .now) = omega arith in
     stores-all _ _ _ nan _ (rw h at (c .before .loop .inv .1)) (omega arith)
 
 pub double-each-spec : {M : Type 1} → statement M

@@ -11,8 +11,10 @@ returns c = rw (← c .before .is-flat .ensures, c .if1 .taken)
 returns-2 : tie.Need-returns-2
 unfolding S.scored
 returns-2 c =
-    let flat = c .before .before .before .before .before .before .is-flat .ensures in
-    rw (← flat, c .before .before .before .before .before .if1 .left, ← c .before .before .max .ensures, ← c .before .sqrt .ensures) (c .kept .ensures)
+    let c5 = c .before .before .before .before .before in
+    let c6 = c5 .before in
+    let flat = c6 .is-flat .ensures in
+    rw (← flat, c5 .if1 .left, ← c .before .before .max .ensures, ← c .before .sqrt .ensures) (c .kept .ensures)
 
 pub score-sums-spec : {M : Type 1} → statement M
 score-sums-spec =

@@ -6,8 +6,8 @@ use lib.ListN.{length}
 use Rattle.checked.specs.Checked.{wildFrom, firstWild}
 use Rattle.checked.specs.CheckedLaws.{wild-skip, wild-here, wild-none}
 use borrow.Author.Needs.{needs}
-use Rattle.checked.proofs.first_wild.Statement.{statement}
-use Rattle.checked.proofs.first_wild.Tie as tie
+use Rattle.checked.proofs.find_wild.Statement.{statement}
+use Rattle.checked.proofs.find_wild.Tie as tie
 
 abbrev Inv-loop : tie.InvT-loop
 Inv-loop xs n i₀ i = (i ≤ n) × (wildFrom xs (n - i) i ≡ firstWild xs)
@@ -28,8 +28,8 @@ returns c = (wild-here _ _ _ (search needs) (sym (c .before .is-finite .ensures)
 returns-2 : tie.Need-returns-2 Inv-loop μ-loop
 returns-2 c = let z : length (c .before .before .before .args .xs .now) - c .before .loop .i ≡ 0 = omega arith in (wild-none _ _ ∙ (rw z at (c .before .loop .inv .1)), omega arith)
 
-pub first-wild-spec : {M : Type 1} → statement M
-first-wild-spec =
+pub find-wild-spec : {M : Type 1} → statement M
+find-wild-spec =
     tie.close
     (tie.spec
     Inv-loop μ-loop loop-holds (λ c. search needs) (λ c. search needs) (λ c κs. search needs) (λ c. search needs)

@@ -1,0 +1,19 @@
+-- Either trigger. Assumes nothing.
+use Rattle.robust.specs.Robust as R
+use borrow.Author.Needs.{needs}
+use Rattle.robust.proofs.is_triggered.Statement.{statement}
+use Rattle.robust.proofs.is_triggered.Tie as tie
+
+returns : tie.Need-returns
+unfolding R.triggered
+returns c = rw (← c .before .before .line-separation .ensures, ← c .before .is-outside .ensures, c .if1 .taken)
+
+returns-2 : tie.Need-returns-2
+unfolding R.triggered
+returns-2 c = rw (← c .before .before .before .line-separation .ensures, ← c .before .before .is-outside .ensures, c .before .if1 .left, ← c .relative-rms .ensures)
+
+pub is-triggered-spec : {M : Type 1} → statement M
+is-triggered-spec =
+    tie.close
+    (tie.spec
+    (λ c κs. search needs) (λ c κs. search needs) returns (λ c κs. search needs) returns-2)
