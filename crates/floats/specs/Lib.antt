@@ -1,4 +1,5 @@
 pub mod Ops
+pub mod Rows
 pub mod Library
 pub mod UnitLaws
 pub mod RoundingLaws
@@ -20,3 +21,4 @@ pub mod MaxMinLaws
 pub mod NanLaws
 pub mod RootRangeLaws
 pub mod RootOrderLaws
+pub mod DiscreteLaws

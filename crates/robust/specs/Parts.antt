@@ -3,7 +3,7 @@ use mathlib.Core.Path.{_≡_}
 use mathlib.Core.Option.{Option, none, some}
 use Prim.Native.Nat.{ℕ, _+_, _*_, _≤_}
 use lib.ListN.{length}
-use Rattle.solver_elimination.specs.Solve.{Row}
+use Rattle.floats.specs.Rows.{Row}
 use Rattle.solver.specs.Solver.{fitWithSeed}
 use Rattle.solver.specs.Buffers.{Prepared}
 use Rattle.solver.specs.declared.Started.{Started}

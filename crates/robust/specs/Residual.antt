@@ -5,8 +5,8 @@ use Prim.Native.Nat.{ℕ}
 use lib.Dec.{T}
 use lib.Ieee.{Float, binary32, le, isNan}
 use Rattle.floats.specs.Ops.{_⊘_, lit, nought}
+use Rattle.floats.specs.Rows.{count}
 use Rattle.floats.specs.Library.{max, sqrt}
-use Rattle.solver.specs.Solver.{count}
 use Rattle.robust.specs.Robust.{Squares, ofPass, ofMean}
 
 -- the root of the mean square of a pass, or of the variance, one below zero taken as 0

@@ -16,6 +16,7 @@ use lib.Ieee.Order.{drop, kept, round-mono}
 use lib.Ieee.Fits.{and-l, down-pos, up-pos, add-fits, div-fits, neg-fits, cond-fits, round-fits, round-is}
 use lib.Ieee.Bits.{ofBits-fits}
 use Rattle.floats.specs.Ops.{_⊕_, _⊖_, _⊗_, _⊘_, lit, nought}
+use Rattle.floats.specs.Rows.{Row, at, count}
 use Rattle.floats.specs.Library.{negative, before, max, sqrt}
 use Rattle.floats.specs.UnitLaws.{Val, eq-val, le-val, zero-val}
 use Rattle.floats.specs.RoundingLaws.{Rep, counted, rep-of}
@@ -27,9 +28,8 @@ use Rattle.floats.specs.RemLaws.{nought-nn}
 use Rattle.floats.specs.FiniteLaws.{of-true}
 use Rattle.loops.specs.Loops.{iter}
 use Rattle.loops.specs.IterLaws.{iter-keeps}
-use Rattle.solver_elimination.specs.Solve.{Row, at}
 use Rattle.solver.specs.SolverLaws.{run-full, run-stay, run-to}
-use Rattle.solver.specs.Solver.{Normal, empty, added, pass, Step, stay, to, Final, updatesFrom, updates, sines, cosines, count, whole}
+use Rattle.solver.specs.Solver.{Normal, empty, added, pass, Step, stay, to, Final, updatesFrom, updates, sines, cosines, whole}
 use Rattle.solver.specs.Solver.{degenerate, degenerateFit, finished, assembled, fitWithSeed}
 use Rattle.solver.specs.declared.Params.{Params}
 use Rattle.robust.specs.Robust.{negativeZero, total, deviations, meanOf, varianceOf, Squares, ofPass, ofMean, start, ring, fitRing, sumOf, ringSum}

@@ -7,11 +7,11 @@ use Prim.Native.Nat.{ℕ}
 use lib.Ieee.{Float, inf, neg, lt, le}
 use lib.Ieee.Scale.{finite}
 use Rattle.floats.specs.Ops.{_⊕_, _⊖_, _⊗_, _⊘_, lit, nought, one, quarterPi}
+use Rattle.floats.specs.Rows.{Row, at, count}
 use Rattle.floats.specs.Library.{max, toRadians}
 use Rattle.geometry.specs.Geometry.{lineSeparation}
 use Rattle.loops.specs.Loops.{iter, tab}
-use Rattle.solver_elimination.specs.Solve.{Row, at}
-use Rattle.solver.specs.Solver.{count, sines, cosines, updates, degenerate, fitWithSeed}
+use Rattle.solver.specs.Solver.{sines, cosines, updates, degenerate, fitWithSeed}
 use Rattle.solver.specs.declared.Params.{Params}
 use Rattle.solver.specs.declared.TwoAxisFit.{TwoAxisFit}
 use Rattle.seed.specs.Seed.{secondHarmonic, flat}

@@ -9,9 +9,9 @@ use lib.ListN.{length}
 use lib.Ieee.{Float, lt, mul, ofBits}
 use lib.Ieee.Scale.{finite}
 use Rattle.floats.specs.Ops.{lit}
+use Rattle.floats.specs.Rows.{Row}
 use Rattle.floats.specs.Library.{toRadians}
 use Rattle.loops.specs.TabLaws.{tab-length}
-use Rattle.solver_elimination.specs.Solve.{Row}
 use Rattle.solver.specs.Solver.{sines, cosines, updates, whole, degenerate, degenerateFit, fitWithSeed}
 use Rattle.solver.specs.Buffers.{Prepared}
 use Rattle.solver.specs.SolverLaws.{prepared-length, whole-prepared}

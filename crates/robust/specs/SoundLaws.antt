@@ -9,11 +9,11 @@ use lib.Ieee.{Float, binary32, lt}
 use lib.Ieee.Scale.{finite}
 use lib.Ieee.Fits.{add-fits, mul-fits, div-fits}
 use Rattle.floats.specs.Ops.{_⊕_, _⊖_, _⊗_, _⊘_, lit, quarterPi}
+use Rattle.floats.specs.Rows.{Row, count}
 use Rattle.floats.specs.Library.{toRadians}
 use Rattle.loops.specs.IterLaws.{iter-keeps, range-keeps}
 use Rattle.geometry.specs.Geometry.{validPair}
-use Rattle.solver_elimination.specs.Solve.{Row}
-use Rattle.solver.specs.Solver.{sines, cosines, count}
+use Rattle.solver.specs.Solver.{sines, cosines}
 use Rattle.solver.specs.SoundLaws.{Held, Sound, start-sound, start-most}
 use Rattle.solver.specs.declared.Params.{Params}
 use Rattle.seed.specs.Seed.{robustGridStepDeg, flat, kept, scored, scoreSeedPair, pairSums, insertSeedCandidate, secondHarmonic, harmonic}

@@ -6,10 +6,9 @@ use Prim.Native.Nat.{ℕ, _+_, _≤_, _<_}
 use native.Mathlib.Omega.{arith}
 use lib.ListN.{length}
 use lib.Ieee.{Float, le}
+use Rattle.floats.specs.Rows.{Row, at, count}
 use Rattle.loops.specs.Loops.{range}
 use Rattle.loops.specs.IterLaws.{range-start, range-more, range-idle}
-use Rattle.solver_elimination.specs.Solve.{Row, at}
-use Rattle.solver.specs.Solver.{count}
 use Rattle.seed.specs.Seed.{scored}
 use Rattle.seed.specs.declared.Sums.{Sums}
 use Rattle.seed.specs.declared.Seed.{Seed}

@@ -4,13 +4,13 @@ use mathlib.Core.Bool.{cond}
 use Prim.Native.Nat.{ℕ, _+_}
 use lib.Ieee.{Float}
 use Rattle.floats.specs.Ops.{_⊖_, _⊗_}
+use Rattle.floats.specs.Rows.{Row, at, count}
 use Rattle.floats.specs.Library.{toRadians}
 use Rattle.elementary.specs.Elementary.{sinCos, tanh}
 use Rattle.elementary.specs.declared.SinCos.{SinCos}
 use Rattle.geometry.specs.Geometry.{validPair}
 use Rattle.loops.specs.Loops.{iter, range, tab}
-use Rattle.solver_elimination.specs.Solve.{Row, at}
-use Rattle.solver.specs.Solver.{tanhBeta, count}
+use Rattle.solver.specs.Solver.{tanhBeta}
 use Rattle.seed.specs.Seed.{robustGridStepDeg, robustGridSteps, scoreSeedPair, insertSeedCandidate}
 use Rattle.seed.specs.declared.Seed.{Seed}
 use Rattle.seed.specs.declared.Seed.the-variants.{Found, Nothing}

@@ -9,12 +9,12 @@ use lib.ListN.{length, take, drop, getD}
 use lib.Seq.{getD-take, getD-drop}
 use lib.Ieee.{Float, nan}
 use Rattle.floats.specs.Ops.{nought}
+use Rattle.floats.specs.Rows.{Row, at}
 use Rattle.elementary.specs.Elementary.{sinCos}
 use Rattle.elementary.specs.declared.SinCos.{SinCos}
 use Rattle.loops.specs.Loops.{iter, range, tab}
 use Rattle.loops.specs.IterLaws.{iter-zero, iter-next, iter-same, range-same}
 use Rattle.loops.specs.TabLaws.{tab-length, tab-at, tab-same, part-kept, part-same}
-use Rattle.solver_elimination.specs.Solve.{Row, at}
 use Rattle.seed.specs.Seed.{zeros, summedBy, pairSums, scoreSeedPair}
 use Rattle.seed.specs.declared.Sums.{Sums}
 use Rattle.seed.specs.declared.Seed.{Seed}

@@ -8,11 +8,10 @@ use lib.Dec.{leb, eqb}
 use lib.ListN.{length, take, drop}
 use lib.Ieee.{Float, nan, binary32}
 use Rattle.floats.specs.Ops.{_⊕_, _⊖_, _⊗_, _⊘_, nought}
+use Rattle.floats.specs.Rows.{Row, at, count}
 use Rattle.floats.specs.Library.{max, sqrt}
 use Rattle.elementary.specs.Elementary.{sinCos}
 use Rattle.loops.specs.Loops.{iter, range, tab}
-use Rattle.solver_elimination.specs.Solve.{Row, at}
-use Rattle.solver.specs.Solver.{count}
 use Rattle.seed.specs.Seed.{zeros, summedBy, scored}
 use Rattle.seed.specs.declared.Sums.{Sums}
 use Rattle.seed.specs.declared.Seed.{Seed}

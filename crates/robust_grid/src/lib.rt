@@ -6,7 +6,7 @@ ghost use Prim.Native.Nat.{_+_, _*_, _≤_, _<_};
 ghost use lib.ListN.{length};
 ghost use Rattle.floats.specs.Ops.{nought};
 ghost use Rattle.floats.specs.Library.{max};
-ghost use Rattle.solver.specs.Solver.{count};
+ghost use Rattle.floats.specs.Rows.{count};
 ghost use Rattle.robust_grid.specs.Grid as G;
 ghost use Rattle.robust_grid.specs.Places as P;
 

@@ -4,12 +4,12 @@ use mathlib.Core.Path.{_≡_, sym, ap, _∙_, subst}
 use Prim.Native.Nat.{ℕ, _<_}
 use lib.ListN.{length}
 use lib.Ieee.{Float, nan}
+use Rattle.floats.specs.Rows.{Row, at}
 use Rattle.elementary.specs.Elementary.{sinCos, sinCosNear, turn}
 use Rattle.elementary.specs.declared.SinCos.{SinCos}
 use Rattle.loops.specs.Loops.{tab}
 use Rattle.loops.specs.IterLaws.{iter-same}
 use Rattle.loops.specs.TabLaws.{tab-at, tab-length, tab-same}
-use Rattle.solver_elimination.specs.Solve.{Row, at}
 use Rattle.seed.specs.declared.Waves.{Waves}
 use Rattle.seed.specs.Seed.{wavedBy, waves}
 use Rattle.solver.specs.Buffers.{AllNear, Sines}

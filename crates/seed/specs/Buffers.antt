@@ -4,9 +4,9 @@ use Prim.Native.Nat.{ℕ, _≤_}
 use lib.ListN.{length}
 use lib.Ieee.{Float}
 use Rattle.floats.specs.Ops.{_⊕_, _⊖_, _⊗_, lit}
+use Rattle.floats.specs.Rows.{Row, at}
 use Rattle.elementary.specs.Elementary.{turn}
 use Rattle.loops.specs.Loops.{iter, tab}
-use Rattle.solver_elimination.specs.Solve.{Row, at}
 use Rattle.seed.specs.declared.Waves.{Waves}
 use Rattle.seed.specs.Seed.{calm}
 

@@ -5,11 +5,10 @@ use Prim.Native.Nat.{ℕ, _/_}
 use lib.Ieee.{Float, binary32, lt, le}
 use lib.Ieee.Scale.{finite}
 use Rattle.floats.specs.Ops.{_⊕_, _⊖_, _⊗_, _⊘_, lit, nought}
+use Rattle.floats.specs.Rows.{Row, at, count}
 use Rattle.floats.specs.Library.{max, sqrt}
 use Rattle.elementary.specs.Elementary.{sinCos, atan2}
 use Rattle.loops.specs.Loops.{iter}
-use Rattle.solver_elimination.specs.Solve.{Row, at}
-use Rattle.solver.specs.Solver.{count}
 use Rattle.seed.specs.declared.Harmonic.{Harmonic}
 use Rattle.seed.specs.declared.Waves.{Waves}
 use Rattle.seed.specs.declared.Sums.{Sums}
