@@ -1,11 +1,11 @@
 -- The greater and the lesser of two values: a NaN is dropped, and +0 is above -0. Whatever x is, `min x y` is at most a y that is a number.
 -- Equal numbers differ at most in the sign of a zero, and a sum of two zeros has the sign that is wanted. Stated over the format. Assumes nothing.
 use mathlib.Core.Path.{_≡_, refl, sym, ap, _∙_, subst}
-use Prim.Native.Nat.{ℕ, zero, suc, _+_, _*_, _≤_, _<_, zero-le}
-use native.Mathlib.Nat.{le-refl, le-trans, le-of-eq, zero-mul, mul-one, mul-pos, zero-lt-suc}
+use Prim.Native.Nat.{ℕ, zero, suc, _+_, _*_, _<_, zero-le}
+use native.Mathlib.Nat.{le-refl, le-trans, le-of-eq, zero-mul, mul-pos, zero-lt-suc}
 use native.Mathlib.Omega.{arith}
 use mathlib.Core.Bool.{Bool, true, false, not, _&&_, _||_, Bool·beq, cond, true≢false, false≢true}
-use lib.IntN.{ℤ, pos, negsuc}
+use lib.IntN.{ℤ, pos}
 use lib.Dec.{T, ltb, eqb, eqb→eq, eqb-refl, lit<}
 use lib.Ieee.{Float, nan, inf, fin, Format, binary32, binary64, up, down, add, neg, lt, le, eq, ne, fits, isNan, ofBits, level}
 use lib.Ieee.Bits.{is-true}

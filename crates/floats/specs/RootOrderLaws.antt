@@ -11,10 +11,10 @@ use native.Mathlib.Omega.{arith}
 use lib.IntN.{ℤ}
 use lib.Dec.{T, leb, ltb, eqb, leb→le, le→leb, ltb→lt, lt→ltb, nltb→le, eqb→eq}
 use lib.Pow.{pow-add, pow-pos, pow-mono}
-use lib.Ieee.{Float, nan, inf, fin, Format, prec, emax, low, up, down, size, odd, units, lt, le, eq, below, level}
+use lib.Ieee.{Float, nan, inf, fin, Format, prec, emax, low, up, down, size, odd, units, lt, le, eq, below}
 use lib.Ieee.Digits.{size-lt, size-le, size-reaches}
 use lib.Ieee.Fits.{kept-lt, two, two-le-pos, up-pos, down-pos, and-r}
-use lib.Ieee.Exact.{HasValue, units-val}
+use lib.Ieee.Exact.{units-val}
 use Rattle.floats.specs.UnitLaws.{lt-val, zero-val}
 use Rattle.floats.specs.NonNegLaws.{ltb-no}
 use Rattle.floats.specs.FiniteLaws.{of-true}

@@ -1,6 +1,6 @@
 -- `abs` clears the sign and `signum` is 1 with the sign; a program finds both by comparisons alone, with no look at the bits. Assumes nothing.
 use mathlib.Core.Path.{_≡_, refl, sym, ap, _∙_, subst}
-use Prim.Native.Nat.{ℕ, zero, suc, _+_, _-_, _*_, _^_, _≤_, _<_, zero-le}
+use Prim.Native.Nat.{ℕ, zero, suc, _-_, _*_, _^_, _≤_, _<_, zero-le}
 use native.Mathlib.Nat.{le-trans, le-of-eq, not-le-of-lt, zero-add, zero-mul}
 use native.Mathlib.Omega.{arith}
 use mathlib.Core.Bool.{Bool, true, false, not, cond, true≢false, false≢true}
@@ -13,7 +13,7 @@ use lib.Ieee.Compare.{differs-from-itself}
 use Rattle.floats.specs.Ops.{_⊘_, nought, one}
 use Rattle.floats.specs.Library.{abs, signum, negative}
 use Rattle.floats.specs.UnitLaws.{Val, lt-val, sub-val}
-use Rattle.floats.specs.RoundingLaws.{Counted, counted, Rep, R-exact}
+use Rattle.floats.specs.RoundingLaws.{counted, Rep, R-exact}
 use Rattle.floats.specs.NonNegLaws.{sum-same, sum-pn-ge, rounded}
 use Rattle.floats.specs.PatternLaws.{same-clear}
 use Rattle.floats.specs.FiniteLaws.{of-true}

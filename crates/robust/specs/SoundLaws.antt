@@ -8,7 +8,7 @@ use native.Mathlib.Omega.{arith}
 use lib.Ieee.{Float, binary32, lt}
 use lib.Ieee.Scale.{finite}
 use lib.Ieee.Fits.{add-fits, mul-fits, div-fits}
-use Rattle.floats.specs.Ops.{_⊕_, _⊖_, _⊗_, _⊘_, lit, quarterPi}
+use Rattle.floats.specs.Ops.{_⊖_, _⊗_, _⊘_, lit, quarterPi}
 use Rattle.floats.specs.Rows.{Row, count}
 use Rattle.floats.specs.Library.{toRadians}
 use Rattle.loops.specs.IterLaws.{iter-keeps, range-keeps}

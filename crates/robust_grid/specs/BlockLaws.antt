@@ -1,6 +1,6 @@
 -- A turn over four pairs: a lane's mean square is that of its pair, so a skipped lane changes nothing, and past the last allowed pair the turns are idle.
 -- Assumes nothing.
-use mathlib.Core.Path.{_≡_, refl, sym, ap, _∙_, subst}
+use mathlib.Core.Path.{_≡_, sym, ap, _∙_, subst}
 use mathlib.Core.Bool.{true}
 use Prim.Native.Nat.{ℕ, _+_, _≤_, _<_}
 use native.Mathlib.Omega.{arith}

@@ -7,7 +7,7 @@ use native.Mathlib.Omega.{arith}
 use native.Mathlib.Nat.{eq-or-lt-of-le, le-of-suc-le-suc}
 use mathlib.Core.Logic.{_⊎_, inl, inr}
 use lib.Dec.{T, leb, eqb·suc-zero, leb→le, le→leb, lit≤, lit<}
-use lib.Ieee.{Float, binary32, lt, le, eq, add, sub, mul, div, rem, neg, isNan, ofBits, ofInt, round, size}
+use lib.Ieee.{binary32, lt, le, eq, add, sub, mul, rem, neg, ofBits, ofInt, round, size}
 use lib.Ieee.Fits.{and-i, and-l, and-r}
 use Rattle.floats.specs.Ops.{lit, minus}
 use Rattle.floats.specs.Library.{abs, remEuclid, toRadians}

@@ -2,9 +2,8 @@
 -- Assumes nothing.
 use mathlib.Core.Path.{_≡_, refl, sym, ap, _∙_, subst}
 use mathlib.Core.Bool.{Bool, true, false, cond, _&&_, false≢true}
-use Prim.Native.Nat.{_≤_}
 use native.Mathlib.Omega.{arith}
-use lib.Ieee.{Float, nan, binary32, lt, le}
+use lib.Ieee.{Float, binary32, lt, le}
 use lib.Ieee.Scale.{finite}
 use Rattle.floats.specs.Ops.{_⊖_, _⊗_, _⊘_}
 use Rattle.floats.specs.Library.{sqrt}

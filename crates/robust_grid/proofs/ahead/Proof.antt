@@ -1,5 +1,4 @@
 -- `max` with 0 is this select, of a NaN and of -0 too. Assumes nothing.
-use mathlib.Core.Path.{_∙_, sym}
 use lib.Ieee.{binary32}
 use Rattle.floats.specs.FiniteLaws.{of-true}
 use Rattle.floats.specs.MaxMinLaws.{max-nought}
