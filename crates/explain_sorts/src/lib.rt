@@ -1,6 +1,5 @@
 // What a line of frames and answers is, and which answer the frame above it is due. Nothing is written
 // here; all of it equals its definition in specs/Sorts.antt.
-use explain_warnings::Reading;
 use shapes::Fault;
 use shapes::Shape;
 ghost use mathlib.Core.Path.{_≡_};
@@ -15,14 +14,40 @@ pub struct Refusal {
     pub place: u32,
 }
 
-// What is wrong with an answer of a type: its length; the number of refusal of one as long as a fit; a
-// number that there is not; a number that this type has not.
-pub enum Flaw {
-    Length(u32),
-    FitNumber(u32),
-    Number(u32),
-    Strange(u32, u32),
+// What is wrong with a line that is neither a frame nor an answer: the reason, and what it speaks of, a
+// type, a number of refusal, a count of pixels.
+pub struct Wrong {
+    pub why: u32,
+    pub kind: u32,
+    pub number: u32,
+    pub pixels: u32,
 }
+
+// The reasons: as a frame a line is too long, has a character that is no digit, is too short for a type,
+// has a type that there is not, the wrong length as a ring, as a disk of no count, as a disk of its count.
+pub const TOO_LONG: u32 = 1;
+
+pub const FOREIGN: u32 = 2;
+
+pub const SHORT: u32 = 3;
+
+pub const UNKNOWN_TYPE: u32 = 4;
+
+pub const RING_LENGTH: u32 = 5;
+
+pub const DISK_SHORT: u32 = 6;
+
+pub const DISK_LENGTH: u32 = 7;
+
+// By its type it is an answer, but not of its length, or as long as a fit with a number of refusal, or
+// with a number that there is not, or with one that its type has not.
+pub const ANSWER_LENGTH: u32 = 8;
+
+pub const FIT_NUMBER: u32 = 9;
+
+pub const NO_NUMBER: u32 = 10;
+
+pub const STRANGE_NUMBER: u32 = 11;
 
 // The line above an answer: its number, 0 where there is none; its type, 255 where it is malformed; a
 // disk's count of pixels; and by which number it is refused, at which place, 0 where it is not, with the
@@ -36,14 +61,24 @@ pub struct Above {
     pub bits: u32,
 }
 
-// A frame, whose count of pixels may be one that is refused; a fit; a refusal; neither frame nor answer;
-// by its type an answer, but not of its form.
+// A frame, whose count of pixels may be one that is refused; a disk's or a ring's fit; a refusal; none
+// of these.
 pub enum Sort {
     Frame(Above),
-    Fit(Reading),
+    Fit(bool),
     Refused(Refusal),
-    Bad(Fault),
-    Flawed(Flaw),
+    Bad(Wrong),
+}
+
+fn bad(why: u32, kind: u32, number: u32, pixels: u32) -> Sort
+    ensures { λ r. ⌜ r ≡ S.bad why kind number pixels ⌝ }
+{
+    Sort::Bad(Wrong {
+        why,
+        kind,
+        number,
+        pixels,
+    })
 }
 
 // Which numbers a type has: a ring 1 and 3, a disk 1 to 4, and a malformed line 5 alone.
@@ -61,12 +96,12 @@ fn is_of(kind: u32, number: u32) -> bool
 
 fn refusal_sort(line: &[u8], kind: u32) -> Sort
     requires { ⌜ 8 ≤ length (now line) ⌝ }
-    ensures { λ r. ⌜ r ≡ S.refusalSort (now (line .entry)) kind ⌝ }
+    ensures { λ r. ⌜ (r ≡ S.refusalSort (now (line .entry)) kind) × S.Sound (length (now (line .entry))) r ⌝ }
 {
     let number = hex::byte_at(line, 2);
     let place = hex::byte_at(line, 4) * 256 + hex::byte_at(line, 6);
     if (number == 0) | (number > 5) {
-        return Sort::Flawed(Flaw::Number(number));
+        return bad(NO_NUMBER, kind, number, 0);
     }
     if is_of(kind, number) {
         return Sort::Refused(Refusal {
@@ -75,54 +110,54 @@ fn refusal_sort(line: &[u8], kind: u32) -> Sort
             place,
         });
     }
-    Sort::Flawed(Flaw::Strange(kind, number))
+    bad(STRANGE_NUMBER, kind, number, 0)
 }
 
 fn ring_answer(line: &[u8]) -> Sort
-    ensures { λ r. ⌜ r ≡ S.ringAnswer (now (line .entry)) ⌝ }
+    ensures { λ r. ⌜ (r ≡ S.ringAnswer (now (line .entry))) × S.Sound (length (now (line .entry))) r ⌝ }
 {
     let n = line.len();
     if n == 8 {
         return refusal_sort(line, 129);
     }
     if n != 60 {
-        return Sort::Flawed(Flaw::Length(129));
+        return bad(ANSWER_LENGTH, 129, 0, 0);
     }
     let number = hex::byte_at(line, 2);
     if number != 0 {
-        return Sort::Flawed(Flaw::FitNumber(number));
+        return bad(FIT_NUMBER, 129, number, 0);
     }
-    Sort::Fit(explain_warnings::ring_reading(line))
+    Sort::Fit(false)
 }
 
 fn disk_answer(line: &[u8]) -> Sort
-    ensures { λ r. ⌜ r ≡ S.diskAnswer (now (line .entry)) ⌝ }
+    ensures { λ r. ⌜ (r ≡ S.diskAnswer (now (line .entry))) × S.Sound (length (now (line .entry))) r ⌝ }
 {
     let n = line.len();
     if n == 8 {
         return refusal_sort(line, 130);
     }
     if n != 98 {
-        return Sort::Flawed(Flaw::Length(130));
+        return bad(ANSWER_LENGTH, 130, 0, 0);
     }
     let number = hex::byte_at(line, 2);
     if number != 0 {
-        return Sort::Flawed(Flaw::FitNumber(number));
+        return bad(FIT_NUMBER, 130, number, 0);
     }
-    Sort::Fit(explain_warnings::disk_reading(line))
+    Sort::Fit(true)
 }
 
 fn malformed_answer(line: &[u8]) -> Sort
-    ensures { λ r. ⌜ r ≡ S.malformedAnswer (now (line .entry)) ⌝ }
+    ensures { λ r. ⌜ (r ≡ S.malformedAnswer (now (line .entry))) × S.Sound (length (now (line .entry))) r ⌝ }
 {
     if line.len() == 8 {
         return refusal_sort(line, 255);
     }
-    Sort::Flawed(Flaw::Length(255))
+    bad(ANSWER_LENGTH, 255, 0, 0)
 }
 
 fn answer_sort(line: &[u8], kind: u32) -> Sort
-    ensures { λ r. ⌜ r ≡ S.answerSort (now (line .entry)) kind ⌝ }
+    ensures { λ r. ⌜ (r ≡ S.answerSort (now (line .entry)) kind) × S.Sound (length (now (line .entry))) r ⌝ }
 {
     if kind == 129 {
         return ring_answer(line);
@@ -133,21 +168,19 @@ fn answer_sort(line: &[u8], kind: u32) -> Sort
     if kind == 255 {
         return malformed_answer(line);
     }
-    Sort::Bad(Fault::OtherType(kind))
+    bad(UNKNOWN_TYPE, kind, 0, 0)
 }
 
-// What is no frame may be an answer, by its type.
-fn other_sort(line: &[u8], fault: Fault) -> Sort
-    ensures { λ r. ⌜ r ≡ S.otherSort (now (line .entry)) fault ⌝ }
+fn fault_sort(fault: Fault) -> Sort
+    ensures { λ r. ⌜ r ≡ S.faultSort fault ⌝ }
 {
     match fault {
-        Fault::TooLong => Sort::Bad(Fault::TooLong),
-        Fault::Foreign => Sort::Bad(Fault::Foreign),
-        Fault::Short => Sort::Bad(Fault::Short),
-        Fault::OtherType(kind) => answer_sort(line, kind),
-        Fault::RingLength => Sort::Bad(Fault::RingLength),
-        Fault::DiskShort => Sort::Bad(Fault::DiskShort),
-        Fault::DiskLength(n) => Sort::Bad(Fault::DiskLength(n)),
+        Fault::TooLong => bad(TOO_LONG, 0, 0, 0),
+        Fault::Foreign => bad(FOREIGN, 0, 0, 0),
+        Fault::Short => bad(SHORT, 0, 0, 0),
+        Fault::RingLength => bad(RING_LENGTH, 0, 0, 0),
+        Fault::DiskShort => bad(DISK_SHORT, 0, 0, 0),
+        Fault::DiskLength(n) => bad(DISK_LENGTH, 0, 0, n),
     }
 }
 
@@ -221,18 +254,28 @@ fn refused_above(line: u64, kind: u32, pixels: u32, number: u32) -> Above
 
 // Line number `number`. A line of which a part is gone was too long.
 pub fn sort_of(line: &[u8], skip: bool, number: u64) -> Sort
-    ensures { λ r. ⌜ r ≡ S.sortOf (now (line .entry)) skip number ⌝ }
+    ensures { λ r. ⌜ (r ≡ S.sortOf (now (line .entry)) skip number) × S.Sound (length (now (line .entry))) r ⌝ }
 {
     if skip {
-        return Sort::Bad(Fault::TooLong);
+        return bad(TOO_LONG, 0, 0, 0);
     }
     let shape = shapes::shape_of(line);
     match shape {
         Shape::Ring => Sort::Frame(valued(line, number, 1, 0, 2, 32)),
         Shape::Disk(n) => Sort::Frame(valued(line, number, 2, n, 6, 3 + 5 * (n as usize))),
         Shape::BadCount(n) => Sort::Frame(refused_above(number, 2, n, 2)),
-        Shape::Malformed(fault) => other_sort(line, fault),
+        Shape::OtherType(kind) => answer_sort(line, kind),
+        Shape::Malformed(fault) => fault_sort(fault),
     }
+}
+
+fn bad_above(w: Wrong, number: u64) -> Above
+    ensures { λ r. ⌜ r ≡ S.badAbove w number ⌝ }
+{
+    if w.why < ANSWER_LENGTH {
+        return refused_above(number, 255, 0, 5);
+    }
+    refused_above(number, 255, 0, 0)
 }
 
 // What stands above the line after this one.
@@ -243,8 +286,7 @@ pub fn above_of(sort: Sort, number: u64) -> Above
         Sort::Frame(a) => a,
         Sort::Fit(_) => nothing(),
         Sort::Refused(_) => nothing(),
-        Sort::Bad(_) => refused_above(number, 255, 0, 5),
-        Sort::Flawed(_) => refused_above(number, 255, 0, 0),
+        Sort::Bad(w) => bad_above(w, number),
     }
 }
 

@@ -1,5 +1,5 @@
 -- What in an answer is not to be taken at face value, and where in the answer's line it stands. Definitions only.
-use mathlib.Core.Bool.{Bool, true, false, not, _&&_, _||_}
+use mathlib.Core.Bool.{Bool, true, false, cond, not, _&&_, _||_}
 use mathlib.Core.List.{List, [], _∷_}
 use Prim.Native.Nat.{ℕ, _+_, _*_}
 use Prim.Native.String.{String}
@@ -56,6 +56,13 @@ diskReading l =
       second = 0;
       known = byteOf l 96;
     }
+
+-- of a disk or of a ring
+unfoldable pub readingOf : List ℕ → Bool → Reading
+readingOf l disk = cond disk (diskReading l) (ringReading l)
+
+abbrev pub fitLength : Bool → ℕ
+fitLength disk = cond disk 98 60
 
 -- ---- what is asked of a value
 unfoldable pub isInfinite : Float → Bool

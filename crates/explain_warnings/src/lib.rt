@@ -28,7 +28,7 @@ pub struct Reading {
     pub known: u32,
 }
 
-pub fn ring_reading(line: &[u8]) -> Reading
+fn ring_reading(line: &[u8]) -> Reading
     requires { ⌜ 60 ≤ length (now line) ⌝ }
     ensures { λ r. ⌜ r ≡ W.ringReading (now (line .entry)) ⌝ }
 {
@@ -53,7 +53,7 @@ pub fn ring_reading(line: &[u8]) -> Reading
     }
 }
 
-pub fn disk_reading(line: &[u8]) -> Reading
+fn disk_reading(line: &[u8]) -> Reading
     requires { ⌜ 98 ≤ length (now line) ⌝ }
     ensures { λ r. ⌜ r ≡ W.diskReading (now (line .entry)) ⌝ }
 {
@@ -76,6 +76,16 @@ pub fn disk_reading(line: &[u8]) -> Reading
         second: 0,
         known: hex::byte_at(line, 96),
     }
+}
+
+pub fn read(line: &[u8], disk: bool) -> Reading
+    requires { ⌜ W.fitLength disk ≤ length (now line) ⌝ }
+    ensures { λ r. ⌜ r ≡ W.readingOf (now (line .entry)) disk ⌝ }
+{
+    if disk {
+        return disk_reading(line);
+    }
+    ring_reading(line)
 }
 
 fn is_infinite(x: f32) -> bool

@@ -78,3 +78,8 @@ barless (c ∷ cs) = not (eqb c 124) && barless cs
 unfoldable pub allBarless : List (Bool × String) → Bool
 allBarless [] = true
 allBarless ((on, s) ∷ rest) = barless (bytes s) && allBarless rest
+
+-- ---- sentences told into the text l, which is m now, whatever the words in their blanks are
+pub record Told (rows : List (Bool × String)) (l : List ℕ) (at : ℕ) (m : List ℕ) (r : ℕ) : Type 0 where
+  pub words : List (List ℕ)
+  pub said : Said l at (telling words rows) m r

@@ -12,7 +12,7 @@ use lib.Seq.{drop-cons, drop-length, getD-append-seam, append-snoc}
 use lib.Dec.{eqb}
 use Rattle.hex.specs.Hex.{put}
 use Rattle.hex.specs.HexLaws.{put-put, put-none}
-use Rattle.explain_words.specs.Tell.{Said, letter, spelt, piece, pieceIf, filled, after, told, telling, bytes, flagsOf, barred, barless, allBarless}
+use Rattle.explain_words.specs.Tell.{Said, Told, letter, spelt, piece, pieceIf, filled, after, told, telling, bytes, flagsOf, barred, barless, allBarless}
 
 -- ---- what is said side by side
 module _ {l : List ℕ} {at : ℕ} where
@@ -114,3 +114,9 @@ all-told ws gs ((on, u) ∷ ps) h =
 
 pub told-telling : (ws : List (List ℕ)) (ps : List (Bool × String)) → allBarless ps ≡ true → told (flagsOf ps) ws 0 false (barred ps) ≡ telling ws ps
 told-telling ws ps h = all-told ws [] ps h
+
+-- what the writer of sentences is called with: their flags, and their text
+pub rows-told : (rows : List (Bool × String)) {fs : List Bool} (ws : List (List ℕ)) {l m : List ℕ} {at r : ℕ}
+    → Said l at (told fs ws 0 false (barred rows)) m r → fs ≡ flagsOf rows → allBarless rows ≡ true → Told rows l at m r
+rows-told rows ws s e h =
+    record { words = ws; said = said-as s (ap (λ (gs : List Bool). told gs ws 0 false (barred rows)) e ∙ told-telling ws rows h) }

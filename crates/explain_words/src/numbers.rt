@@ -1,6 +1,8 @@
 // Numbers as words of 24 characters, of which those that are not used are 0. They are worked out in f64
 // and whole numbers, with no help of the C library.
 
+ghost use Prim.Native.Nat.{_≤_};
+
 // A word written from its end: what stands in it begins at `from`.
 struct Spelling {
     bytes: [u8; 24],
@@ -13,6 +15,19 @@ struct Scaled {
     power: usize,
 }
 
+// The digits of n, at least `least`, with `places` of them behind the point, then zeros, and, where it is
+// scaled, an exponent.
+struct Numeral {
+    negative: bool,
+    n: u64,
+    least: u64,
+    places: u64,
+    zeros: usize,
+    scaled: bool,
+    down: bool,
+    exponent: usize,
+}
+
 fn empty() -> Spelling {
     Spelling {
         bytes: [0; 24],
@@ -20,8 +35,12 @@ fn empty() -> Spelling {
     }
 }
 
-fn front(mut w: Spelling, b: u8) -> Spelling {
+// A character in front of what stands there, where it is wanted.
+fn front(mut w: Spelling, on: bool, b: u8) -> Spelling {
     let from = w.from;
+    if !on {
+        return w;
+    }
     if from == 0 {
         return w;
     }
@@ -33,11 +52,6 @@ fn front(mut w: Spelling, b: u8) -> Spelling {
     w
 }
 
-fn word_of(w: Spelling) -> [u8; 24] {
-    let bytes = w.bytes;
-    bytes
-}
-
 fn glyph(d: u64) -> u8 {
     let k = d % 16;
     if k < 10 {
@@ -46,53 +60,64 @@ fn glyph(d: u64) -> u8 {
     (k + 87) as u8
 }
 
-// A point behind the last `places` digits, where there are to be any.
-fn pointed(w: Spelling, k: u64, places: u64) -> Spelling {
-    if places == 0 {
-        return w;
-    }
-    if k == places {
-        return front(w, b'.');
-    }
-    w
-}
-
-fn all_spelt(rest: u64, k: u64, least: u64) -> bool {
-    (rest == 0) & (k >= least)
-}
-
-// The digits of n in front of what stands there, at least `least` of them, `places` behind the point.
-fn digits(w: Spelling, n: u64, base: u64, least: u64, places: u64) -> Spelling {
+// The digits of n in front of what stands there.
+fn digits(w: Spelling, n: u64, base: u64, least: u64, places: u64) -> Spelling
+    requires { ⌜ 1 ≤ base ⌝ }
+{
     let mut w = w;
     let mut rest = n;
     for k in 0..20u64 {
-        if all_spelt(rest, k, least) {
+        if (rest == 0) & (k >= least) {
             return w;
         }
-        if base == 0 {
-            return w;
-        }
-        w = pointed(w, k, places);
-        w = front(w, glyph(rest % base));
+        w = front(w, (places > 0) & (k == places), b'.');
+        w = front(w, true, glyph(rest % base));
         rest = rest / base;
     }
     w
 }
 
-fn signed(w: Spelling, negative: bool) -> [u8; 24] {
-    if negative {
-        return word_of(front(w, b'-'));
+fn exponent(x: Numeral) -> Spelling {
+    let w = empty();
+    if !x.scaled {
+        return w;
     }
-    word_of(w)
+    let w = digits(w, x.exponent as u64, 10, 1, 0);
+    front(front(w, x.down, b'-'), true, b'e')
+}
+
+fn spelt(x: Numeral) -> [u8; 24] {
+    let w = front(exponent(x), x.zeros > 0, b'0');
+    let w = front(w, x.zeros > 1, b'0');
+    let w = digits(w, x.n, 10, x.least, x.places);
+    let w = front(w, x.negative, b'-');
+    let bytes = w.bytes;
+    bytes
+}
+
+// A number without exponent.
+fn plain(negative: bool, n: u64, least: u64, places: u64, zeros: usize) -> Numeral {
+    Numeral {
+        negative,
+        n,
+        least,
+        places,
+        zeros,
+        scaled: false,
+        down: false,
+        exponent: 0,
+    }
 }
 
 pub fn number(n: u64) -> [u8; 24] {
-    word_of(digits(empty(), n, 10, 1, 0))
+    spelt(plain(false, n, 1, 0, 0))
 }
 
 // A number by its hexadecimal digits, at least `width` of them.
 pub fn bits(n: u64, width: u64) -> [u8; 24] {
-    word_of(digits(empty(), n, 16, width, 0))
+    let w = digits(empty(), n, 16, width, 0);
+    let bytes = w.bytes;
+    bytes
 }
 
 fn letter_at(s: &[u8], i: usize) -> u8 {
@@ -112,6 +137,14 @@ pub fn letters(on: bool, s: &[u8]) -> [u8; 24] {
         w[i] = letter_at(s, i);
     }
     w
+}
+
+// A word, where it is wanted.
+pub fn only(on: bool, w: [u8; 24]) -> [u8; 24] {
+    if on {
+        return w;
+    }
+    [0; 24]
 }
 
 // The s of a noun: none where there is one.
@@ -165,33 +198,39 @@ fn lowered(s: Scaled) -> Scaled {
     Scaled { value, power }
 }
 
-fn scientific(n: u64, power: usize, negative: bool) -> [u8; 24] {
-    if power < 397 {
-        let e = digits(empty(), (397 - power) as u64, 10, 1, 0);
-        let e = front(front(e, b'-'), b'e');
-        return signed(digits(e, n, 10, 4, 3), negative);
+fn scientific(negative: bool, n: u64, down: bool, exponent: usize) -> Numeral {
+    Numeral {
+        negative,
+        n,
+        least: 4,
+        places: 3,
+        zeros: 0,
+        scaled: true,
+        down,
+        exponent,
     }
-    let e = digits(empty(), (power - 397) as u64, 10, 1, 0);
-    signed(digits(front(e, b'e'), n, 10, 4, 3), negative)
 }
 
 // Four digits and their power: plain from a thousandth to a million, else scientific.
-fn placed(n: u64, power: usize, negative: bool) -> [u8; 24] {
+fn placed(negative: bool, n: u64, power: usize) -> Numeral {
     if power < 394 {
-        return scientific(n, power, negative);
+        return scientific(negative, n, true, 397 - power);
     }
-    if power <= 400 {
-        let places = (400 - power) as u64;
-        return signed(digits(empty(), n, 10, places + 1, places), negative);
+    if power > 402 {
+        return scientific(negative, n, false, power - 397);
     }
-    if power == 401 {
-        return signed(digits(front(empty(), b'0'), n, 10, 1, 0), negative);
+    if power > 400 {
+        return plain(negative, n, 1, 0, power - 400);
     }
-    if power == 402 {
-        let hundred = front(front(empty(), b'0'), b'0');
-        return signed(digits(hundred, n, 10, 1, 0), negative);
+    let places = (400 - power) as u64;
+    plain(negative, n, places + 1, places, 0)
+}
+
+fn infinity(negative: bool) -> [u8; 24] {
+    if negative {
+        return letters(true, b"-infinity");
     }
-    scientific(n, power, negative)
+    letters(true, b"infinity")
 }
 
 // A number by four significant digits; NaN and the infinities by their names.
@@ -206,26 +245,15 @@ pub fn figures(x: f64) -> [u8; 24] {
         return number(0);
     }
     let s = lowered(raised(size(x)));
-    placed(whole(s.value + 0.5), s.power, x < 0.0)
-}
-
-fn infinity(negative: bool) -> [u8; 24] {
-    if negative {
-        return letters(true, b"-infinity");
-    }
-    letters(true, b"infinity")
-}
-
-// From a million on, and where it is NaN, a number is written by four digits, else with its places.
-fn is_small(x: f64) -> bool {
-    (x > -1000000.0) & (x < 1000000.0)
+    spelt(placed(x < 0.0, whole(s.value + 0.5), s.power))
 }
 
 // With `least` digits or more, `places` of them behind the point, where ten to their power is `scale`.
+// From a million on, and where it is NaN, a number is written by four digits.
 fn fixed(x: f64, scale: f64, least: u64, places: u64) -> [u8; 24] {
-    if is_small(x) {
+    if size(x) < 1000000.0 {
         let n = whole(size(x) * scale + 0.5);
-        return signed(digits(empty(), n, 10, least, places), x < 0.0);
+        return spelt(plain(x < 0.0, n, least, places, 0));
     }
     figures(x)
 }

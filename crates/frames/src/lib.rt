@@ -110,6 +110,7 @@ pub fn answer_to(line: &[u8]) -> Answer
         Shape::Ring => ring_line(line),
         Shape::Disk(n) => disk_line(line, n as usize),
         Shape::BadCount(_) => Answer::Refused(130, 2, 0),
+        Shape::OtherType(_) => malformed(),
         Shape::Malformed(_) => malformed(),
     }
 }
