@@ -1,6 +1,6 @@
 -- What explain says of a line, sentence by sentence: when, and in which words. Definitions only.
 -- Its warnings stand in `explain_warnings`; how the numbers in the blanks are spelt is not said.
-use mathlib.Core.Bool.{Bool, true, false, cond, not, _&&_, _||_}
+use mathlib.Core.Bool.{Bool, true, cond, not, _&&_, _||_}
 use mathlib.Core.List.{List, [], _∷_, _++_}
 use Prim.Native.Nat.{ℕ, zero, suc, _+_, _-_, _/_}
 use Prim.Native.String.{String}
@@ -15,7 +15,7 @@ use Rattle.explain_sorts.specs.declared.Refusal.{Refusal}
 use Rattle.explain_sorts.specs.declared.Wrong.{Wrong}
 use Rattle.explain_sorts.specs.declared.Sort.{Sort}
 use Rattle.explain_sorts.specs.declared.Sort.the-variants.{Frame, Fit, Refused, Bad}
-use Rattle.explain_sorts.specs.Sorts.{belongs, tooLong, foreign, short, unknownType, ringLength, diskShort, diskLength}
+use Rattle.explain_sorts.specs.Sorts.{belongs, isAlone, isStrange, tooLong, foreign, short, unknownType, ringLength, diskShort, diskLength}
 use Rattle.explain_sorts.specs.Sorts.{answerLength, fitNumber, noNumber, strangeNumber}
 
 -- ---- a frame that no answer follows
@@ -144,24 +144,18 @@ badRows w n b =
     ∷ (eqb (w .why) strangeNumber, "a ring has 1 and 3, a disk 1 to 4, type ff has 5\n")
     ∷ []
 
--- ---- a line l of its sort, below a: first that the frame above has no answer, where this line is none; at the end that this is not its answer
-abbrev pub isAlone : Sort → Bool
-isAlone (Frame a) = true
-isAlone (Fit disk) = false
-isAlone (Refused r) = false
-isAlone (Bad w) = true
+abbrev pub lineRows : Wrong → List ℕ → List (Bool × String)
+lineRows w l = badRows w (length l) (foreignByte l)
 
-abbrev pub isStrange : Sort → Above → Bool
-isStrange (Frame b) a = false
-isStrange (Fit disk) a = not (belongs a (cond disk 130 129) 0 0)
-isStrange (Refused r) a = not (belongs a (r .kind) (r .number) (r .place))
-isStrange (Bad w) a = false
+-- ---- a line l of its sort, below a: first that the frame above has no answer, where this line is none; at the end that this is not its answer
+abbrev pub fitText : List (List ℕ) → Reading → List ℕ
+fitText ws r = telling ws (fitRows r) ++ warningsText r
 
 abbrev pub bodyOf : List (List ℕ) → List ℕ → Sort → Above → List ℕ
 bodyOf ws l (Frame b) a = []
-bodyOf ws l (Fit disk) a = telling ws (fitRows (readingOf l disk)) ++ warningsText (readingOf l disk)
+bodyOf ws l (Fit disk) a = fitText ws (readingOf l disk)
 bodyOf ws l (Refused r) a = telling ws (refusalRows r a)
-bodyOf ws l (Bad w) a = telling ws (badRows w (length l) (foreignByte l))
+bodyOf ws l (Bad w) a = telling ws (lineRows w l)
 
 abbrev pub explained : List (List ℕ) → List (List ℕ) → List (List ℕ) → List ℕ → Sort → Above → List ℕ
 explained us vs ws l s a = telling us (aloneRows (isAlone s) a) ++ (bodyOf vs l s a ++ telling ws (mismatchRows (isStrange s a) a))

@@ -100,7 +100,7 @@ fn words_of(line: u64, n: usize, place: usize, b: u8, w: Wrong) -> [[u8; 24]; 11
 // Line number `number`.
 pub fn told(text: &mut [u8], at: usize, number: u64, line: &[u8], w: Wrong) -> usize
     requires { ⌜ at + 23280 ≤ length (now text) ⌝ }
-    ensures { λ p. ⌜ (p ≤ at + 23280) × Told (S.badRows w (length (now (line .entry))) (S.foreignByte (now (line .entry)))) (now (text .entry)) at (now (text .exit)) p ⌝ }
+    ensures { λ p. ⌜ (p ≤ at + 23280) × Told (S.lineRows w (now (line .entry))) (now (text .entry)) at (now (text .exit)) p ⌝ }
 {
     let n = line.len();
     let place = first_foreign(line);
@@ -110,7 +110,8 @@ pub fn told(text: &mut [u8], at: usize, number: u64, line: &[u8], w: Wrong) -> u
     explain_words::tell(
         text,
         at,
-        b"line {a}: bad line: |over 12830 characters, the most that a frame has
+        b"line {a}: bad line: |\
+over 12830 characters, the most that a frame has
 |upper-case digit at character {b}: the house format is lower-case
 |carriage return at character {b}: a line ends in a line feed alone
 |character {b} is no hexadecimal digit (byte {c})
@@ -120,12 +121,14 @@ pub fn told(text: &mut [u8], at: usize, number: u64, line: &[u8], w: Wrong) -> u
 |a ring frame of {e} character{f}{g} instead of 258
 |a disk frame of {e} character{f}{g}: it has 30, and 40 for each pixel
 |a disk frame of {e} character{f}{g} instead of {h} for its {i} pixel{j}
-|an answer of type {d} with {e} character{f}{g}: |a fit has 60, a refusal 8
+|an answer of type {d} with {e} character{f}{g}: |\
+a fit has 60, a refusal 8
 |a fit has 98, a refusal 8
 |it has 8
 |an answer as long as a fit, with the number of refusal {k}: a fit has 0
 |unknown number of refusal {k}: there are 1 to 5
-|an answer of type {d} with the number of refusal {k}: |a ring has 1 and 3, a disk 1 to 4, type ff has 5
+|an answer of type {d} with the number of refusal {k}: |\
+a ring has 1 and 3, a disk 1 to 4, type ff has 5
 |",
         &flags,
         &words,

@@ -9,7 +9,6 @@ pub mod bad;
 pub mod fit;
 pub mod refusal;
 
-ghost use mathlib.Core.Path.{_≡_};
 ghost use Prim.Native.Nat.{_+_, _≤_};
 ghost use lib.ListN.{length};
 ghost use Rattle.explain_words.specs.Tell.{Told};

@@ -126,13 +126,30 @@ pub fn told(text: &mut [u8], at: usize, line: u64, r: Refusal, a: Above) -> usiz
     explain_words::tell(
         text,
         at,
-        b"line {a}: ring refused, number {b}: |line {a}: disk refused, number {b}: |line {a}: refused, number {b}: |a slice has the wrong length, or the answer buffer is too short
+        b"line {a}: ring refused, number {b}: |\
+line {a}: disk refused, number {b}: |\
+line {a}: refused, number {b}: |\
+a slice has the wrong length, or the answer buffer is too short
 |the count of pixels is 0 or over 320
 |a value is not finite
 |the search over the disk found nothing
 |the frame line is malformed
 |  pixels      {c}
-|  value       sample {d}|  value       angle {e}|  warning: there is no place {d}: a ring's values are 0 to 31|  value       val_energy|  value       base0|  value       base1|  value       xs[{f}]|  value       ys[{f}]|  value       vals_centered[{f}]|  value       grad_angles[{f}]|  value       grad_weights[{f}]|  warning: there is no place {d} in a disk of {c} pixel{g}|  value       {d} (0 is the energy, 1 and 2 the base angles, then xs, ys, vals_centered, |grad_angles and grad_weights, as long as there are pixels)| is {h} (bits {i})|
+|  value       sample {d}|  \
+value       angle {e}|  \
+warning: there is no place {d}: a ring's values are 0 to 31|  \
+value       val_energy|  \
+value       base0|  \
+value       base1|  \
+value       xs[{f}]|  \
+value       ys[{f}]|  \
+value       vals_centered[{f}]|  \
+value       grad_angles[{f}]|  \
+value       grad_weights[{f}]|  \
+warning: there is no place {d} in a disk of {c} pixel{g}|  \
+value       {d} (0 is the energy, 1 and 2 the base angles, then xs, ys, vals_centered, |\
+grad_angles and grad_weights, as long as there are pixels)| \
+is {h} (bits {i})|
 |  work        {d} trial{j}
 |  frame       line {k}; what is wrong stands there
 |  warning: the place is {d}, and number {b} has the place 0

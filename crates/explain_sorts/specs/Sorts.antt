@@ -149,3 +149,19 @@ belongs a kind number place =
     cond (not (eqb (a .number) 0)) (eqb kind (answerType (a .kind)) && eqb number (a .number) && eqb place (a .place))
     (cond (eqb (a .kind) 1) (eqb kind 129 && eqb number 0)
     (cond (eqb (a .kind) 2) (eqb kind 130 && (eqb number 0 || eqb number 4)) true))
+
+abbrev pub fitType : Bool → ℕ
+fitType disk = cond disk 130 129
+
+-- ---- whether a line is no answer, so that the frame above has none; and whether it is an answer that is not that of the frame above
+abbrev pub isAlone : Sort → Bool
+isAlone (Frame a) = true
+isAlone (Fit disk) = false
+isAlone (Refused r) = false
+isAlone (Bad w) = true
+
+abbrev pub isStrange : Sort → Above → Bool
+isStrange (Frame b) a = false
+isStrange (Fit disk) a = not (belongs a (fitType disk) 0 0)
+isStrange (Refused r) a = not (belongs a (r .kind) (r .number) (r .place))
+isStrange (Bad w) a = false

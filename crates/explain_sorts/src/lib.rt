@@ -316,3 +316,36 @@ pub fn belongs(a: Above, kind: u32, number: u32, place: u32) -> bool
     }
     true
 }
+
+// Whether a line is no answer, so that the frame above it has none.
+pub fn is_alone(sort: Sort) -> bool
+    ensures { λ r. ⌜ r ≡ S.isAlone sort ⌝ }
+{
+    match sort {
+        Sort::Frame(_) => true,
+        Sort::Fit(_) => false,
+        Sort::Refused(_) => false,
+        Sort::Bad(_) => true,
+    }
+}
+
+fn fit_type(disk: bool) -> u32
+    ensures { λ r. ⌜ r ≡ S.fitType disk ⌝ }
+{
+    if disk {
+        return 130;
+    }
+    129
+}
+
+// Whether it is an answer, and not that of the frame above it.
+pub fn is_strange(sort: Sort, a: Above) -> bool
+    ensures { λ r. ⌜ r ≡ S.isStrange sort a ⌝ }
+{
+    match sort {
+        Sort::Frame(_) => false,
+        Sort::Fit(disk) => !belongs(a, fit_type(disk), 0, 0),
+        Sort::Refused(r) => !belongs(a, r.kind, r.number, r.place),
+        Sort::Bad(_) => false,
+    }
+}

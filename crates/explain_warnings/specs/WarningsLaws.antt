@@ -9,7 +9,8 @@ use Rattle.floats.specs.FiniteLaws.{of-true}
 use Rattle.floats.specs.PositiveLaws.{not-nan}
 use mathlib.Core.List.{List}
 use Prim.Native.Nat.{ℕ}
-use Rattle.explain_words.specs.Tell.{told, telling, filled, piece, bytes, codes, flagsOf, barred, barless, allBarless}
+use Rattle.explain_words.specs.Tell.{told, telling, filled, piece, flagsOf, barred, barless, allBarless}
+use Rattle.hex.specs.Hex.{bytes, codes}
 use Rattle.explain_words.specs.TellLaws.{told-telling}
 use Rattle.explain_warnings.specs.declared.Reading.{Reading}
 use Rattle.explain_warnings.specs.Warnings.{isInfinite, warningsOf, warningsText}

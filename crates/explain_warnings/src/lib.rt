@@ -3,7 +3,8 @@
 ghost use mathlib.Core.Path.{_≡_};
 ghost use Prim.Native.Nat.{_+_, _≤_};
 ghost use lib.ListN.{length};
-ghost use Rattle.explain_words.specs.Tell.{Said, flagsOf};
+ghost use Rattle.hex.specs.Hex.{Written};
+ghost use Rattle.explain_words.specs.Tell.{flagsOf};
 ghost use Rattle.explain_warnings.specs.Warnings as W;
 
 // What a line's answer says. A ring has no width, relative residual, correlation, edge score, objective
@@ -154,7 +155,7 @@ fn flags(r: Reading) -> [bool; 23]
 // sentence.
 pub fn warnings(text: &mut [u8], at: usize, r: Reading) -> usize
     requires { ⌜ at + 30360 ≤ length (now text) ⌝ }
-    ensures { λ p. ⌜ (p ≤ at + 30360) × Said (now (text .entry)) at (W.warningsText r) (now (text .exit)) p ⌝ }
+    ensures { λ p. ⌜ (p ≤ at + 30360) × Written (now (text .entry)) at (W.warningsText r) (now (text .exit)) p ⌝ }
 {
     let told = flags(r);
     let words = [[0u8; 24]; 1];

@@ -1,27 +1,12 @@
 -- Sentences with blanks: which of them are told, and what stands in a blank. Definitions only.
 -- `{a}` in a sentence is the first word, `{b}` the second; every other character stands for itself. A sentence has no bar.
 use mathlib.Core.Bool.{Bool, true, false, cond, not, _&&_, _||_}
-use mathlib.Core.List.{List, [], _∷_, _++_, map}
-use mathlib.Core.Path.{_≡_}
-use Prim.Native.Nat.{ℕ, zero, suc, _+_, _%_}
-use Prim.Native.String.{String, len, charAt}
-use Prim.Native.Char.{code}
+use mathlib.Core.List.{List, [], _∷_, _++_}
+use Prim.Native.Nat.{ℕ, zero, suc, _+_, _*_, _%_, _≤_}
+use Prim.Native.String.{String}
 use lib.ListN.{length, getD}
 use lib.Dec.{eqb, ltb}
-use Rattle.hex.specs.Hex.{put}
-
--- ---- the bytes of a text of plain characters
-unfoldable pub codes : String → ℕ → ℕ → List ℕ
-codes s i zero = []
-codes s i (suc n) = code (charAt s i) ∷ codes s (i + 1) n
-
-unfoldable pub bytes : String → List ℕ
-bytes s = codes s 0 (len s)
-
--- ---- the text l, which is m now: t stands at the place `at`, and r is the place behind it
-pub record Said (l : List ℕ) (at : ℕ) (t m : List ℕ) (r : ℕ) : Type 0 where
-  pub text : m ≡ put l at t
-  pub place : r ≡ at + length t
+use Rattle.hex.specs.Hex.{Written, bytes}
 
 -- ---- a word has 24 characters, of which control characters are left out: so no word ends a line
 abbrev pub letter : ℕ → List ℕ
@@ -62,6 +47,10 @@ unfoldable pub told : List Bool → List (List ℕ) → ℕ → Bool → List �
 told fs ws k inside [] = []
 told fs ws k inside (c ∷ cs) = pieceIf (getD fs k false) ws inside c ++ told fs ws (after k c) (eqb c 123) cs
 
+pub record Tells (fs : List Bool) (ws : List (List ℕ)) (s l : List ℕ) (at : ℕ) (m : List ℕ) (r : ℕ) : Type 0 where
+  pub fits : r ≤ at + 24 * length s
+  pub written : Written l at (told fs ws 0 false s) m r
+
 unfoldable pub flagsOf : List (Bool × String) → List Bool
 flagsOf [] = []
 flagsOf ((on, s) ∷ rest) = on ∷ flagsOf rest
@@ -82,4 +71,4 @@ allBarless ((on, s) ∷ rest) = barless (bytes s) && allBarless rest
 -- ---- sentences told into the text l, which is m now, whatever the words in their blanks are
 pub record Told (rows : List (Bool × String)) (l : List ℕ) (at : ℕ) (m : List ℕ) (r : ℕ) : Type 0 where
   pub words : List (List ℕ)
-  pub said : Said l at (telling words rows) m r
+  pub said : Written l at (telling words rows) m r

@@ -1,31 +1,17 @@
--- A text of sentences is told sentence by sentence; what is said side by side is said as one. Assumes nothing.
+-- A text of sentences is told sentence by sentence. Assumes nothing.
 use mathlib.Core.Path.{_≡_, refl, sym, ap, _∙_}
 use mathlib.Core.Bool.{Bool, true, false, cond, not, _&&_, true≢false}
 use mathlib.Core.List.{List, [], _∷_, _++_, append-assoc, append-nil}
 use Prim.Native.Nat.{ℕ, zero, suc, _+_, _≤_, _<_}
 use Prim.Native.String.{String}
 use native.Mathlib.Numerals.{add-one}
-use native.Mathlib.Omega.{arith}
 use borrow.Author.Tests.{not-true}
 use lib.ListN.{length, getD, drop, length-append}
-use lib.Seq.{drop-cons, drop-length, getD-append-seam, append-snoc}
+use lib.Seq.{drop-cons, drop-length, getD-append-seam}
 use lib.Dec.{eqb}
-use Rattle.hex.specs.Hex.{put}
-use Rattle.hex.specs.HexLaws.{put-put, put-none}
-use Rattle.explain_words.specs.Tell.{Said, Told, letter, spelt, piece, pieceIf, filled, after, told, telling, bytes, flagsOf, barred, barless, allBarless}
-
--- ---- what is said side by side
-module _ {l : List ℕ} {at : ℕ} where
-  pub said-none : at ≤ length l → Said l at [] l at
-  said-none h = record { text = sym (put-none l at h); place = omega arith }
-
-  pub said-as : {t u m : List ℕ} {r : ℕ} → Said l at t m r → t ≡ u → Said l at u m r
-  said-as {m} {r} s e = rw e at s
-
-  pub said-then : {a b m n : List ℕ} {p r : ℕ} → Said l at a m p → Said m p b n r → r ≤ length l → Said l at (a ++ b) n r
-  said-then {a} {b} {m} {n} {p} {r} s t h =
-      let e : put (put l at a) p b ≡ put l at (a ++ b) = put-put l at a b p (s .place) (omega (arith, t .place)) in
-      record { text = t .text ∙ ap (λ (k : List ℕ). put k p b) (s .text) ∙ e; place = simp length-append (omega (arith, s .place, t .place)) }
+use Rattle.hex.specs.Hex.{Written, bytes}
+use Rattle.hex.specs.HexLaws.{written-none, written-as, written-then}
+use Rattle.explain_words.specs.Tell.{Told, letter, spelt, piece, pieceIf, filled, after, told, telling, flagsOf, barred, barless, allBarless}
 
 -- ---- a word, letter by letter
 pub spelt-none : (w : List ℕ) → spelt w 0 ≡ []
@@ -44,15 +30,15 @@ spelt-empty (suc n) = rw (spelt-empty n)
 -- ---- in the middle of a text: what is said so far, and what is left to tell, are the whole
 pub record Midway (fs : List Bool) (ws : List (List ℕ)) (s l : List ℕ) (at i p k : ℕ) (inside : Bool) (m : List ℕ) : Type 0 where
   pub done : List ℕ
-  pub said : Said l at done m p
+  pub said : Written l at done m p
   pub whole : done ++ told fs ws k inside (drop i s) ≡ told fs ws 0 false s
 
 module _ {fs : List Bool} {ws : List (List ℕ)} {s l : List ℕ} {at : ℕ} where
   pub midway-start : at ≤ length l → Midway fs ws s l at 0 at 0 false l
-  midway-start h = record { done = []; said = said-none h; whole = refl }
+  midway-start h = record { done = []; said = written-none h; whole = refl }
 
   pub midway-next : {i p k r : ℕ} {inside : Bool} {m n : List ℕ} → Midway fs ws s l at i p k inside m → i < length s
-      → Said m p (pieceIf (getD fs k false) ws inside (getD s i 0)) n r → r ≤ length l
+      → Written m p (pieceIf (getD fs k false) ws inside (getD s i 0)) n r → r ≤ length l
       → Midway fs ws s l at (i + 1) r (after k (getD s i 0)) (eqb (getD s i 0) 123) n
   unfolding told
   midway-next {i} {p} {k} {r} {inside} {m} {n} w h t b =
@@ -62,15 +48,15 @@ module _ {fs : List Bool} {ws : List (List ℕ)} {s l : List ℕ} {at : ℕ} whe
       let e : told fs ws k inside (drop i s) ≡ x ++ rest = rw (drop-cons s i 0 h, add-one i) in
       record {
         done = w .done ++ x;
-        said = said-then (w .said) t b;
+        said = written-then (w .said) t b;
         whole = append-assoc (w .done) x rest ∙ ap (λ (q : List ℕ). w .done ++ q) (sym e) ∙ w .whole;
       }
 
-  pub midway-end : {i p k : ℕ} {inside : Bool} {m : List ℕ} → Midway fs ws s l at i p k inside m → i ≡ length s → Said l at (told fs ws 0 false s) m p
+  pub midway-end : {i p k : ℕ} {inside : Bool} {m : List ℕ} → Midway fs ws s l at i p k inside m → i ≡ length s → Written l at (told fs ws 0 false s) m p
   unfolding told
   midway-end {i} {p} {k} {inside} {m} w e =
       let d : drop i s ≡ [] = rw (e, drop-length s) in
-      said-as (w .said) (sym (append-nil (w .done)) ∙ ap (λ (q : List ℕ). w .done ++ told fs ws k inside q) (sym d) ∙ w .whole)
+      written-as (w .said) (sym (append-nil (w .done)) ∙ ap (λ (q : List ℕ). w .done ++ told fs ws k inside q) (sym d) ∙ w .whole)
 
 -- ---- one sentence, and then the others
 both : (a b : Bool) → (a && b) ≡ true → (a ≡ true) × (b ≡ true)
@@ -117,6 +103,6 @@ told-telling ws ps h = all-told ws [] ps h
 
 -- what the writer of sentences is called with: their flags, and their text
 pub rows-told : (rows : List (Bool × String)) {fs : List Bool} (ws : List (List ℕ)) {l m : List ℕ} {at r : ℕ}
-    → Said l at (told fs ws 0 false (barred rows)) m r → fs ≡ flagsOf rows → allBarless rows ≡ true → Told rows l at m r
+    → Written l at (told fs ws 0 false (barred rows)) m r → fs ≡ flagsOf rows → allBarless rows ≡ true → Told rows l at m r
 rows-told rows ws s e h =
-    record { words = ws; said = said-as s (ap (λ (gs : List Bool). told gs ws 0 false (barred rows)) e ∙ told-telling ws rows h) }
+    record { words = ws; said = written-as s (ap (λ (gs : List Bool). told gs ws 0 false (barred rows)) e ∙ told-telling ws rows h) }

@@ -7,12 +7,13 @@ ghost use mathlib.Core.Path.{_≡_};
 ghost use mathlib.Core.Bool.{false};
 ghost use Prim.Native.Nat.{_+_, _*_, _≤_, _<_};
 ghost use lib.ListN.{length, getD};
+ghost use Rattle.hex.specs.Hex.{Written};
 ghost use Rattle.explain_words.specs.Tell as T;
 
 // A character of a word; control characters are left out, so that no word ends a line.
 fn letter(text: &mut [u8], at: usize, b: u8) -> usize
     requires { ⌜ at < length (now text) ⌝ }
-    ensures { λ r. ⌜ (r ≤ at + 1) × T.Said (now (text .entry)) at (T.letter b) (now (text .exit)) r ⌝ }
+    ensures { λ r. ⌜ (r ≤ at + 1) × Written (now (text .entry)) at (T.letter b) (now (text .exit)) r ⌝ }
 {
     if b < 32 {
         return at;
@@ -23,7 +24,7 @@ fn letter(text: &mut [u8], at: usize, b: u8) -> usize
 
 fn word(text: &mut [u8], at: usize, w: [u8; 24]) -> usize
     requires { ⌜ at + 24 ≤ length (now text) ⌝ }
-    ensures { λ r. ⌜ (r ≤ at + 24) × T.Said (now (text .entry)) at (T.spelt w 24) (now (text .exit)) r ⌝ }
+    ensures { λ r. ⌜ (r ≤ at + 24) × Written (now (text .entry)) at (T.spelt w 24) (now (text .exit)) r ⌝ }
 {
     let mut p = at;
     for j in 0..24usize {
@@ -36,7 +37,7 @@ fn word(text: &mut [u8], at: usize, w: [u8; 24]) -> usize
 // The word of a letter: `a` is the first.
 fn blank(text: &mut [u8], at: usize, c: u8, words: &[[u8; 24]]) -> usize
     requires { ⌜ at + 24 ≤ length (now text) ⌝ }
-    ensures { λ r. ⌜ (r ≤ at + 24) × T.Said (now (text .entry)) at (T.wordAt (now (words .entry)) c) (now (text .exit)) r ⌝ }
+    ensures { λ r. ⌜ (r ≤ at + 24) × Written (now (text .entry)) at (T.wordAt (now (words .entry)) c) (now (text .exit)) r ⌝ }
 {
     let k = (c as usize + 31) % 32;
     if k < words.len() {
@@ -55,7 +56,7 @@ fn is_mark(c: u8) -> bool
 // What a character of a sentence stands for: see specs/Tell.antt.
 fn piece(text: &mut [u8], at: usize, inside: bool, c: u8, words: &[[u8; 24]]) -> usize
     requires { ⌜ at + 24 ≤ length (now text) ⌝ }
-    ensures { λ r. ⌜ (r ≤ at + 24) × T.Said (now (text .entry)) at (T.piece (now (words .entry)) inside c) (now (text .exit)) r ⌝ }
+    ensures { λ r. ⌜ (r ≤ at + 24) × Written (now (text .entry)) at (T.piece (now (words .entry)) inside c) (now (text .exit)) r ⌝ }
 {
     if is_mark(c) {
         return at;
@@ -69,7 +70,7 @@ fn piece(text: &mut [u8], at: usize, inside: bool, c: u8, words: &[[u8; 24]]) ->
 
 fn piece_if(text: &mut [u8], at: usize, on: bool, inside: bool, c: u8, words: &[[u8; 24]]) -> usize
     requires { ⌜ at + 24 ≤ length (now text) ⌝ }
-    ensures { λ r. ⌜ (r ≤ at + 24) × T.Said (now (text .entry)) at (T.pieceIf on (now (words .entry)) inside c) (now (text .exit)) r ⌝ }
+    ensures { λ r. ⌜ (r ≤ at + 24) × Written (now (text .entry)) at (T.pieceIf on (now (words .entry)) inside c) (now (text .exit)) r ⌝ }
 {
     if on {
         return piece(text, at, inside, c, words);
@@ -101,7 +102,7 @@ fn after(k: usize, c: u8) -> usize
 // text; the place behind them.
 pub fn tell(text: &mut [u8], at: usize, s: &[u8], flags: &[bool], words: &[[u8; 24]]) -> usize
     requires { ⌜ (length (now s) < 1000000) × (at + 24 * length (now s) ≤ length (now text)) ⌝ }
-    ensures { λ r. ⌜ (r ≤ at + 24 * length (now (s .entry))) × T.Said (now (text .entry)) at (T.told (now (flags .entry)) (now (words .entry)) 0 false (now (s .entry))) (now (text .exit)) r ⌝ }
+    ensures { λ r. ⌜ T.Tells (now (flags .entry)) (now (words .entry)) (now (s .entry)) (now (text .entry)) at (now (text .exit)) r ⌝ }
 {
     let n = s.len();
     let mut p = at;

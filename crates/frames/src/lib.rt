@@ -7,7 +7,7 @@ use shapes::Shape;
 ghost use mathlib.Core.Path.{_≡_};
 ghost use Prim.Native.Nat.{_+_, _*_, _≤_, _<_};
 ghost use lib.ListN.{length};
-ghost use Rattle.hex.specs.Hex.{put};
+ghost use Rattle.hex.specs.Hex.{put, Written};
 ghost use Rattle.checked.specs.Checked.{checkedDisk, flag};
 ghost use Rattle.frames.specs.Frames as F;
 ghost use Rattle.frames.specs.RunsLaws.{diskOfRuns};
@@ -244,7 +244,7 @@ fn text_len(a: Answer) -> usize
 // The answer to a line and a line feed, at a place of the output; the place after them.
 pub fn append(skip: bool, line: &[u8], out: &mut [u8], at: usize) -> usize
     requires { ⌜ at + 99 ≤ length (now out) ⌝ }
-    ensures { λ r. ⌜ (r ≤ at + 99) × (r ≡ at + length (F.lineText skip (now (line .entry)))) × (now (out .exit) ≡ put (now (out .entry)) at (F.lineText skip (now (line .entry)))) ⌝ }
+    ensures { λ r. ⌜ (r ≤ at + 99) × Written (now (out .entry)) at (F.lineText skip (now (line .entry))) (now (out .exit)) r ⌝ }
 {
     let a = kept_answer(skip, line);
     let n = text_len(a);

@@ -1,5 +1,5 @@
 -- Lines of a buffer. Definitions only.
-use mathlib.Core.Bool.{Bool, true, false, cond, _||_}
+use mathlib.Core.Bool.{Bool, false, cond, _||_}
 use mathlib.Core.Path.{_≡_}
 use mathlib.Core.List.{List}
 use Prim.Native.Nat.{ℕ, zero, suc, _+_, _-_, _≤_, _<_}
@@ -39,11 +39,15 @@ keptOf f limit = cond (isGone f limit) 0 (f .total - f .from)
 unfoldable pub filled : Feed → ℕ → ℕ → Feed
 filled f limit n = record { from = 0; total = keptOf f limit + n; skip = isGone f limit; ended = eqb n 0 }
 
+-- the first n bytes of m are those of l from `from` on
+abbrev pub Front : ℕ → ℕ → List ℕ → List ℕ → Type 0
+Front n from l m = take n m ≡ take n (drop from l)
+
 -- a block came into the buffer l, which is m now: some n bytes, and in front of them what was kept
 pub record Filled (f : Feed) (limit : ℕ) (l m : List ℕ) (r : Feed) : Type 0 where
   pub came : ℕ
   pub feed : r ≡ filled f limit came
-  pub front : take (keptOf f limit) m ≡ take (keptOf f limit) (drop (f .from) l)
+  pub front : Front (keptOf f limit) (f .from) l m
 
 -- where a found line ends
 abbrev pub Within : Feed → Found → Type 0

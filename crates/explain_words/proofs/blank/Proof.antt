@@ -1,5 +1,6 @@
 -- Past the last word there is none. Assumes nothing.
-use Rattle.explain_words.specs.TellLaws.{said-none, spelt-empty}
+use Rattle.hex.specs.HexLaws.{written-none}
+use Rattle.explain_words.specs.TellLaws.{spelt-empty}
 use lib.ListN.{List·getD-eq-default}
 use native.Mathlib.Omega.{arith}
 use mathlib.Core.List.{[]}
@@ -8,7 +9,7 @@ use Rattle.explain_words.proofs.blank.Statement.{statement}
 use Rattle.explain_words.proofs.blank.Tie as tie
 
 returns-2 : tie.Need-returns-2
-returns-2 c = (search needs, rw (List·getD-eq-default (c .before .before .args .words .now) [] (c .if1 .left), spelt-empty 24) (said-none (omega arith)))
+returns-2 c = (search needs, rw (List·getD-eq-default (c .before .before .args .words .now) [] (c .if1 .left), spelt-empty 24) (written-none (omega arith)))
 
 pub blank-spec : {M : Type 1} → statement M
 blank-spec =

@@ -1,5 +1,5 @@
 -- The three ways are the definition's. Assumes nothing.
-use Rattle.explain_words.specs.TellLaws.{said-none}
+use Rattle.hex.specs.HexLaws.{written-none}
 use Rattle.explain_words.specs.Tell as T
 use Rattle.hex.specs.HexLaws.{put-one}
 use native.Mathlib.Omega.{arith}
@@ -9,7 +9,7 @@ use Rattle.explain_words.proofs.piece.Tie as tie
 
 returns : tie.Need-returns
 unfolding T.piece
-returns c = (search needs, rw (← c .before .is-mark .ensures, c .if1 .taken) (said-none (omega arith)))
+returns c = (search needs, rw (← c .before .is-mark .ensures, c .if1 .taken) (written-none (omega arith)))
 
 returns-2 : tie.Need-returns-2
 unfolding T.piece

@@ -1,5 +1,5 @@
 -- Nothing is said of a sentence that is not told. Assumes nothing.
-use Rattle.explain_words.specs.TellLaws.{said-none}
+use Rattle.hex.specs.HexLaws.{written-none}
 use native.Mathlib.Omega.{arith}
 use borrow.Author.Needs.{needs}
 use Rattle.explain_words.proofs.piece_if.Statement.{statement}
@@ -11,7 +11,7 @@ returns c =
     (search needs, rw (b4 .if1 .taken) (c .before .before .piece .ensures .1))
 
 returns-2 : tie.Need-returns-2
-returns-2 c = (omega arith, rw (c .if1 .left) (said-none (omega arith)))
+returns-2 c = (omega arith, rw (c .if1 .left) (written-none (omega arith)))
 
 pub piece-if-spec : {M : Type 1} → statement M
 piece-if-spec =

@@ -9,7 +9,8 @@ use Rattle.explain_words.proofs.tell.Statement.{statement}
 use Rattle.explain_words.proofs.tell.Tie as tie
 
 abbrev Inv-loop : tie.InvT-loop
-Inv-loop text₀ at s flags words n p₀ k₀ inside₀ i₀ text p k inside i = (i ≤ n) × (p ≤ at + 24 * i) × (k ≤ i) × (length text ≡ length text₀) × Midway flags words s text₀ at i p k inside text
+Inv-loop text₀ at s flags words n p₀ k₀ inside₀ i₀ text p k inside i =
+    (i ≤ n) × (p ≤ at + 24 * i) × (k ≤ i) × (length text ≡ length text₀) × Midway flags words s text₀ at i p k inside text
 
 abbrev μ-loop : tie.MeasureT-loop
 μ-loop text₀ at s flags words n p₀ k₀ inside₀ i₀ text p k inside i = n - i
@@ -26,7 +27,7 @@ loop-again c =
     (search needs, omega arith, search needs, search needs, rw (c .after .ensures .1) (midway-next (b8 .loop .inv .4) (search needs) said (omega arith)))
 
 returns : tie.Need-returns Inv-loop μ-loop
-returns c = (omega arith, midway-end (c .before .loop .inv .4) (omega arith))
+returns c = record { fits = omega arith; written = midway-end (c .before .loop .inv .4) (omega arith) }
 
 pub tell-spec : {M : Type 1} → statement M
 tell-spec =

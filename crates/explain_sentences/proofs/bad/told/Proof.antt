@@ -1,8 +1,9 @@
 -- The text's flags and its sentences are the definition's. Assumes nothing.
+use native.Mathlib.Omega.{arith}
 use Rattle.explain_sentences.specs.Sentences as S
 use Rattle.explain_words.specs.TellLaws.{rows-told}
-use Rattle.explain_words.specs.Tell.{barred, bytes, codes, allBarless, barless}
-use lib.ListN.{length}
+use Rattle.explain_words.specs.Tell.{barred, allBarless, barless}
+use Rattle.hex.specs.Hex.{bytes, codes}
 use mathlib.Core.Path.{refl}
 use borrow.Author.Needs.{needs}
 use Rattle.explain_sentences.proofs.bad.told.Statement.{statement}
@@ -18,7 +19,7 @@ returns c =
     let b13 = b10 .before .before .before in
     let l = b13 .args .line .now in
     let e = rw (b9 .byte-of .ensures, b10 .first-foreign .ensures) at (b8 .flags-of .ensures .0) in
-    (search needs, rows-told (S.badRows (b13 .args .w) (length l) (S.foreignByte l)) _ (b2 .tell .ensures .1) e refl)
+    (omega (arith, b2 .tell .ensures .fits), rows-told (S.lineRows (b13 .args .w) l) _ (b2 .tell .ensures .written) e refl)
 
 pub told-spec : {M : Type 1} → statement M
 told-spec =
