@@ -1,7 +1,7 @@
 -- The five elementary functions, each fixed by exact steps: the port's sin, cos, tanh, exp and atan2, in the place of Rust's libm. Definitions only.
 -- One rounding an operator, in the order of the parentheses; a constant is its bit pattern. docs/PERFORMANCE.md has the measured errors.
 use mathlib.Core.Bool.{Bool, cond, _||_}
-use Prim.Native.Nat.{ℕ, _*_, _%_}
+use Prim.Native.Nat.{_*_, _%_}
 use lib.Ieee.{Float, binary32, rem, neg, lt, eq, ofBits, toBits}
 use Rattle.elementary.specs.declared.SinCos.{SinCos}
 use Rattle.floats.specs.Ops.{_⊕_, _⊖_, _⊗_, _⊘_, lit, minus, nought, one, pi, tau, halfPi}

@@ -38,10 +38,6 @@ expNeg-inside x = pick (lt x expLeast) (raised (capped (expWide x) one) nought) 
     pick true w h = record { low = refl; high = refl }
     pick false w h = h
 
-pub exp-inside : (x : Float) → lt nought x ≡ false → Inside nought one (exp x)
-unfolding exp
-exp-inside x h = rw h (expNeg-inside x)
-
 pub atan2-inside : (y x : Float) → Inside (minus 0x4049_0fdb) pi (atan2 y x)
 unfolding atan2 lt neg ofBits
 atan2-inside y x = clamped-inside (minus 0x4049_0fdb) pi refl refl refl (atanWide y x)
@@ -172,7 +168,3 @@ pub tanh-infinite : (s : Bool) → tanh (inf s) ≡ cond s (minus 0x3f80_0000) o
 unfolding tanh tanhRest unit scale add sub mul div neg lt ofBits toBits
 tanh-infinite true = refl
 tanh-infinite false = refl
-
-pub exp-minus-infinity : exp (inf true) ≡ nought
-unfolding exp expNeg expRest scale add sub mul div neg lt ofBits toBits
-exp-minus-infinity = refl

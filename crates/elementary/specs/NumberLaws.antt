@@ -16,7 +16,7 @@ use Rattle.floats.specs.UnitLaws.{Val, lt-val, neg-val}
 use Rattle.floats.specs.NonNegLaws.{NonNeg, clear, lt-is, le-of}
 use Rattle.floats.specs.RoundingLaws.{Counted, counted, rep-of, rep-step}
 use Rattle.floats.specs.PatternLaws.{read-high, write}
-use Rattle.floats.specs.RemLaws.{W, tau-val, tau-rep, rem-exact}
+use Rattle.floats.specs.RemLaws.{W, tau-val, tau-rep, nought-val, rem-exact}
 use Rattle.elementary.specs.Elementary.{raised, above, unit, scale, whole, bigR, bigM, expRest, expLeast, sinRest, cosRest, quadrant, sinCosNear, turn, sinCos}
 use Rattle.elementary.specs.Elementary.{left, ratio, atanRest, size, signed, octant}
 use Rattle.elementary.specs.SelectLaws.{clamped-number}
@@ -213,10 +213,6 @@ leastUnits = 11447375 * 2 ^ 132
 least-val : Val binary32 expLeast true leastUnits
 unfolding ofBits neg
 least-val = (refl, refl)
-
-pub nought-val : Val binary32 nought false 0
-unfolding ofBits
-nought-val = (refl, refl)
 
 cut-in : (x : Float) → T (fits binary32 x) → T (finite x) → lt nought x ≡ false → Within leastUnits (raised x expLeast)
 cut-in x p q g = go (lt x expLeast) (λ e. tests-in leastUnits expLeast nought x leastUnits 0 least-val nought-val (lit≤ tt) (lit≤ tt) p q e g)

@@ -9,7 +9,7 @@ use native.Mathlib.Nat.{le-trans, le-of-eq, le-of-lt, lt-of-lt-of-le, lt-irrefl,
 use native.Mathlib.Omega.{arith}
 use lib.Dec.{T, leb, ltb, eqb, leb→le, ltb→lt, nltb→le, eqb→eq, lit<, lit≤}
 use lib.Pow.{pow-pos}
-use lib.Ieee.{Float, nan, inf, fin, binary32, up, down, unlike, round, sum, add, sub, mul, div, neg, lt, below, fits, isNan, ofBits, toBits}
+use lib.Ieee.{Float, nan, inf, fin, binary32, up, down, unlike, round, sum, add, sub, mul, div, neg, lt, fits, isNan, ofBits, toBits}
 use lib.Ieee.Fits.{and-l, and-r, down-pos, add-fits, cond-fits}
 use lib.Ieee.Scale.{finite}
 use Rattle.floats.specs.Ops.{_⊕_, _⊖_, _⊗_, _⊘_, lit, minus, nought, one}
@@ -19,10 +19,11 @@ use Rattle.floats.specs.RankLaws.{Sized, sized-no-nan}
 use Rattle.floats.specs.NarrowOrderLaws.{G, G-mono, fraction-sized}
 use Rattle.floats.specs.NonNegLaws.{sum-same, sum-np-gt, sum-pn-ge, sum-pn-lt}
 use Rattle.floats.specs.ProductLaws.{mul-val}
+use Rattle.floats.specs.RemLaws.{nought-val}
 use Rattle.elementary.specs.Elementary.{capped, raised, above, under, scale, bigM, tanhRest, tanh}
 use Rattle.elementary.specs.SelectLaws.{clamped-inside, clamped-number, clamped-fits}
 use Rattle.elementary.specs.SizeLaws.{L, Within, within-finite, sum-in, add-in, sub-in, mul-in, constant, unitsOf, Near, off, tests-in}
-use Rattle.elementary.specs.NumberLaws.{unit-number, nought-val, byte-of, bigM-units, bigM-val}
+use Rattle.elementary.specs.NumberLaws.{unit-number, byte-of, bigM-units, bigM-val}
 
 -- ---- steps that may have an infinity in them
 rounded-number : (s : Bool) (n c : ℕ) → T (not (isNan (round binary32 s n c)))

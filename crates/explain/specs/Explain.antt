@@ -6,7 +6,7 @@ use Prim.Native.Nat.{ℕ, _+_, _%_, _^_}
 use lib.ListN.{length}
 use Rattle.hex.specs.Hex.{put, Written}
 use Rattle.lines.specs.declared.Found.{Found}
-use Rattle.lines.specs.declared.Found.the-variants.{Line, Last, More, Done}
+use Rattle.lines.specs.declared.Found.the-variants.{Line, More, Done}
 use Rattle.lines.specs.Lines.{foundOf}
 use Rattle.lines.specs.Turns.{Answered, Read, Run, lineTo, opening, roomOf}
 use Rattle.shapes.specs.Shapes.{limit}
@@ -68,8 +68,7 @@ pub record End (x : Explaining) (l m : List ℕ) (y : Explaining) : Type 0 where
   pub done : y .state .more ≡ false
 
 abbrev pub Turned : Found → Explaining → List ℕ → List ℕ → List ℕ → List ℕ → Explaining → Type 0
-Turned (Line e) x b c l m y = Explains x b e (e + 1) l m y × (c ≡ b)
-Turned (Last e) x b c l m y = Explains x b e e l m y × (c ≡ b)
+Turned (Line e next) x b c l m y = Explains x b e next l m y × (c ≡ b)
 Turned More x b c l m y = Block x b c y × (m ≡ l)
 Turned Done x b c l m y = End x l m y × (c ≡ b)
 

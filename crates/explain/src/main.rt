@@ -124,8 +124,7 @@ fn turn(buf: &mut [u8], text: &mut [u8], x: Explaining) -> Explaining
     let f = s.feed;
     let found = lines::find(buf, f);
     match found {
-        Found::Line(e) => line_turn(buf, text, x, e, e + 1),
-        Found::Last(e) => line_turn(buf, text, x, e, e),
+        Found::Line(e, next) => line_turn(buf, text, x, e, next),
         Found::More => block_turn(buf, text, x),
         Found::Done => last_turn(text, x),
     }

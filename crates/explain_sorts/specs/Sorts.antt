@@ -53,7 +53,7 @@ strangeNumber = 11
 abbrev pub bad : ℕ → ℕ → ℕ → ℕ → Sort
 bad why kind number pixels = Bad (record { why = why; kind = kind; number = number; pixels = pixels })
 
--- ---- answers (document 01, "Frame lines"): a ring's refusal has number 1 or 3, a disk's 1 to 4, that of type ff 5
+-- ---- answers (docs/RULES.md, Frame lines): a ring's refusal has number 1 or 3, a disk's 1 to 4, that of type ff 5
 unfoldable pub isOf : ℕ → ℕ → Bool
 isOf kind number = cond (eqb kind 129) (eqb number 1 || eqb number 3) (cond (eqb kind 130) (ltb number 5) (eqb number 5))
 

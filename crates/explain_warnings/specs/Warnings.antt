@@ -12,7 +12,7 @@ use Rattle.hex.specs.Hex.{byteOf, valueOf}
 use Rattle.explain_words.specs.Tell.{telling}
 use Rattle.explain_warnings.specs.declared.Reading.{Reading}
 
--- ---- an answer's values, where they stand in its line (document 01, "Frame lines")
+-- ---- an answer's values, where they stand in its line (docs/RULES.md, Frame lines)
 abbrev pub ringReading : List ℕ → Reading
 ringReading l =
     record {

@@ -30,8 +30,7 @@ fn turn(buf: &mut [u8], text: &mut [u8], s: State) -> State
     let f = s.feed;
     let found = lines::find(buf, f);
     match found {
-        Found::Line(e) => line_turn(buf, text, s, e, e + 1),
-        Found::Last(e) => line_turn(buf, text, s, e, e),
+        Found::Line(e, next) => line_turn(buf, text, s, e, next),
         Found::More => lines::read_on(buf, text, s, shapes::LIMIT),
         Found::Done => lines::finish(text, s),
     }

@@ -1,20 +1,20 @@
 -- `floor`, and the saturating cast of a float to an unsigned integer of 64 bits after it: the cast alone gives the same number, since it drops the fraction and takes what is below zero to 0.
--- And the bin of an angle: ((angle / PI) * 72).floor() as usize % 72. Assumes nothing.
+-- And the bin of an angle: ((angle / PI) * HIST_BINS as f32).floor() as usize % HIST_BINS. Assumes nothing.
 use mathlib.Core.Path.{_≡_, refl, sym, ap, _∙_, subst}
 use Prim.Native.Nat.{ℕ, zero, suc, _+_, _-_, _*_, _/_, _%_, _^_, _≤_, _<_, min, zero-le}
-use native.Mathlib.Nat.{le-trans, le-of-lt, le-of-eq, lt-of-le-of-lt, mul-one, one-mul, zero-mul, mul-pos, not-le-of-lt, zero-lt-suc, mul-div-cancel, div-le-self, le-div-iff-mul-le, min-eq-right, lt-irrefl}
+use native.Mathlib.Nat.{le-trans, le-of-lt, le-of-eq, mul-one, mul-pos, zero-lt-suc, mul-div-cancel, div-le-self, le-div-iff-mul-le}
 use native.Mathlib.Omega.{arith}
 use mathlib.Core.Bool.{Bool, true, false, not, _&&_, cond, true≢false, false≢true}
 use lib.IntN.{ℤ, pos, negsuc}
 use lib.Dec.{T, ltb, leb, ltb→lt, lt→ltb, nltb→le, eqb}
 use lib.Pow.{pow-pos}
-use lib.Ieee.{Float, nan, inf, fin, Format, binary32, prec, up, down, round, lt, fits, mul, div, toUnsigned, ofBits}
-use lib.Ieee.Fits.{down-pos, up-pos, and-l, and-r}
+use lib.Ieee.{Float, nan, inf, fin, Format, binary32, prec, up, down, round, lt, fits, toUnsigned}
+use lib.Ieee.Fits.{down-pos, and-l, and-r, mul-fits}
 use lib.Ieee.Exact.{HasValue}
 use lib.Ieee.Back.{round-whole}
-use Rattle.floats.specs.FiniteLaws.{of-true}
-use Rattle.floats.specs.NarrowLaws.{neg-round}
-use Rattle.floats.specs.Library.{bin, floor, toIndex}
+use Rattle.floats.specs.Ops.{_⊗_, _⊘_, pi}
+use Rattle.floats.specs.Rows.{count}
+use Rattle.floats.specs.Library.{histBins, bin, floor, toIndex}
 
 cast-of-value : (x : Float) (n : ℕ) → HasValue x false n 1 → toIndex x ≡ min n (2 ^ 64 - 1)
 unfolding toUnsigned
@@ -100,13 +100,6 @@ cast-high (fin false m e) a b =
     cap : (n : ℕ) → 2 ^ 64 ≤ n → min n (2 ^ 64 - 1) ≡ 2 ^ 64 - 1
     cap n h = omega arith
 
-pub bin-is : (a : Float) → bin a ≡ toIndex (mul binary32 (div binary32 a (ofBits binary32 0x40490fdb)) (ofBits binary32 0x42900000)) % 72
+pub bin-is : (a : Float) → bin a ≡ toIndex (a ⊘ pi ⊗ count histBins) % histBins
 unfolding bin
-bin-is a =
-    let v = mul binary32 (div binary32 a (ofBits binary32 0x40490fdb)) (ofBits binary32 0x42900000) in
-    ap (λ (n : ℕ). n % 72) (floor-cast binary32 v (lib.Ieee.Fits.mul-fits binary32 (div binary32 a (ofBits binary32 0x40490fdb)) (ofBits binary32 0x42900000)))
-
--- the paper's row 9
-row9 : (bin (ofBits binary32 0x40490fdb) ≡ 0) × (bin (ofBits binary32 0xbf800000) ≡ 0) × (bin (ofBits binary32 0x7fc00000) ≡ 0) × (bin (ofBits binary32 0x7f800000) ≡ 15)
-unfolding bin floor mul div toUnsigned ofBits
-row9 = (refl, refl, refl, refl)
+bin-is a = ap (λ (n : ℕ). n % histBins) (floor-cast binary32 (a ⊘ pi ⊗ count histBins) (mul-fits binary32 (a ⊘ pi) (count histBins)))

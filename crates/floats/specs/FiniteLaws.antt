@@ -1,12 +1,12 @@
 -- x - x equals itself exactly where x is finite: how a program tests for that without reading bits. Zero as its bit pattern. Assumes nothing.
 use mathlib.Core.Path.{_≡_, refl, sym, ap, _∙_, subst}
 use Prim.Native.Nat.{ℕ, suc, _+_, _-_, _*_, _^_, _<_}
-use native.Mathlib.Nat.{le-refl, sub-self, zero-mul, mul-pos, zero-lt-suc}
-use mathlib.Core.Bool.{Bool, true, false, not, _&&_, _||_, Bool·beq, cond}
-use lib.IntN.{ℤ, pos, negsuc}
+use native.Mathlib.Nat.{le-refl, sub-self, zero-mul, mul-pos}
+use mathlib.Core.Bool.{Bool, true, false, not, _&&_}
+use lib.IntN.{ℤ, pos}
 use lib.Dec.{T, eqb, eqb-refl}
 use lib.Pow.{pow-pos}
-use lib.Ieee.{Float, nan, inf, fin, Format, binary32, binary64, prec, emax, low, up, down, round, sum, add, sub, neg, eq, ofBits}
+use lib.Ieee.{Float, nan, inf, fin, Format, binary32, binary64, prec, emax, low, up, down, round, add, sub, neg, eq, ofBits}
 use lib.Ieee.Fits.{down-pos}
 use lib.Ieee.Bits.{is-true}
 use lib.Ieee.Exact.{HasValue, round-exact}

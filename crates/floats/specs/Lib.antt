@@ -1,4 +1,5 @@
 pub mod Ops
+pub mod Rows
 pub mod Library
 pub mod UnitLaws
 pub mod RoundingLaws
@@ -19,3 +20,4 @@ pub mod ProductLaws
 pub mod MaxMinLaws
 pub mod NanLaws
 pub mod RootRangeLaws
+pub mod DiscreteLaws

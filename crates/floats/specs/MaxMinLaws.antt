@@ -1,14 +1,14 @@
--- The greater and the lesser of two values: a NaN is dropped, and +0 is above -0. Whatever x is, `max x y` is at least a y that is a number, and `min x y` at most.
+-- The greater and the lesser of two values: a NaN is dropped, and +0 is above -0. Whatever x is, `min x y` is at most a y that is a number.
 -- Equal numbers differ at most in the sign of a zero, and a sum of two zeros has the sign that is wanted. Stated over the format. Assumes nothing.
 use mathlib.Core.Path.{_≡_, refl, sym, ap, _∙_, subst}
-use Prim.Native.Nat.{ℕ, zero, suc, _+_, _*_, _≤_, _<_}
-use native.Mathlib.Nat.{le-refl, zero-mul, mul-one}
+use Prim.Native.Nat.{ℕ, zero, suc, _*_, _<_}
+use native.Mathlib.Nat.{le-refl, zero-mul}
 use mathlib.Core.Bool.{Bool, true, false, not, _&&_, _||_, Bool·beq, cond, true≢false, false≢true}
-use lib.IntN.{ℤ, pos, negsuc}
+use lib.IntN.{pos}
 use lib.Dec.{T, eqb, eqb→eq, eqb-refl}
 use lib.Ieee.{Float, nan, inf, fin, Format, binary32, binary64, up, down, add, neg, lt, le, eq, ne, fits, isNan, ofBits, level}
 use lib.Ieee.Bits.{is-true}
-use lib.Ieee.Fits.{and-l, and-r, up-pos, down-pos, eq→eqb}
+use lib.Ieee.Fits.{and-l, and-r, down-pos}
 use lib.Ieee.Exact.{HasValue}
 use lib.Ieee.Back.{whole-unique}
 use Rattle.floats.specs.Ops.{nought}
@@ -38,18 +38,7 @@ module _ (f : Format) (x y : Float) (p : T (fits f x)) (q : T (fits f y)) where
   unfolding before
   not-before n m e = le-of-not-lt f x y p q n m (or-left (lt x y) (eq x y && (negative x && not (negative y))) e)
 
-  -- whatever x is, the greater of x and a number y is at least y
-  pub max-right : T (not (isNan y)) → T (le y (max x y))
-  unfolding max
-  max-right m = go (isNan x) (isNan y) (before x y) (λ t. t) m (not-before)
-    where
-      go : (a b c : Bool) → (T (not a) → T (not (isNan x))) → T (not b) → (T (not (isNan x)) → T (not (isNan y)) → c ≡ false → T (le y x)) → T (le y (cond a y (cond b x (cond c y x))))
-      go true b c s t k = self y q m
-      go false true c s t k = absurd t
-      go false false true s t k = self y q m
-      go false false false s t k = k (s tt) m refl
-
--- and the lesser at most y
+-- whatever x is, the lesser of x and a number y is at most y
 pub min-right : (f : Format) (x y : Float) → T (fits f x) → T (fits f y) → T (not (isNan y)) → T (le (min x y) y)
 unfolding min
 min-right f x y p q m = go (isNan x) (isNan y) (before y x) (λ t. t) m (not-before f y x q p)

@@ -1,8 +1,8 @@
 -- Which bit patterns are a NaN's: those whose digits and exponent's field, the sign left off, are above the infinity's. Stated over the format. Assumes nothing.
-use mathlib.Core.Path.{_≡_, refl, sym, ap, subst, _∙_}
-use mathlib.Core.Bool.{Bool, true, false, not, false≢true}
+use mathlib.Core.Path.{_≡_, refl, sym, subst, _∙_}
+use mathlib.Core.Bool.{Bool, true, not, false≢true}
 use Prim.Native.Nat.{ℕ, _*_, _%_, _≤_, _<_}
-use lib.Dec.{T, ltb}
+use lib.Dec.{T}
 use lib.Arith.{le→nltb}
 use borrow.Author.Tests.{lt-ltb}
 use lib.Ieee.{Float, nan, inf, fin, Format, binary32, isNan, nanBits, ofBits, toBits, ones, hid, top, ne}

@@ -1,22 +1,23 @@
 -- An f64 to the nearest f32, ties to the even one, and how whole numbers find it. A positive f64 is m * 2 ^ (e - 1) of its units, with the field e and m of 53 digits.
 -- In units of the f32 that is m * 2 ^ (e - 1) / 2 ^ 925. Assumes nothing.
 use mathlib.Core.Path.{_≡_, refl, sym, ap, _∙_, subst}
-use mathlib.Core.Logic.{_⊎_, inl, inr}
+use mathlib.Core.Logic.{inl, inr}
 use Prim.Native.Nat.{ℕ, zero, suc, _+_, _-_, _*_, _/_, _%_, _^_, _≤_, _<_, zero-le, compare, Ordering, Ordering·lt, Ordering·eq, Ordering·gt}
-use native.Mathlib.Nat.{le-refl, le-trans, le-of-eq, le-of-lt, lt-of-lt-of-le, lt-of-le-of-lt, lt-irrefl, lt-of-not-le, not-le-of-lt, eq-or-lt-of-le, zero-lt-suc, mul-comm, mul-assoc, mul-left-comm, mul-right-comm, mul-one, one-mul, zero-mul, mul-pos, mul-le-mul, mul-le-mul-right, mul-lt-mul-of-pos-right, mul-div-mul-right, le-div-iff-mul-le, div-lt-iff-lt-mul, div-eq-of-lt, mod-eq-of-lt, div-one, zero-div, add-comm}
+use native.Mathlib.Nat.{le-trans, le-of-eq, le-of-lt, lt-of-lt-of-le, lt-of-le-of-lt, lt-irrefl, not-le-of-lt, eq-or-lt-of-le, zero-lt-suc, mul-assoc}
+use native.Mathlib.Nat.{mul-right-comm, mul-one, one-mul, mul-pos, mul-le-mul, mul-le-mul-right, mul-lt-mul-of-pos-right, mul-div-mul-right}
+use native.Mathlib.Nat.{le-div-iff-mul-le, div-lt-iff-lt-mul, div-eq-of-lt, mod-eq-of-lt}
 use native.Mathlib.Omega.{arith}
-use mathlib.Core.Bool.{Bool, true, false, not, cond, true≢false}
-use lib.IntN.{ℤ, pos, negsuc}
-use lib.Dec.{T, isLe, isEq, leb, ltb, eqb, leb→le, ltb→lt, nltb→le, eqb→eq, lit≤, lit<}
+use mathlib.Core.Bool.{Bool, true, false, not, cond}
+use lib.Dec.{T, isLe, isEq, ltb, leb→le, ltb→lt, nltb→le, eqb→eq, lit≤, lit<}
 use lib.Arith.{le→nltb}
-use lib.Pow.{pow-add, pow-pos, pow-mono, shl-lt}
+use lib.Pow.{pow-add, pow-pos, pow-mono}
 use lib.Ieee.{Float, nan, inf, fin, Format, binary32, binary64, prec, emax, low, up, down, size, nearest, odd, units, round, ofBits, toBits, fits, neg, ne}
 use lib.Ieee.Fits.{round-is, down-pos, eq→eqb, odd-fits, inf-fits, nearest-le}
 use lib.Ieee.Digits.{size-le}
-use lib.Ieee.Exact.{HasValue, units-val}
+use lib.Ieee.Exact.{units-val}
 use lib.Ieee.Bits.{ofBits-toBits, toBits-lt}
 use lib.Ieee.Compare.{differs-from-itself}
-use lib.Ieee.Nearest.{closest, closest-same, closest-mono, nearest-ge}
+use lib.Ieee.Nearest.{closest, closest-same, nearest-ge}
 use lib.Ieee.Scale.{round-same}
 use Rattle.floats.specs.UnitLaws.{Val}
 use Rattle.floats.specs.PatternLaws.{size-is, write, write-small, write-carry, read-low, read-high, pattern-neg}

@@ -1,18 +1,19 @@
 -- What `sqrt` means, said without its definition: the result is q * 2 ^ k units, with q of 24 digits or the next power of two,
 -- and the exact root lies strictly between the two middles beside it: ((2 q - 1) * 2 ^ k) ^ 2 < 4 N < ((2 q + 1) * 2 ^ k) ^ 2, where N is the square of the exact root in units. Assumes nothing.
-use mathlib.Core.Path.{_≡_, refl, sym, ap, _∙_, subst}
+use mathlib.Core.Path.{_≡_, sym, ap, _∙_, subst}
 use mathlib.Core.Logic.{_⊎_, inl, inr}
-use Prim.Native.Nat.{ℕ, zero, suc, _+_, _-_, _*_, _/_, _%_, _^_, _≤_, _<_, zero-le}
-use native.Mathlib.Nat.{le-refl, le-trans, le-of-eq, le-of-lt, lt-of-lt-of-le, lt-of-le-of-lt, lt-irrefl, lt-of-not-le, not-le-of-lt, eq-or-lt-of-le, le-of-suc-le-suc, zero-lt-suc, mul-comm, mul-assoc, mul-one, one-mul, mul-pos, mul-mul-mul-comm, mul-le-mul, mul-le-mul-right, mul-lt-mul-of-pos-right, lt-of-mul-lt-mul-right, eq-of-mul-eq-mul-right, div-mul-le-self, lt-div-mul-add, le-div-iff-mul-le, pow-succ', sub-add-cancel, suc-mul, div-lt-iff-lt-mul, le-mul-of-pos-right, mul-left-comm}
+use Prim.Native.Nat.{ℕ, suc, _+_, _-_, _*_, _/_, _%_, _^_, _≤_, _<_, zero-le}
+use native.Mathlib.Nat.{le-refl, le-trans, le-of-eq, le-of-lt, lt-of-lt-of-le, lt-of-le-of-lt, lt-of-not-le, not-le-of-lt, eq-or-lt-of-le, le-of-suc-le-suc}
+use native.Mathlib.Nat.{mul-comm, mul-assoc, one-mul, mul-mul-mul-comm, mul-le-mul, mul-le-mul-right, mul-lt-mul-of-pos-right, eq-of-mul-eq-mul-right}
+use native.Mathlib.Nat.{div-mul-le-self, lt-div-mul-add, le-div-iff-mul-le, pow-succ', sub-add-cancel, suc-mul, le-mul-of-pos-right, mul-left-comm}
 use native.Mathlib.Omega.{arith}
 use mathlib.Core.Bool.{Bool, true, false, not, cond}
 use lib.Dec.{T, leb, ltb, leb→le, nleb→lt, ltb→lt, nltb→le, lit≤, lit<}
-use lib.Pow.{pow-add, pow-pos, pow-mono, shl-lt}
-use lib.Ieee.{Float, Format, binary32, size, units}
+use lib.Pow.{pow-add, pow-pos, pow-mono}
+use lib.Ieee.{Float, binary32, size}
 use lib.Ieee.Fits.{kept-lt}
 use lib.Ieee.Digits.{size-lt, size-le, size-reaches}
 use lib.Ieee.Exact.{units-val}
-use lib.Ieee.Scale.{overflow}
 use Rattle.floats.specs.UnitLaws.{Val}
 use Rattle.floats.specs.RoundingLaws.{Rep}
 use Rattle.floats.specs.RootLaws.{isq-root, root-lt, sqrt-at}

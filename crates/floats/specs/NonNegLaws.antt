@@ -2,28 +2,23 @@
 -- and -0 needs no case of its own after this file. Assumes nothing.
 use mathlib.Core.Path.{_≡_, refl, sym, ap, _∙_, subst}
 use mathlib.Core.Logic.{_⊎_, inl, inr}
-use Prim.Native.Nat.{ℕ, zero, suc, _+_, _-_, _*_, _/_, _%_, _^_, _≤_, _<_, zero-le}
-use native.Mathlib.Nat.{le-trans, le-of-eq, le-of-lt, not-le-of-lt, zero-mul, zero-mod, mod-lt, eq-or-lt-of-le, eq-zero-or-pos, sub-le}
+use Prim.Native.Nat.{ℕ, _+_, _-_, _^_, _≤_, _<_}
+use native.Mathlib.Nat.{le-of-eq, le-of-lt, not-le-of-lt, zero-mul, eq-or-lt-of-le}
 use native.Mathlib.Omega.{arith}
-use mathlib.Core.Bool.{Bool, true, false, not, _&&_, _||_, Bool·beq, cond, true≢false}
-use lib.IntN.{ℤ, pos, negsuc}
-use lib.Dec.{T, leb, ltb, eqb, leb→le, le→leb, nleb→lt, ltb→lt, lt→ltb, nltb→le, eqb→eq}
-use lib.Pow.{pow-pos}
-use lib.Ieee.{Float, nan, inf, fin, Format, low, round, sum, add, sub, neg, rem, lt, eq, le, below, level, fits}
-use lib.Ieee.Fits.{and-i, and-l, and-r, eq→eqb, add-fits, sub-fits, rem-fits, round-fits}
-use lib.Ieee.Scale.{overflow, finite}
-use Rattle.floats.specs.UnitLaws.{Val, same-test, lt-val, le-val, eq-val, add-val, sub-val, rem-val}
-use Rattle.floats.specs.RoundingLaws.{R, Rep, Counted, counted, round-R, R-exact, R-upper, R-zero, R-rep, rep-of, rep-mod, rep-zero, finite-of-val}
+use mathlib.Core.Bool.{Bool, true, false, not, _||_, Bool·beq, cond}
+use lib.IntN.{pos}
+use lib.Dec.{T, leb, ltb, eqb, leb→le, le→leb, ltb→lt, lt→ltb, nltb→le, eqb→eq}
+use lib.Ieee.{Float, fin, Format, low, round, sum, add, sub, lt, le, below, level}
+use lib.Ieee.Fits.{and-i, and-l, eq→eqb}
+use lib.Ieee.Scale.{overflow}
+use Rattle.floats.specs.UnitLaws.{Val, same-test, lt-val, le-val, add-val, sub-val}
+use Rattle.floats.specs.RoundingLaws.{R, Rep, round-R, R-zero, R-rep, rep-zero}
 
 pub record NonNeg (f : Format) (x : Float) (n : ℕ) : Type 0 where
   pub sign : Bool
   pub val : Val f x sign n
   pub none : T sign → n ≡ 0
   pub rep : Rep f n
-
--- another number of units that is the same
-pub nn-at : (f : Format) (x : Float) (a b : ℕ) → a ≡ b → NonNeg f x a → NonNeg f x b
-nn-at f x a b e h = subst (NonNeg f x) e h
 
 pub clear : (f : Format) (x : Float) (n : ℕ) → Val f x false n → Rep f n → NonNeg f x n
 clear f x n v r = record { sign = false; val = v; none = λ t. absurd t; rep = r }
@@ -60,7 +55,7 @@ or-case : (a b : Bool) → T (a || b) → T a ⊎ T b
 or-case true b t = inl tt
 or-case false b t = inr t
 
-or-l : (a b : Bool) → T a → T (a || b)
+pub or-l : (a b : Bool) → T a → T (a || b)
 or-l true b t = tt
 or-l false b t = absurd t
 

@@ -1,7 +1,7 @@
 -- Rust's operators on f32 and f64 under short signs, and the constants that the Rust text names. Definitions only.
 -- Each sign is one operation of IEEE 754, rounded once: `mu ⊕ amp ⊗ h` is Rust's `mu + amp * h` in f32, and the boxed signs are f64's.
 use Prim.Native.Nat.{ℕ}
-use lib.Ieee.{Float, binary32, binary64, add, sub, mul, div, rem, neg, ofBits}
+use lib.Ieee.{Float, binary32, binary64, add, sub, mul, div, neg, ofBits}
 
 infixl 71 _⊕_ _⊖_ _⊞_ _⊟_
 infixl 72 _⊗_ _⊘_ _⊠_ _⧄_

@@ -1,20 +1,20 @@
 -- Bit patterns and units: what a pattern below the infinity's is worth (`read-low`, `read-high`), and which pattern a number of units has (`write`). Assumes nothing.
 use mathlib.Core.Path.{_≡_, refl, sym, ap, _∙_, subst}
-use mathlib.Core.Logic.{_⊎_, inl, inr}
-use Prim.Native.Nat.{ℕ, zero, suc, _+_, _-_, _*_, _/_, _%_, _^_, _≤_, _<_, zero-le}
-use native.Mathlib.Nat.{le-refl, le-trans, le-of-eq, le-of-lt, lt-of-lt-of-le, lt-of-le-of-lt, lt-irrefl, lt-of-not-le, not-le-of-lt, le-antisymm, le-of-suc-le-suc, mul-one, zero-add, mul-le-mul-right, mul-lt-mul-of-pos-right, mul-div-cancel, mod-eq-of-lt, mod-lt}
+use Prim.Native.Nat.{ℕ, zero, suc, _+_, _-_, _*_, _/_, _%_, _^_, _≤_, _<_}
+use native.Mathlib.Nat.{le-refl, le-trans, le-of-eq, lt-of-lt-of-le, lt-irrefl, lt-of-not-le, not-le-of-lt, le-antisymm, mul-one, zero-add, mul-le-mul-right}
+use native.Mathlib.Nat.{mul-div-cancel, mod-eq-of-lt}
 use native.Mathlib.Omega.{arith}
 use mathlib.Core.Bool.{Bool, true, false, not, cond}
-use lib.IntN.{ℤ, pos, negsuc}
-use lib.Dec.{T, leb, ltb, eqb, leb→le, eqb→eq, nltb→le}
+use lib.Dec.{T, leb, eqb, leb→le, eqb→eq, nltb→le}
 use lib.Pow.{pow-add, pow-pos, pow-mono, shl-lt}
-use lib.Ieee.{Float, nan, inf, fin, Format, binary32, binary64, prec, emax, low, up, down, size, odd, hid, ones, top, ofFields, ofBits, toBits, fits, nanBits, isNan, neg}
+use lib.Ieee.{Float, nan, inf, fin, Format, binary32, binary64, prec, low, up, down, size, odd, hid, ones, top, ofFields, ofBits, toBits, fits, nanBits}
+use lib.Ieee.{isNan, neg}
 use lib.Ieee.Fits.{down-pos, two, two-le-pos}
 use lib.Ieee.Digits.{size-lt, size-le}
-use lib.Ieee.Bits.{is-true, is-false, ofBits-toBits, nanBits-is, nanBits-above}
+use lib.Ieee.Bits.{is-true, ofBits-toBits, nanBits-is, nanBits-above}
 use lib.Arith.{le→nltb}
-use lib.Ieee.Exact.{HasValue, odd-sign}
-use Rattle.floats.specs.UnitLaws.{Val, same-test}
+use lib.Ieee.Exact.{odd-sign}
+use Rattle.floats.specs.UnitLaws.{Val}
 
 -- ---- reading
 bool-no : (b : Bool) → (T b → ⊥) → b ≡ false
@@ -109,9 +109,6 @@ write-carry f x q k e v =
 -- ---- a pattern up to the infinity's is no NaN's
 pub no-nan32 : (n : ℕ) → n ≤ 0x7f800000 → T (not (nanBits binary32 n))
 no-nan32 n h = subst (λ (b : Bool). T (not b)) (sym (nanBits-above binary32 n)) (le→nltb 0x7f800000 (n % 0x80000000) (le-trans (native.Mathlib.Nat.mod-le n 0x80000000) h))
-
-pub no-nan64 : (n : ℕ) → n ≤ 0x7ff0000000000000 → T (not (nanBits binary64 n))
-no-nan64 n h = subst (λ (b : Bool). T (not b)) (sym (nanBits-above binary64 n)) (le→nltb 0x7ff0000000000000 (n % 0x8000000000000000) (le-trans (native.Mathlib.Nat.mod-le n 0x8000000000000000) h))
 
 -- ---- the sign's bit
 fields-neg : (f : Format) (x t : ℕ) → ofFields f true x t ≡ neg (ofFields f false x t)

@@ -1,21 +1,20 @@
 -- A value that a program has tested: no NaN, not zero, not below zero. Its pattern is that of an infinity, or lies from 1 up to below that. And the root's own cases. Assumes nothing.
 use mathlib.Core.Path.{_≡_, refl, sym, ap, _∙_, subst}
-use mathlib.Core.Logic.{_⊎_, inl, inr}
-use Prim.Native.Nat.{ℕ, zero, suc, _+_, _-_, _*_, _/_, _%_, _^_, _≤_, _<_, zero-le}
-use native.Mathlib.Nat.{eq-zero-or-pos, lt-of-lt-of-le, lt-of-le-of-lt, le-of-eq, lt-irrefl, mul-pos, zero-lt-suc, zero-mul, not-le-of-lt}
+use mathlib.Core.Logic.{inl, inr}
+use Prim.Native.Nat.{ℕ, zero, suc, _+_, _-_, _*_, _/_, _^_, _≤_, _<_, zero-le}
+use native.Mathlib.Nat.{eq-zero-or-pos, le-of-eq, lt-irrefl, mul-pos, zero-lt-suc, zero-mul, not-le-of-lt}
 use native.Mathlib.Omega.{arith}
-use mathlib.Core.Bool.{Bool, true, false, not, _&&_, _||_, Bool·beq, cond, true≢false, false≢true}
-use lib.IntN.{ℤ, pos, negsuc}
-use lib.Dec.{T, leb, ltb, eqb, eqb→eq, ltb→lt, lt→ltb}
-use lib.Ieee.{Float, nan, inf, fin, Format, binary32, prec, low, up, down, size, ofBits, toBits, fits, isNan, eq, ne, lt, div}
-use lib.Ieee.Fits.{kept-lt, up-pos, down-pos, and-l}
-use lib.Ieee.Bits.{ofBits-toBits, is-true}
+use mathlib.Core.Bool.{Bool, true, false, not, _&&_, _||_, Bool·beq, true≢false, false≢true}
+use lib.IntN.{pos}
+use lib.Dec.{T, eqb, eqb→eq, ltb→lt}
+use lib.Ieee.{Float, nan, inf, fin, binary32, up, down, size, ofBits, toBits, fits, isNan, eq, ne, lt, div}
+use lib.Ieee.Fits.{kept-lt, up-pos, and-l}
+use lib.Ieee.Bits.{ofBits-toBits}
 use lib.Ieee.Compare.{differs-from-itself}
 use lib.Ieee.Digits.{size-le}
-use lib.Ieee.Scale.{overflow}
 use Rattle.floats.specs.UnitLaws.{Val, lt-val, eq-val}
-use Rattle.floats.specs.RoundingLaws.{Counted, counted}
-use Rattle.floats.specs.NonNegLaws.{ltb-yes, ltb-no}
+use Rattle.floats.specs.RoundingLaws.{counted}
+use Rattle.floats.specs.NonNegLaws.{ltb-yes}
 use Rattle.floats.specs.FiniteLaws.{zero32, of-true}
 use Rattle.floats.specs.PatternLaws.{write-val}
 use Rattle.floats.specs.Library.{sqrt}

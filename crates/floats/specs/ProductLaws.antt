@@ -1,19 +1,18 @@
 -- Products and quotients in units: x of a units times y of b units is a * b / 2 ^ (2 * low), and x over y is a / b, each rounded, with the sign by the two signs.
--- A product's size grows with the sizes of both factors, and factors at most 1 in size have a product at most 1 in size. Assumes nothing.
+-- Assumes nothing.
 use mathlib.Core.Path.{_≡_, refl, sym, ap, _∙_, subst}
-use mathlib.Core.Logic.{_⊎_, inl, inr}
-use Prim.Native.Nat.{ℕ, zero, suc, _+_, _*_, _^_, _≤_, _<_, min}
-use native.Mathlib.Nat.{le-trans, le-of-eq, lt-irrefl, zero-mul, mul-comm, mul-assoc, mul-left-comm, mul-right-comm, mul-mul-mul-comm, mul-pos, mul-le-mul, eq-of-mul-eq-mul-right, zero-lt-suc}
+use Prim.Native.Nat.{ℕ, zero, suc, _*_, _^_, _<_}
+use native.Mathlib.Nat.{lt-irrefl, zero-mul, mul-comm, mul-assoc, mul-left-comm, mul-mul-mul-comm, mul-pos}
+use native.Mathlib.Nat.{eq-of-mul-eq-mul-right, zero-lt-suc}
 use mathlib.Core.Bool.{Bool, true, false, cond}
-use lib.IntN.{ℤ}
 use lib.Dec.{T, eqb, eqb→eq}
 use lib.Pow.{pow-pos}
-use lib.Ieee.{Float, nan, inf, fin, Format, binary32, binary64, low, up, down, unlike, size, round, mul, div}
+use lib.Ieee.{Float, nan, inf, fin, Format, low, up, down, unlike, round, mul, div}
 use lib.Ieee.Fits.{up-pos, down-pos}
-use lib.Ieee.Scale.{round-same, overflow, grid}
+use lib.Ieee.Scale.{round-same}
 use Rattle.floats.specs.UnitLaws.{Val}
 use Rattle.floats.specs.RankLaws.{Sized}
-use Rattle.floats.specs.NarrowOrderLaws.{G, G-mono, fraction-sized}
+use Rattle.floats.specs.NarrowOrderLaws.{G, fraction-sized}
 
 pub mul-val : (f : Format) (x y : Float) (s : Bool) (a : ℕ) (t : Bool) (b : ℕ) → Val f x s a → Val f y t b → mul f x y ≡ round f (unlike s t) (a * b) (2 ^ low f * 2 ^ low f)
 unfolding mul
@@ -65,16 +64,3 @@ div-val f (fin s' m e) (fin t' n d) s a t b B v w =
 -- ---- sizes
 pub mul-size : (f : Format) (x y : Float) (s : Bool) (a : ℕ) (t : Bool) (b : ℕ) → Val f x s a → Val f y t b → Sized f (mul f x y) (unlike s t) (G f (2 ^ low f * 2 ^ low f) (a * b))
 mul-size f x y s a t b v w = subst (λ (z : Float). Sized f z (unlike s t) (G f (2 ^ low f * 2 ^ low f) (a * b))) (sym (mul-val f x y s a t b v w)) (fraction-sized f (unlike s t) (a * b) (2 ^ low f * 2 ^ low f))
-
-pub mul-grows : (f : Format) (a b a' b' : ℕ) → a ≤ a' → b ≤ b' → G f (2 ^ low f * 2 ^ low f) (a * b) ≤ G f (2 ^ low f * 2 ^ low f) (a' * b')
-mul-grows f a b a' b' h k = G-mono f (2 ^ low f * 2 ^ low f) (a * b) (a' * b') (mul-pos (pow-pos (low f)) (pow-pos (low f))) (mul-le-mul h k)
-
--- 1 is 2 ^ low units
-one-one : (f : Format) → G f (2 ^ low f * 2 ^ low f) (2 ^ low f * 2 ^ low f) ≡ 2 ^ low f
-unfolding size
-one-one binary32 = refl
-one-one binary64 = refl
-
-pub mul-unit : (f : Format) (x y : Float) (s : Bool) (a : ℕ) (t : Bool) (b : ℕ) → Val f x s a → Val f y t b → a ≤ 2 ^ low f → b ≤ 2 ^ low f → (n : ℕ) × Sized f (mul f x y) (unlike s t) n × (n ≤ 2 ^ low f)
-mul-unit f x y s a t b v w h k =
-    (G f (2 ^ low f * 2 ^ low f) (a * b), mul-size f x y s a t b v w, le-trans (mul-grows f a b (2 ^ low f) (2 ^ low f) h k) (le-of-eq (one-one f)))

@@ -1,21 +1,20 @@
 -- `%` and `rem_euclid` on whole numbers of units: `%` is exact, and `rem_euclid` by a divisor above zero lies from 0 to the divisor, which itself can come out where the dividend is below zero.
--- Of a dividend that is not below zero the result is below the divisor. Stated once over the format and the divisor, and then for PI and TAU. Assumes nothing.
+-- Stated once over the format and the divisor, and then for PI and TAU. Assumes nothing.
 use mathlib.Core.Path.{_≡_, refl, sym, ap, _∙_, subst}
-use mathlib.Core.Logic.{_⊎_, inl, inr}
-use Prim.Native.Nat.{ℕ, zero, suc, _+_, _-_, _*_, _/_, _%_, _^_, _≤_, _<_, zero-le}
+use mathlib.Core.Logic.{inl, inr}
+use Prim.Native.Nat.{ℕ, _+_, _-_, _*_, _%_, _^_, _≤_, _<_, zero-le}
 use native.Mathlib.Nat.{le-of-eq, le-of-lt, zero-mul, zero-mod, mod-lt, eq-zero-or-pos, sub-le}
 use native.Mathlib.Omega.{arith}
 use mathlib.Core.Bool.{Bool, true, false, not, cond}
-use lib.IntN.{ℤ, pos, negsuc}
-use lib.Dec.{T, lit≤, lit<}
+use lib.IntN.{pos, negsuc}
+use lib.Dec.{T, lit<}
 use lib.Ieee.{Float, nan, inf, fin, Format, binary32, low, add, rem, lt, le, below, fits, ofBits}
-use lib.Ieee.Fits.{add-fits, rem-fits, cond-fits}
 use lib.Ieee.Scale.{overflow, finite}
 use Rattle.floats.specs.Ops.{nought, pi, tau}
 use Rattle.floats.specs.Library.{remEuclid}
 use Rattle.floats.specs.UnitLaws.{Val, lt-val, add-val, rem-val}
-use Rattle.floats.specs.RoundingLaws.{R, Rep, Counted, counted, R-exact, R-upper, rep-mod, rep-zero}
-use Rattle.floats.specs.NonNegLaws.{NonNeg, rounded, rounded-nn, clear, zero-nn, ltb-yes, ltb-no, le-of, lt-of, sum-np-lt}
+use Rattle.floats.specs.RoundingLaws.{R, Rep, counted, R-exact, R-upper, rep-mod, rep-zero}
+use Rattle.floats.specs.NonNegLaws.{NonNeg, rounded, rounded-nn, clear, zero-nn, ltb-yes, ltb-no, le-of, sum-np-lt}
 
 module _ (f : Format) (x d : Float) (a D : ℕ) (P : 0 < D) (w : Val f d false D) (r : Rep f D) where
   -- `%` is exact: the remainder of the whole numbers, with the dividend's sign
@@ -118,6 +117,10 @@ pi-nn = clear binary32 pi P pi-val pi-rep
 pub tau-nn : NonNeg binary32 tau W
 tau-nn = clear binary32 tau W tau-val tau-rep
 
+pub nought-val : Val binary32 nought false 0
+unfolding ofBits
+nought-val = (refl, refl)
+
 pub nought-nn : NonNeg binary32 nought 0
 nought-nn = subst (λ (z : Float). NonNeg binary32 z 0) (sym nought-is) (zero-nn binary32)
 
@@ -130,17 +133,8 @@ module _ (d : Float) (D : ℕ) (P : 0 < D) (w : Val binary32 d false D) (r : Rep
       let s = remEuclid-range binary32 x d (q .count) D P w r (q .sign) (q .val) (q .rep) in
       (le-of binary32 nought (remEuclid binary32 x d) 0 (s .0) nought-nn (s .1) zero-le, le-of binary32 (remEuclid binary32 x d) d (s .0) D (s .1) (clear binary32 d D w r) (s .2))
 
-  -- below the divisor, where the dividend is not below zero
-  pub rem-under : (x : Float) (a : ℕ) → NonNeg binary32 x a → T (lt (remEuclid binary32 x d) d)
-  rem-under x a h = lt-of binary32 (remEuclid binary32 x d) d (a % D) D (remEuclid-nn binary32 x d a D P w r h) (clear binary32 d D w r) (mod-lt a P)
-
 pub rem-pi : (x : Float) → T (fits binary32 x) → T (finite x) → T (le nought (remEuclid binary32 x pi)) × T (le (remEuclid binary32 x pi) pi)
 rem-pi = rem-between pi P (lit< tt) pi-val pi-rep
 
 pub rem-tau : (x : Float) → T (fits binary32 x) → T (finite x) → T (le nought (remEuclid binary32 x tau)) × T (le (remEuclid binary32 x tau) tau)
 rem-tau = rem-between tau W (lit< tt) tau-val tau-rep
-
--- document 01, row 4: -1e-9 modulo PI is PI itself
-row4 : remEuclid binary32 (ofBits binary32 0xb089_705f) pi ≡ pi
-unfolding remEuclid rem add lt ofBits
-row4 = refl

@@ -4,19 +4,18 @@
 use mathlib.Core.Path.{_≡_, refl, sym, ap, _∙_, subst}
 use mathlib.Core.Logic.{_⊎_, inl, inr}
 use Prim.Native.Nat.{ℕ, zero, suc, _+_, _-_, _*_, _/_, _%_, _^_, _≤_, _<_, zero-le}
-use native.Mathlib.Nat.{le-refl, le-trans, le-of-eq, le-of-lt, lt-of-lt-of-le, lt-of-le-of-lt, lt-irrefl, lt-of-not-le, not-le-of-lt, le-antisymm, le-of-suc-le-suc, zero-lt-suc, mul-comm, mul-assoc, mul-one, mul-pos, mul-add, add-mul, mul-mul-mul-comm, mul-le-mul, mul-le-mul-left, mul-le-mul-right, mul-lt-mul-of-pos-right, lt-of-mul-lt-mul-right, le-of-mul-le-mul-right, eq-of-mul-eq-mul-right, mul-div-cancel, div-mul-le-self, div-eq-of-lt-le, pow-succ', zero-mul}
+use native.Mathlib.Nat.{le-refl, le-trans, le-of-eq, le-of-lt, lt-of-lt-of-le, lt-of-le-of-lt, lt-irrefl, lt-of-not-le, not-le-of-lt}
+use native.Mathlib.Nat.{le-of-suc-le-suc, mul-assoc, mul-pos, mul-add, add-mul, mul-mul-mul-comm, mul-le-mul, mul-le-mul-right}
+use native.Mathlib.Nat.{mul-lt-mul-of-pos-right, lt-of-mul-lt-mul-right, mul-div-cancel, div-eq-of-lt-le, pow-succ', zero-mul}
 use native.Mathlib.Omega.{arith}
 use mathlib.Core.Bool.{Bool, true, false, not, cond}
-use lib.IntN.{ℤ, pos, negsuc}
-use lib.Dec.{T, leb, ltb, leb→le, nleb→lt, ltb→lt, lt→ltb, nltb→le, lit≤, lit<}
-use lib.Pow.{pow-add, pow-pos, pow-mono, shl-lt}
+use lib.Dec.{T, leb, ltb, leb→le, nleb→lt, ltb→lt, lt→ltb, lit≤, lit<}
+use lib.Pow.{pow-add, pow-pos, pow-mono}
 use lib.Ieee.{Float, nan, inf, fin, Format, binary32, prec, emax, low, up, down, size, units, ofBits, toBits, fits}
-use lib.Ieee.Fits.{down-pos, up-pos, odd-fits, kept-lt}
-use lib.Ieee.Exact.{HasValue, units-val}
+use lib.Ieee.Fits.{down-pos, odd-fits, kept-lt}
+use lib.Ieee.Exact.{units-val}
 use lib.Ieee.Bits.{ofBits-toBits}
-use lib.Ieee.Scale.{overflow}
 use Rattle.floats.specs.UnitLaws.{Val, same-test}
-use Rattle.floats.specs.RoundingLaws.{val-unique}
 use Rattle.floats.specs.PatternLaws.{size-is, write, write-carry, read-low, read-high}
 use Rattle.floats.specs.Library.{middle, rootUnits, sqrt, stepped, wholeRoot}
 
@@ -62,10 +61,6 @@ isq-root (suc d) n h =
 -- squares are ordered as the numbers
 pub root-lt : (a b : ℕ) → a * a < b * b → a < b
 root-lt a b h = lt-of-not-le (λ (g : b ≤ a). not-le-of-lt h (mul-le-mul g g))
-
-pub root-unique : (n q r : ℕ) → IsRoot n q → IsRoot n r → q ≡ r
-root-unique n q r a b =
-    le-antisymm (le-of-suc-le-suc (root-lt q (suc r) (lt-of-le-of-lt (a .0) (b .1)))) (le-of-suc-le-suc (root-lt r (suc q) (lt-of-le-of-lt (b .0) (a .1))))
 
 -- ---- at a value of n units
 pub sqrt-at : (f : Format) (x : Float) (n : ℕ) → 0 < n → Val f x false n → sqrt f x ≡ rootUnits f (n * 2 ^ low f)
@@ -179,15 +174,8 @@ units-pattern q h lo hi l =
         unfold units in pick (ltb (q * 2 ^ h) (2 ^ 277)) (lib.Ieee.odd 25 false q h 149) (odd-fits binary32 25 false q h (lt-of-le-of-lt hi (lit< tt)) hi s)
 
 -- ---- for the proofs of code
-pub square-pos : (m q : ℕ) → m < q * q → 0 < q
-square-pos m zero h = absurd (not-le-of-lt h (zero-le))
-square-pos m (suc q) h = zero-lt-suc q
-
 pub root-below : (m q : ℕ) → q * q ≤ m → m < 2 ^ 48 → q < 16777216
 root-below m q h l = root-lt q 16777216 (lt-of-le-of-lt h l)
-
-pub square-fits : (q : ℕ) → q ≤ 16777216 → q * q ≤ 2 ^ 48
-square-fits q h = mul-le-mul h h
 
 pub suc-square : (q : ℕ) → (q + 1) * (q + 1) ≡ suc q * suc q
 suc-square q = ap (λ (z : ℕ). z * z) (one q)

@@ -1,17 +1,17 @@
 -- A square root is a NaN or not below zero, and one that is capped by `min` with PI lies from 0 to PI, whatever went in. Assumes nothing.
-use mathlib.Core.Path.{_≡_, refl, sym, ap, _∙_, subst}
-use mathlib.Core.Logic.{_⊎_, inl, inr}
-use Prim.Native.Nat.{ℕ, zero, suc, _+_, _*_, _/_, _^_, _≤_, _<_, zero-le}
+use mathlib.Core.Path.{refl, sym, ap, _∙_, subst}
+use mathlib.Core.Logic.{inl, inr}
+use Prim.Native.Nat.{ℕ, zero, suc, _+_, _*_, _/_, _^_, _≤_, zero-le}
 use native.Mathlib.Nat.{le-trans, le-of-eq, eq-or-lt-of-le, zero-mul}
 use mathlib.Core.Bool.{Bool, true, false, not, _&&_, _||_, cond}
-use lib.IntN.{ℤ, pos, negsuc}
+use lib.IntN.{ℤ, pos}
 use lib.Dec.{T, ltb, lt→ltb, eqb}
 use lib.Ieee.{Float, nan, inf, fin, Format, binary32, up, down, units, odd, lt, le, fits, isNan, below, level, low, prec, emax, ofBits}
 use lib.Ieee.Fits.{eq→eqb}
 use Rattle.floats.specs.Ops.{nought, pi}
 use Rattle.floats.specs.Library.{sqrt, rootUnits, min}
 use Rattle.floats.specs.UnitLaws.{le-val}
-use Rattle.floats.specs.NonNegLaws.{or-r}
+use Rattle.floats.specs.NonNegLaws.{or-l, or-r}
 use Rattle.floats.specs.RootLaws.{root-shape, sqrt-fits}
 use Rattle.floats.specs.RankLaws.{le-no-nan}
 use Rattle.floats.specs.MaxMinLaws.{min-above, min-right}
@@ -24,10 +24,6 @@ zero0 = fin false 0 (pos 0)
 of-le : (a b : ℕ) → a ≤ b → T (ltb a b || (eqb a b && true))
 of-le a b h = elim (eq-or-lt-of-le h) [ inl e ↦ or-r (ltb a b) (eqb a b && true) (and-one (eqb a b) (eq→eqb e)) | inr l ↦ or-l (ltb a b) (eqb a b && true) (lt→ltb a b l) ]
   where
-    or-l : (x y : Bool) → T x → T (x || y)
-    or-l true y t = tt
-    or-l false y t = absurd t
-
     and-one : (x : Bool) → T x → T (x && true)
     and-one true t = tt
     and-one false t = t

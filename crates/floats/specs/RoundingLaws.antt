@@ -1,18 +1,19 @@
 -- `R f n`: n units rounded to a number of units that the format holds. It keeps the order, and it changes nothing at a number that the format holds (`Rep f n`).
 -- What fits the format has such a number of units. Remainders, and what lies just below a held number, are worked out on whole numbers. Assumes nothing.
 use mathlib.Core.Path.{_≡_, refl, sym, ap, _∙_, subst}
-use mathlib.Core.Logic.{_⊎_, inl, inr}
-use Prim.Native.Nat.{ℕ, zero, suc, _+_, _-_, _*_, _/_, _%_, _^_, _≤_, _<_}
-use native.Mathlib.Nat.{le-refl, le-trans, le-of-eq, le-of-lt, lt-of-lt-of-le, lt-of-le-of-lt, lt-irrefl, not-le-of-lt, lt-of-not-le, zero-lt-suc, zero-add, add-zero, add-comm, add-mul, zero-mul, mul-zero, mul-one, one-mul, mul-comm, mul-assoc, mul-left-comm, mul-right-comm, mul-pos, mul-sub, mul-le-mul-right, mul-lt-mul-of-pos-right, lt-of-mul-lt-mul-right, le-of-mul-le-mul-right, eq-of-mul-eq-mul-right, div-add-mod', mod-lt, mod-le, zero-mod, eq-or-lt-of-le, le-antisymm, pow-succ', pow-suc, add-sub-of-le, sub-add-cancel}
+use Prim.Native.Nat.{ℕ, zero, suc, _+_, _-_, _*_, _%_, _^_, _≤_, _<_}
+use native.Mathlib.Nat.{le-refl, le-trans, le-of-eq, le-of-lt, lt-of-lt-of-le, lt-of-le-of-lt, lt-irrefl, not-le-of-lt, lt-of-not-le, zero-lt-suc, add-comm}
+use native.Mathlib.Nat.{zero-mul, mul-one, one-mul, mul-assoc, mul-right-comm, mul-pos, mul-le-mul-right, mul-lt-mul-of-pos-right, lt-of-mul-lt-mul-right}
+use native.Mathlib.Nat.{eq-of-mul-eq-mul-right, mod-lt, mod-le, sub-add-cancel}
 use native.Mathlib.Omega.{arith}
-use mathlib.Core.Bool.{Bool, true, false, not, _&&_, _||_, Bool·beq, cond, true≢false}
+use mathlib.Core.Bool.{Bool, true, false, not, _&&_, _||_, cond, true≢false}
 use lib.IntN.{ℤ, pos, negsuc}
-use lib.Dec.{T, leb, ltb, eqb, leb→le, le→leb, nleb→lt, ltb→lt, lt→ltb, nltb→le, eqb→eq, eqb-refl, lit≤, lit<}
+use lib.Dec.{T, leb, ltb, eqb, leb→le, nleb→lt, ltb→lt, eqb→eq}
 use lib.Pow.{pow-add, pow-pos, pow-mono, pow-lt, shl-lt}
-use lib.Ieee.{Float, nan, inf, fin, Format, binary32, binary64, prec, emax, low, up, down, size, units, round, le, below, level, fits}
-use lib.Ieee.Fits.{up-pos, down-pos, and-l, and-r, eq→eqb, round-fits, round-is}
-use lib.Ieee.Exact.{HasValue, round-exact, units-val}
-use lib.Ieee.Scale.{round-val, round-under, grid, overflow, finite}
+use lib.Ieee.{Float, nan, inf, fin, Format, binary32, binary64, prec, emax, low, up, down, units, round, le, below, level, fits}
+use lib.Ieee.Fits.{down-pos, and-l, and-r, round-fits, round-is}
+use lib.Ieee.Exact.{round-exact, units-val}
+use lib.Ieee.Scale.{round-under, grid, overflow, finite}
 use lib.Ieee.Order.{round-mono, drop, kept}
 use Rattle.floats.specs.UnitLaws.{Val, le-val, mod-scale}
 
@@ -29,11 +30,6 @@ pub val-unique : (f : Format) (x : Float) (s : Bool) (a : ℕ) (t : Bool) (b : �
 val-unique f nan s a t b v w = absurd v
 val-unique f (inf u) s a t b v w = absurd v
 val-unique f (fin u m e) s a t b v w = eq-of-mul-eq-mul-right (down e) (down-pos e) a b (sym (v .1) ∙ w .1)
-
-pub sign-unique : (f : Format) (x : Float) (s : Bool) (a : ℕ) (t : Bool) (b : ℕ) → Val f x s a → Val f x t b → s ≡ t
-sign-unique f nan s a t b v w = absurd v
-sign-unique f (inf u) s a t b v w = absurd v
-sign-unique f (fin u m e) s a t b v w = sym (v .0) ∙ w .0
 
 pub finite-of-val : (f : Format) (x : Float) (s : Bool) (a : ℕ) → Val f x s a → T (finite x)
 finite-of-val f nan s a v = absurd v
@@ -202,17 +198,6 @@ R-rep f n h = rep-of f (round f false n (2 ^ low f)) false (R f n) (round-fits f
 -- ---- the format holds: zero, one unit, and a remainder of two numbers that it holds
 pub rep-zero : (f : Format) → Rep f 0
 rep-zero f = (0, 0, pow-pos (prec f), refl, pow-pos (low f + suc (emax f)))
-
-pub rep-one : (f : Format) → Rep f 1
-rep-one f = (1, 0, pow-lt (prec-pos f), refl, pow-lt (top-pos f))
-  where
-    prec-pos : (f : Format) → 0 < prec f
-    prec-pos binary32 = lit< tt
-    prec-pos binary64 = lit< tt
-
-    top-pos : (f : Format) → 0 < low f + suc (emax f)
-    top-pos binary32 = lit< tt
-    top-pos binary64 = lit< tt
 
 pub R-zero : (f : Format) → R f 0 ≡ 0
 R-zero f = R-exact f 0 (rep-zero f)

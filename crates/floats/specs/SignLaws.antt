@@ -1,9 +1,9 @@
 -- `abs` clears the sign and `signum` is 1 with the sign; a program finds both by comparisons alone, with no look at the bits. Assumes nothing.
 use mathlib.Core.Path.{_≡_, refl, sym, ap, _∙_, subst}
-use Prim.Native.Nat.{ℕ, zero, suc, _+_, _*_, _≤_, _<_, zero-le}
+use Prim.Native.Nat.{ℕ, zero, suc, _*_, zero-le}
 use native.Mathlib.Nat.{le-trans, le-of-eq, not-le-of-lt, zero-mul}
-use mathlib.Core.Bool.{Bool, true, false, not, _&&_, cond, true≢false, false≢true}
-use lib.IntN.{ℤ, pos, negsuc}
+use mathlib.Core.Bool.{Bool, true, false, cond, true≢false, false≢true}
+use lib.IntN.{pos}
 use lib.Dec.{T, ltb→lt, eqb, eqb→eq}
 use lib.Ieee.{Float, nan, inf, fin, Format, binary32, up, down, neg, div, lt, eq, ne, fits, isNan, ofBits}
 use lib.Ieee.Fits.{and-l}
@@ -13,7 +13,7 @@ use lib.Ieee.Compare.{differs-from-itself}
 use Rattle.floats.specs.Ops.{_⊘_, nought, one}
 use Rattle.floats.specs.Library.{abs, signum, negative}
 use Rattle.floats.specs.UnitLaws.{Val}
-use Rattle.floats.specs.RoundingLaws.{Counted, counted}
+use Rattle.floats.specs.RoundingLaws.{counted}
 use Rattle.floats.specs.FiniteLaws.{of-true}
 use Rattle.floats.specs.PositiveLaws.{below-zero}
 use Rattle.floats.specs.MaxMinLaws.{zero-is}

@@ -8,6 +8,7 @@ ghost use lib.Ieee.{binary32, binary64, eq, toBits, ofBits, ofInt};
 ghost use lib.Ieee.Scale.{finite};
 ghost use Rattle.floats.specs.Library as L;
 
+// The constants are those of specs/Ops.antt, where each is its bit pattern.
 pub const PI: f32 = 3.14159274;
 
 pub const TAU: f32 = 6.2831855;
@@ -16,7 +17,9 @@ pub const HALF_PI: f32 = 1.57079637;
 
 pub const QUARTER_PI: f32 = 0.785398185;
 
-// The constants are those of specs/Ops.antt: each is compared there by its bit pattern.
+// The bins of a histogram of line angles, from 0 to PI.
+pub const HIST_BINS: usize = 72;
+
 pub fn abs(x: f32) -> f32
     ensures { λ r. ⌜ r ≡ L.abs x ⌝ }
 {
@@ -152,13 +155,13 @@ pub fn total_key(x: f32) -> u32
 // before it.
 pub fn bin_of(angle: f32) -> usize
     ensures { λ r. ⌜ r ≡ L.bin angle ⌝ }
-    ensures { λ r. ⌜ r < 72 ⌝ }
+    ensures { λ r. ⌜ r < L.histBins ⌝ }
 {
-    let v = angle / PI * 72.0;
+    let v = angle / PI * count_f32(HIST_BINS);
     if v > -1.0 {
         if v < 18446744073709551616.0 {
             let n = std::num::truncating_f32_to_u64(v);
-            return (n % 72) as usize;
+            return n as usize % HIST_BINS;
         }
         return 15;
     }

@@ -1,17 +1,17 @@
--- What a frame line is answered (document 01, "Frame lines"), in the order of the refusals. Definitions only.
+-- What a frame line is answered (docs/RULES.md, Frame lines), in the order of the refusals. Definitions only.
 use mathlib.Core.Bool.{Bool, cond}
-use mathlib.Core.List.{List, [], _∷_, _++_}
-use Prim.Native.Nat.{ℕ, _+_, _*_, _%_}
+use mathlib.Core.List.{List, [], _∷_, _++_, map}
+use Prim.Native.Nat.{ℕ, _+_, _*_, _%_, _^_}
 use lib.ListN.{length}
 use lib.Dec.{ltb}
-use lib.Ieee.{binary32, toBits}
+use lib.Ieee.{Float, binary32, toBits}
 use Rattle.hex.specs.Hex.{valueOf, valuesOf, byteText, countText, wordsText, put}
 use Rattle.shapes.specs.Shapes.{shapeOf}
 use Rattle.shapes.specs.declared.Shape.{Shape}
 use Rattle.shapes.specs.declared.Shape.the-variants as Shapes
 use Rattle.robust.specs.declared.RingFit.{RingFit}
-use Rattle.search_refine.specs.Refine.{Disk}
-use Rattle.checked.specs.Checked.{checkedRing, checkedDisk, flag}
+use Rattle.data.specs.Data.{DiskData}
+use Rattle.checked.specs.Checked.{checkedRing, checkedDisk, flag, fitValues, fitCounts, measuredValues}
 use Rattle.checked.specs.declared.RingAnswer.{RingAnswer}
 use Rattle.checked.specs.declared.RingAnswer.the-variants as Rings
 use Rattle.checked.specs.declared.DiskAnswer.{DiskAnswer}
@@ -39,16 +39,16 @@ diskAnswered (Disks.Fitted m known) = Sector m known
 diskAnswered (Disks.Refused number place) = Refused 0x82 number place
 
 -- a disk's has the count of four digits, three values and five runs of n values behind the type
-unfoldable pub diskOfLine : List ℕ → ℕ → Disk
+unfoldable pub diskOfLine : List ℕ → ℕ → DiskData
 diskOfLine l n =
     record {
       n = n;
-      energy = valueOf l 6;
       xs = valuesOf l 30 n;
       ys = valuesOf l (30 + 8 * n) n;
-      vals = valuesOf l (30 + 16 * n) n;
-      angles = valuesOf l (30 + 24 * n) n;
-      weights = valuesOf l (30 + 32 * n) n;
+      «vals_centered» = valuesOf l (30 + 16 * n) n;
+      «grad_angles» = valuesOf l (30 + 24 * n) n;
+      «grad_weights» = valuesOf l (30 + 32 * n) n;
+      «val_energy» = valueOf l 6;
     }
 
 abbrev pub diskAnswer : List ℕ → ℕ → Answer
@@ -66,25 +66,24 @@ unfoldable pub answerOf : List ℕ → Answer
 answerOf l = shapedAnswer l (shapeOf l)
 
 -- ---- the text of an answer
--- starts, updates of the first and of the second start and known, a byte each
-abbrev pub countsWord : RingFit → Bool → ℕ
-countsWord r known = r .starts % 256 * 16777216 + r .first % 256 * 65536 + r .second % 256 * 256 + flag known
+-- counts, a byte each
+abbrev pub countsWord : List ℕ → ℕ
+countsWord [] = 0
+countsWord (n ∷ ns) = n % 256 * 256 ^ length ns + countsWord ns
 
+abbrev pub valueWords : List Float → List ℕ
+valueWords = map (toBits binary32)
+
+-- the six values, and a word of the four counts
 abbrev pub ringWords : RingFit → Bool → List ℕ
-ringWords r known =
-    toBits binary32 (r .fit .amp) ∷ toBits binary32 (r .fit .theta1) ∷ toBits binary32 (r .fit .theta2) ∷ toBits binary32 (r .fit .«fit_std_error_theta1») ∷
-    toBits binary32 (r .fit .«fit_std_error_theta2») ∷ toBits binary32 (r .fit .rms) ∷ countsWord r known ∷ []
+ringWords r known = valueWords (fitValues (r .fit)) ++ (countsWord (fitCounts r known) ∷ [])
 
 -- 8100, then seven words: 60 characters
 unfoldable pub ringText : RingFit → Bool → List ℕ
 ringText r known = countText 0x8100 ++ wordsText (ringWords r known) 7
 
--- theta1, theta2, width, amp, rms, rel_rms, corr, edge_score, objective, both errors
 abbrev pub diskWords : Measured → List ℕ
-diskWords m =
-    toBits binary32 (m .fit .theta1) ∷ toBits binary32 (m .fit .theta2) ∷ toBits binary32 (m .fit .width) ∷ toBits binary32 (m .fit .amp) ∷
-    toBits binary32 (m .fit .rms) ∷ toBits binary32 (m .fit .«rel_rms») ∷ toBits binary32 (m .fit .corr) ∷ toBits binary32 (m .fit .«edge_score») ∷
-    toBits binary32 (m .fit .objective) ∷ toBits binary32 (m .«fit_std_error_theta1») ∷ toBits binary32 (m .«fit_std_error_theta2») ∷ []
+diskWords m = valueWords (measuredValues m)
 
 -- 8200, then eleven words, the trials in four digits and known: 98 characters
 unfoldable pub diskText : Measured → Bool → List ℕ

@@ -1,4 +1,4 @@
--- The rows that document 01 marks to be proved: the definitions are run at the given bits, by the checker's own computation. Assumes nothing.
+-- The rows of docs/RULES.md, Rows to prove: the definitions are run at the given bits, by the checker's own computation. Assumes nothing.
 use mathlib.Core.Path.{_≡_, refl}
 use mathlib.Core.Bool.{Bool, false, cond}
 use mathlib.Core.List.{List, [], _∷_, _++_, map}
@@ -6,7 +6,7 @@ use Prim.Native.Nat.{ℕ}
 use lib.ListN.{replicate}
 use lib.Ieee.{Float, nan, inf, binary32, add, sub, mul, div, rem, neg, lt, le, eq, isNan, ofBits, toBits, ofInt, toUnsigned, round, size}
 use Rattle.floats.specs.Ops.{lit, nought, one, pi, halfPi, quarterPi}
-use Rattle.floats.specs.Library.{negative, before, abs, max, min, remEuclid, sqrt, rootUnits, wholeRoot, floor, bin}
+use Rattle.floats.specs.Library.{negative, before, abs, max, min, toRadians, remEuclid, sqrt, rootUnits, wholeRoot, floor, bin}
 use Rattle.loops.specs.Loops.{iter, range, tab}
 use Rattle.elementary.specs.Elementary.{whole, sinRest, cosRest, quadrant, sinCosNear, turn, sinCos}
 use Rattle.geometry.specs.Geometry.{signedLineDelta, lineDelta, lineSeparation, validPair}
@@ -20,7 +20,7 @@ use Rattle.solver_elimination.specs.declared.Errors.{Errors}
 use Rattle.solver.specs.Solver.{degenerateFit, degenerate, fitWithSeed}
 use Rattle.seed.specs.Seed.{wavedBy, waves, harmonic, secondHarmonic}
 use Rattle.robust.specs.Robust.{total, deviations, fitIsSuspicious, fitRing, gridAngle}
-use Rattle.checked.specs.Checked.{wildFrom, firstWild, errorsKnown, ringFitted, anglesLooked, samplesLooked, checkedRing}
+use Rattle.checked.specs.Checked.{wildFrom, firstWild, errorsKnown, ringFitted, ringLooked, checkedRing}
 use Rattle.candidates.specs.Candidates.{combineEdgePair}
 use Rattle.hex.specs.Hex.{isHex, allHex, byteOf, wordOf, valuesOf, byteText, countText, wordText, wordsText, codes, bytes}
 use Rattle.shapes.specs.Shapes.{shapeOf, typedShape, ringShape, diskShape, countedShape}
@@ -97,18 +97,18 @@ pub rows-to-prove : (
 unfolding combineEdgePair canonicalizeTrackingSwap settled placed wrapToTau arc remEuclid validPair lineSeparation lineDelta signedLineDelta abs
     negative before max min sqrt rootUnits wholeRoot degenerateFit iter range solve4x4 augmented larger pivotRow unusable reduced cleared clear topRow
     columned stopped axisError bothErrors axisStdErrors floor bin tab whole sinRest cosRest quadrant sinCosNear turn sinCos degenerate fitWithSeed
-    wavedBy waves harmonic secondHarmonic total deviations fitIsSuspicious fitRing wildFrom firstWild errorsKnown ringFitted anglesLooked
-    samplesLooked checkedRing isHex allHex byteOf wordOf valuesOf byteText countText wordText wordsText answerOf shapeOf typedShape ringShape ringText
-    toUnsigned ofBits toBits ofInt add sub mul div rem neg lt le eq isNan round size bytes codes
+    wavedBy waves harmonic secondHarmonic total deviations fitIsSuspicious fitRing wildFrom firstWild errorsKnown ringFitted checkedRing isHex allHex
+    byteOf wordOf valuesOf byteText countText wordText wordsText answerOf shapeOf typedShape ringShape ringText toUnsigned ofBits toBits ofInt add sub
+    mul div rem neg lt le eq isNan round size toRadians ringLooked bytes codes
 rows-to-prove = refl
 
 -- the two pairs of the grid that stand at 12 degrees: both are allowed
 pub grid-edges : (flag (validPair (gridAngle 0) (gridAngle 21)) ∷ flag (validPair (gridAngle 1) (gridAngle 22)) ∷ []) ≡ (1 ∷ 1 ∷ [])
-unfolding remEuclid validPair lineSeparation lineDelta signedLineDelta abs negative before max min add sub mul div rem neg lt le eq isNan ofBits ofInt
-    round size
+unfolding toRadians remEuclid validPair lineSeparation lineDelta signedLineDelta abs negative before max min add sub mul div rem neg lt le eq isNan
+    ofBits ofInt round size
 grid-edges = refl
 
--- document 01's line with 321 pixels: 020141 and 24 zeros, answered 82020000
+-- the line with 321 pixels of docs/RULES.md, Frame lines: 020141 and 24 zeros, answered 82020000
 pub pixels-321 : textOf (answerOf (bytes "020141" ++ replicate 24 48)) ≡ bytes "82020000"
 unfolding answerOf shapeOf typedShape diskShape countedShape refusalText isHex allHex byteOf byteText countText iter bytes codes
 pixels-321 = refl

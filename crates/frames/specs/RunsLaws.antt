@@ -9,7 +9,7 @@ use lib.Ieee.{Float}
 use Rattle.loops.specs.Loops.{tab}
 use Rattle.loops.specs.TabLaws.{tab-length, tab-same}
 use Rattle.hex.specs.Hex.{valueOf, valuesOf}
-use Rattle.search_refine.specs.Refine.{Disk, diskOf}
+use Rattle.data.specs.Data.{DiskData, diskOf}
 use Rattle.frames.specs.Frames.{diskOfLine}
 
 module _ {A : Type 0} where
@@ -50,7 +50,7 @@ values-length l at n = tab-length _ n
 abbrev pub run : List Float → ℕ → ℕ → List Float
 run vs k n = take n (drop k vs)
 
-abbrev pub diskOfRuns : Float → List Float → ℕ → Disk
+abbrev pub diskOfRuns : Float → List Float → ℕ → DiskData
 diskOfRuns energy vs n = diskOf energy (run vs 0 n) (run vs n n) (run vs (2 * n) n) (run vs (3 * n) n) (run vs (4 * n) n)
 
 pub runs-of-line : (l : List ℕ) (n : ℕ) → diskOfRuns (valueOf l 6) (valuesOf l 30 (5 * n)) n ≡ diskOfLine l n

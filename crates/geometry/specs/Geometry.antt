@@ -1,8 +1,11 @@
 -- Angles of undirected lines, modulo PI: disk_sector/geometry.rs, and its twin in ring_fit/seed.rs. Definitions only.
-use mathlib.Core.Bool.{Bool, _&&_}
-use lib.Ieee.{Float, binary32, le}
+use mathlib.Core.Path.{_≡_}
+use mathlib.Core.Bool.{Bool, not, _&&_}
+use lib.Dec.{T}
+use lib.Ieee.{Float, nan, binary32, le}
+use lib.Ieee.Scale.{finite}
 use Rattle.floats.specs.Ops.{_⊕_, _⊖_, lit, pi, halfPi}
-use Rattle.floats.specs.Library.{abs, max, min, remEuclid}
+use Rattle.floats.specs.Library.{abs, max, min, remEuclid, toRadians}
 
 -- geometry.rs: wrap_pi
 unfoldable pub wrapPi : Float → Float
@@ -30,14 +33,21 @@ pairDisagreement a0 a1 b0 b1 =
     let swapped = max (lineDelta a0 b1) (lineDelta a1 b0) in
     min direct swapped
 
--- 12 and 89.5 degrees in radians, as `to_radians` makes them
+-- 12 and 89.5 degrees
 abbrev pub minSeparation : Float
-minSeparation = lit 0x3e56_7750
+minSeparation = toRadians (lit 0x4140_0000)
 
 abbrev pub maxSeparation : Float
-maxSeparation = lit 0x3fc7_f1e6
+maxSeparation = toRadians (lit 0x42b3_0000)
 
 -- geometry.rs: valid_pair; seed.rs: valid_seed_pair
 unfoldable pub validPair : Float → Float → Bool
 unfolding lineSeparation
 validPair a0 a1 = let sep = lineSeparation a0 a1 in le minSeparation sep && le sep maxSeparation
+
+-- What the contracts say of ranges, beside their equations: r, made of x, lies from low to high, both included, where x is a number that is finite,
+-- and is NaN where x is NaN or an infinity.
+pub record Between (from to x r : Float) : Type 0 where
+  pub low : T (finite x) → T (le from r)
+  pub high : T (finite x) → T (le r to)
+  pub wild : T (not (finite x)) → r ≡ nan

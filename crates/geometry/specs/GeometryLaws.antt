@@ -1,38 +1,26 @@
--- The ranges of angles modulo PI, for every f32: from 0 to PI, PI itself included; a difference at most PI/2 in size; NaN where the value before the reduction is not finite. Assumes nothing.
+-- The ranges of angles modulo PI, for every f32: from 0 to PI, PI itself included; a difference at most PI/2 in size; NaN where the value before the
+-- reduction is not finite. Assumes nothing.
 use mathlib.Core.Path.{_≡_, refl, sym, ap, _∙_, subst}
-use Prim.Native.Nat.{ℕ, zero, suc, _-_, _*_, _^_, _≤_, _<_, zero-le}
-use native.Mathlib.Nat.{le-trans, sub-le}
+use mathlib.Core.Logic.{inl, inr}
+use Prim.Native.Nat.{ℕ, _+_, _-_, _*_, _^_, _≤_, _<_, zero-le}
+use native.Mathlib.Nat.{le-trans, sub-le, eq-or-lt-of-le}
 use native.Mathlib.Omega.{arith}
-use mathlib.Core.Bool.{Bool, true, false, not}
-use lib.IntN.{ℤ, pos, negsuc}
-use lib.Dec.{T, leb, leb→le, nleb→lt, lit≤, lit<}
-use lib.Ieee.{Float, nan, fin, binary32, add, sub, mul, rem, le, lt, fits, ofBits}
-use lib.Ieee.Fits.{add-fits, sub-fits}
-use lib.Ieee.Scale.{overflow, finite}
-use Rattle.floats.specs.Ops.{_⊕_, _⊖_, _⊗_, lit, nought, pi, halfPi}
-use Rattle.floats.specs.Library.{abs, max, min, remEuclid, toRadians}
-use Rattle.floats.specs.UnitLaws.{Val}
-use Rattle.floats.specs.RoundingLaws.{R, Rep, Counted, counted, R-upper, rep-of}
-use Rattle.floats.specs.NonNegLaws.{NonNeg, clear, le-of, sub-nn, sub-neg}
-use Rattle.floats.specs.RemLaws.{P, pi-val, pi-rep, pi-nn, nought-nn, rem-pi, remEuclid-range, remEuclid-wild}
+use mathlib.Core.Bool.{Bool, true, false, not, _&&_, _||_}
+use lib.IntN.{negsuc}
+use lib.Dec.{T, leb, ltb, eqb, leb→le, nleb→lt, lt→ltb, lit≤, lit<}
+use lib.Ieee.{Float, nan, fin, binary32, add, sub, neg, le, below, level, fits, ofBits}
+use lib.Ieee.Fits.{add-fits, sub-fits, eq→eqb}
+use lib.Ieee.Scale.{finite}
+use Rattle.floats.specs.Ops.{_⊕_, _⊖_, nought, pi, halfPi}
+use Rattle.floats.specs.Library.{abs, remEuclid}
+use Rattle.floats.specs.UnitLaws.{Val, le-val, neg-val}
+use Rattle.floats.specs.RoundingLaws.{R, Rep, counted, R-upper, rep-of}
+use Rattle.floats.specs.NonNegLaws.{NonNeg, clear, or-l, or-r, le-of, sub-nn, sub-neg}
+use Rattle.floats.specs.RemLaws.{P, pi-val, pi-rep, nought-nn, rem-pi, remEuclid-range, remEuclid-wild}
 use Rattle.floats.specs.SignLaws.{abs-val, abs-fits}
-use Rattle.geometry.specs.Geometry.{wrapPi, signedLineDelta, lineDelta, lineSeparation, validPair, minSeparation, maxSeparation}
+use Rattle.geometry.specs.Geometry.{wrapPi, signedLineDelta, lineDelta, Between}
 
--- ---- the constants
--- PI * 0.5 is exact
-half-is : pi ⊗ lit 0x3f00_0000 ≡ halfPi
-unfolding mul ofBits
-half-is = refl
-
-min-is : toRadians (lit 0x4140_0000) ≡ minSeparation
-unfolding toRadians mul ofBits
-min-is = refl
-
-max-is : toRadians (lit 0x42b3_0000) ≡ maxSeparation
-unfolding toRadians mul ofBits
-max-is = refl
-
--- ---- the ranges
+-- PI/2 in units of 2 ^ -149
 abbrev H : ℕ
 H = 13176795 * 2 ^ 126
 
@@ -45,21 +33,17 @@ half-val = subst (λ (z : Float). Val binary32 z false H) (sym is) (refl, refl)
 half-rep : Rep binary32 H
 half-rep = (13176795, 126, lit< tt, refl, lit< tt)
 
-pub half-nn : NonNeg binary32 halfPi H
+half-nn : NonNeg binary32 halfPi H
 half-nn = clear binary32 halfPi H half-val half-rep
 
 -- the result can be PI itself
-wrapPi-range : (x : Float) → T (fits binary32 x) → T (finite x) → (c : ℕ) × NonNeg binary32 (wrapPi x) c × (c ≤ P)
+pub wrapPi-between : (x : Float) → T (fits binary32 x) → Between nought pi x (wrapPi x)
 unfolding wrapPi
-wrapPi-range x p t = let q = counted binary32 x p t in remEuclid-range binary32 x pi (q .count) P (lit< tt) pi-val pi-rep (q .sign) (q .val) (q .rep)
-
-pub wrapPi-between : (x : Float) → T (fits binary32 x) → T (finite x) → T (le nought (wrapPi x)) × T (le (wrapPi x) pi)
-unfolding wrapPi
-wrapPi-between x p t = rem-pi x p t
-
-pub wrapPi-wild : (x : Float) → T (not (finite x)) → wrapPi x ≡ nan
-unfolding wrapPi
-wrapPi-wild x t = remEuclid-wild binary32 x pi t
+wrapPi-between x p = record {
+  low = λ t. rem-pi x p t .0;
+  high = λ t. rem-pi x p t .1;
+  wild = λ t. remEuclid-wild binary32 x pi t;
+}
 
 -- less PI/2: at most PI/2 in size, on either side
 less-half : (y : Float) (c : ℕ) → NonNeg binary32 y c → c ≤ P → (s : Bool) × (n : ℕ) × Val binary32 (y ⊖ halfPi) s n × (n ≤ H)
@@ -80,29 +64,65 @@ less-half y c h l = go (leb H c) (leb→le H c) (nleb→lt H c)
         let r = R-upper binary32 (H - c) H half-rep (sub-le H c) in
         (true, R binary32 (H - c), sub-neg binary32 y halfPi c H h half-nn (v tt) (r .0), r .1)
 
-pub delta-size : (a b : Float) → T (finite (a ⊖ b ⊕ halfPi)) → (s : Bool) × (n : ℕ) × Val binary32 (signedLineDelta a b) s n × (n ≤ H)
-unfolding signedLineDelta wrapPi
+-- a size of at most h units, on either side of zero, lies from -h to h
+inside : (h n : ℕ) (s : Bool) → 0 < h → n ≤ h → T (below true h s n || level true h s n) × T (below s n false h || level s n false h)
+inside h n s p l = go s
+  where
+    both : (e : Bool) → T e → T (e && true)
+    both true t = tt
+    both false t = t
+
+    up-to : (e : Bool) → (n ≡ h → T e) → T (ltb n h || (e && true))
+    up-to e f = elim (eq-or-lt-of-le l) [
+      | inl q ↦ or-r (ltb n h) (e && true) (both e (f q))
+      | inr k ↦ or-l (ltb n h) (e && true) (lt→ltb n h k)
+    ]
+
+    go : (s : Bool) → T (below true h s n || level true h s n) × T (below s n false h || level s n false h)
+    go false = (or-l (ltb 0 (h + n)) _ (lt→ltb 0 (h + n) (omega arith)), up-to (eqb n h) eq→eqb)
+    go true = (up-to (eqb h n) (λ q. eq→eqb (sym q)), or-l (ltb 0 (n + h)) _ (lt→ltb 0 (n + h) (omega arith)))
+
+-- what is finite, less PI/2 and reduced, is a number of units
+delta-size : (a b : Float) → T (finite (a ⊖ b ⊕ halfPi)) → (s : Bool) × (n : ℕ) × Val binary32 (signedLineDelta a b) s n × (n ≤ H)
+unfolding signedLineDelta
 delta-size a b t =
     let x = a ⊖ b ⊕ halfPi in
-    let r = wrapPi-range x (add-fits binary32 (sub binary32 a b) halfPi) t in
-    less-half (wrapPi x) (r .0) (r .1) (r .2)
+    let q = counted binary32 x (add-fits binary32 (a ⊖ b) halfPi) t in
+    let r = remEuclid-range binary32 x pi (q .count) P (lit< tt) pi-val pi-rep (q .sign) (q .val) (q .rep) in
+    less-half (remEuclid binary32 x pi) (r .0) (r .1) (r .2)
 
-pub lineDelta-range : (a b : Float) → T (finite (a ⊖ b ⊕ halfPi)) → T (le nought (lineDelta a b)) × T (le (lineDelta a b) halfPi)
-unfolding lineDelta
-lineDelta-range a b t =
-    let r = delta-size a b t in
-    let n = r .1 in
-    let v = abs-val binary32 (signedLineDelta a b) (r .0) n (r .2) in
-    let h : NonNeg binary32 (abs (signedLineDelta a b)) n =
-    clear binary32 (abs (signedLineDelta a b)) n v (rep-of binary32 (abs (signedLineDelta a b)) false n (abs-fits binary32 (signedLineDelta a b) (unfold signedLineDelta in sub-fits binary32 (remEuclid binary32 (a ⊖ b ⊕ halfPi) pi) halfPi)) v) in
-    (le-of binary32 nought (abs (signedLineDelta a b)) 0 n (nought-nn) h zero-le, le-of binary32 (abs (signedLineDelta a b)) halfPi n H h half-nn (r .3))
-
--- where the difference is not finite the answer is the NaN
-pub delta-wild : (a b : Float) → T (not (finite (a ⊖ b ⊕ halfPi))) → signedLineDelta a b ≡ nan
+delta-wild : (a b : Float) → T (not (finite (a ⊖ b ⊕ halfPi))) → signedLineDelta a b ≡ nan
 unfolding signedLineDelta
 delta-wild a b t = ap (λ (z : Float). z ⊖ halfPi) (remEuclid-wild binary32 (a ⊖ b ⊕ halfPi) pi t) ∙ unfold sub add in refl
 
--- document 01, row 10: (0, 0) and (0, PI/2) are not allowed pairs, (0, PI/4) is
-row10 : (validPair nought nought ≡ false) × (validPair nought halfPi ≡ false) × (validPair nought (lit 0x3f49_0fdb) ≡ true)
-unfolding validPair lineSeparation lineDelta signedLineDelta remEuclid abs add sub rem le lt lib.Ieee.eq lib.Ieee.neg ofBits
-row10 = (refl, refl, refl)
+pub signedLineDelta-range : (a b : Float) → Between (neg halfPi) halfPi (a ⊖ b ⊕ halfPi) (signedLineDelta a b)
+signedLineDelta-range a b = record { low = λ t. both t .0; high = λ t. both t .1; wild = delta-wild a b }
+  where
+    x : Float
+    x = signedLineDelta a b
+
+    both : T (finite (a ⊖ b ⊕ halfPi)) → T (le (neg halfPi) x) × T (le x halfPi)
+    both t =
+        let r = delta-size a b t in
+        let i = inside H (r .1) (r .0) (lit< tt) (r .3) in
+        let low = le-val binary32 (neg halfPi) x true H (r .0) (r .1) (neg-val binary32 halfPi false H half-val) (r .2) in
+        let high = le-val binary32 x halfPi (r .0) (r .1) false H (r .2) half-val in
+        (subst T (sym low) (i .0), subst T (sym high) (i .1))
+
+pub lineDelta-range : (a b : Float) → Between nought halfPi (a ⊖ b ⊕ halfPi) (lineDelta a b)
+unfolding lineDelta
+lineDelta-range a b = record { low = λ t. both t .0; high = λ t. both t .1; wild = λ t. ap abs (delta-wild a b t) ∙ unfold abs in refl }
+  where
+    x : Float
+    x = signedLineDelta a b
+
+    held : T (fits binary32 x)
+    held = unfold signedLineDelta in sub-fits binary32 (remEuclid binary32 (a ⊖ b ⊕ halfPi) pi) halfPi
+
+    both : T (finite (a ⊖ b ⊕ halfPi)) → T (le nought (abs x)) × T (le (abs x) halfPi)
+    both t =
+        let r = delta-size a b t in
+        let n = r .1 in
+        let v = abs-val binary32 x (r .0) n (r .2) in
+        let h : NonNeg binary32 (abs x) n = clear binary32 (abs x) n v (rep-of binary32 (abs x) false n (abs-fits binary32 x held) v) in
+        (le-of binary32 nought (abs x) 0 n nought-nn h zero-le, le-of binary32 (abs x) halfPi n H h half-nn (r .3))

@@ -1,17 +1,12 @@
 -- Writing: two texts written side by side are one text written once, so a writer that calls others is proved by its seams. Assumes nothing.
 use mathlib.Core.Path.{_≡_, refl, sym, ap, _∙_}
-use mathlib.Core.List.{List, [], _∷_, _++_, map, append-assoc}
+use mathlib.Core.List.{List, [], _∷_, _++_, append-assoc}
 use Prim.Native.Nat.{ℕ, zero, suc, _+_, _*_, _≤_, _<_}
 use native.Mathlib.Numerals.{add-one}
 use native.Mathlib.Omega.{arith}
 use lib.ListN.{length, getD, take, drop, set, length-append, length-take, length-drop, take-append-drop}
 use lib.Seq.{set-split, drop-at, take-at, drop-drop}
-use Rattle.hex.specs.Hex.{digitOf, byteText, countText, wordText, wordsText, put, Written}
-
--- the sixteen characters have their values
-pub digits-are : map digitOf (48 ∷ 49 ∷ 50 ∷ 51 ∷ 52 ∷ 53 ∷ 54 ∷ 55 ∷ 56 ∷ 57 ∷ 97 ∷ 98 ∷ 99 ∷ 100 ∷ 101 ∷ 102 ∷ [])
-    ≡ (0 ∷ 1 ∷ 2 ∷ 3 ∷ 4 ∷ 5 ∷ 6 ∷ 7 ∷ 8 ∷ 9 ∷ 10 ∷ 11 ∷ 12 ∷ 13 ∷ 14 ∷ 15 ∷ [])
-digits-are = refl
+use Rattle.hex.specs.Hex.{byteText, countText, wordText, wordsText, put, Written}
 
 module _ (l : List ℕ) (at : ℕ) where
   pub put-length : (xs : List ℕ) → at + length xs ≤ length l → length (put l at xs) ≡ length l

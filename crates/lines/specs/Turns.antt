@@ -8,7 +8,7 @@ use lib.Dec.{leb}
 use Rattle.hex.specs.Hex.{put}
 use Rattle.lines.specs.declared.Feed.{Feed}
 use Rattle.lines.specs.declared.Found.{Found}
-use Rattle.lines.specs.declared.Found.the-variants.{Line, Last, More, Done}
+use Rattle.lines.specs.declared.Found.the-variants.{Line, More, Done}
 use Rattle.lines.specs.declared.State.{State}
 use Rattle.lines.specs.Lines.{Filled, begun, passed}
 
@@ -55,8 +55,7 @@ lineTo b f e = take (e - f .from) (drop (f .from) b)
 
 -- a turn that finds `found`, of a program that answers the line up to e by `text e`, each answer in at most `need` bytes
 abbrev pub Turned : ℕ → ℕ → (ℕ → List ℕ) → Found → State → List ℕ → List ℕ → List ℕ → List ℕ → State → Type 0
-Turned need limit text (Line e) s b c l m r = Answered need s (e + 1) (text e) l m r × (c ≡ b)
-Turned need limit text (Last e) s b c l m r = Answered need s e (text e) l m r × (c ≡ b)
+Turned need limit text (Line e next) s b c l m r = Answered need s next (text e) l m r × (c ≡ b)
 Turned need limit text More s b c l m r = Read s limit b c r × (m ≡ l)
 Turned need limit text Done s b c l m r = (r ≡ finished s) × (m ≡ l) × (c ≡ b)
 

@@ -24,10 +24,9 @@ pub struct Feed {
     pub ended: bool,
 }
 
-// A line that ends at a line feed, the last line, which has none, more input wanted, or the end.
+// A line, with its end and where the next one starts; more input is wanted; or the end.
 pub enum Found {
-    Line(usize),
-    Last(usize),
+    Line(usize, usize),
     More,
     Done,
 }
@@ -65,18 +64,15 @@ pub fn find(buf: &[u8], f: Feed) -> Found
     let total = f.total;
     let e = line_end(buf, from, total);
     if e < total {
-        return Found::Line(e);
+        return Found::Line(e, e + 1);
     }
-    if f.ended {
-        if from < total {
-            return Found::Last(total);
-        }
-        if f.skip {
-            return Found::Last(total);
-        }
-        return Found::Done;
+    if !f.ended {
+        return Found::More;
     }
-    Found::More
+    if (from < total) | f.skip {
+        return Found::Line(total, total);
+    }
+    Found::Done
 }
 
 // The line before `from` has been answered.

@@ -1,13 +1,12 @@
 -- A loop of stores makes the list of its elements, and a part of a list that was lent comes back in its place. Assumes nothing.
 use mathlib.Core.Path.{_≡_, refl, sym, ap, _∙_, subst}
-use mathlib.Core.Logic.{_⊎_, inl, inr}
+use mathlib.Core.Logic.{inl, inr}
 use mathlib.Core.List.{List, [], _∷_, _++_, append-assoc}
-use Prim.Native.Nat.{ℕ, zero, suc, _+_, _-_, _≤_, _<_}
-use native.Mathlib.Numerals.{add-one}
+use Prim.Native.Nat.{ℕ, zero, suc, _+_, _≤_, _<_}
 use native.Mathlib.Omega.{arith}
 use native.Mathlib.Nat.{eq-or-lt-of-le, le-of-suc-le-suc}
 use lib.ListN.{List·getD-append, length, getD, take, drop, set, length-set, length-append, length-take, length-drop, take-append-drop}
-use lib.Seq.{drop-cons, set-at, take-at, drop-at, drop-length, take-append-le, drop-append-le, drop-drop, take-take, getD-at, length-take-le}
+use lib.Seq.{drop-cons, set-at, take-at, drop-at, drop-length, take-append-le, drop-append-le, getD-at, length-take-le}
 use Rattle.loops.specs.Loops.{iter, tab}
 use Rattle.loops.specs.IterLaws.{iter-zero, iter-next}
 

@@ -1,11 +1,10 @@
 -- The score of a pair of axes, the order of fits and the errors of a fit: disk_sector/score.rs. Definitions only.
--- `n` is the number of pixels; `xs` and `ys` are their places, `vals` their centred values (vals_centered).
-use mathlib.Core.Bool.{Bool, true, false, cond, not}
-use mathlib.Core.List.{List, [], _∷_}
+use mathlib.Core.Bool.{Bool, true, false, cond}
+use mathlib.Core.List.{[], _∷_}
 use Prim.Native.Nat.{ℕ}
 use lib.IntN.{pos}
-use lib.ListN.{getD, set}
-use lib.Ieee.{Float, nan, binary32, binary64, neg, lt, le, ofInt}
+use lib.ListN.{set}
+use lib.Ieee.{Float, binary32, binary64, neg, lt, le, ofInt}
 use Rattle.floats.specs.Ops.{_⊕_, _⊖_, _⊗_, _⊘_, _⊞_, _⊟_, _⊠_, _⧄_, lit, nought, one}
 use Rattle.floats.specs.Library.{abs, max, sqrt, narrow}
 use Rattle.elementary.specs.Elementary.{sinCos, tanh}
@@ -14,9 +13,11 @@ use Rattle.geometry.specs.Geometry.{validPair}
 use Rattle.solver_axes.specs.Canonical.{canonicalizeTrackingSwap}
 use Rattle.solver_elimination.specs.Solve.{Matrix, axisStdErrors}
 use Rattle.solver_elimination.specs.declared.Errors.{Errors}
+use Rattle.floats.specs.Rows.{Row, at, count}
+use Rattle.data.specs.Data.{DiskData}
 use Rattle.candidates.specs.declared.CandidateSet.{CandidateSet}
 use Rattle.score_edges.specs.Edges.{edgeWeightTotal, rankedSum}
-use Rattle.loops.specs.Loops.{iter}
+use Rattle.loops.specs.Loops.{iter, tab}
 use Rattle.score.specs.declared.Fit.{Fit}
 use Rattle.score.specs.declared.Scored.{Scored}
 use Rattle.score.specs.declared.Scored.the-variants.{Found, Nothing}
@@ -24,39 +25,41 @@ use Rattle.score.specs.declared.Sums.{Sums}
 use Rattle.score.specs.declared.Slopes.{Slopes}
 use Rattle.score.specs.declared.Moments.{Moments}
 
-abbrev pub Row : Type 0
-Row = List Float
-
-abbrev pub at : Row → ℕ → Float
-at r i = getD r i nan
-
-abbrev pub count : ℕ → Float
-count n = ofInt binary32 (pos n)
+-- WIDTHS_PX: 0.35, 0.70, 1.40, 2.80
+abbrev pub widthsPx : Row
+widthsPx = lit 0x3eb3_3333 ∷ lit 0x3f33_3333 ∷ lit 0x3fb3_3333 ∷ lit 0x4033_3333 ∷ []
 
 -- 1e-9
 abbrev pub margin : Float
 margin = lit 0x3089_705f
+
+-- ---- the row of an axis, which score_pair has in its loop, and best_disk_fit and build_axis_rows of search.rs keep:
+-- d = -s * x + c * y, and then (d / width).tanh()
+abbrev pub rowAt : SinCos → Float → Row → Row → ℕ → Float
+rowAt t width xs ys p = tanh ((neg (t .s) ⊗ at xs p ⊕ t .c ⊗ at ys p) ⊘ width)
+
+unfoldable pub axisRow : ℕ → Row → Row → Float → Float → Row
+axisRow n xs ys theta width = tab (rowAt (sinCos theta) width xs ys) n
 
 -- ---- score_pair_cached
 abbrev pub zeros : Sums
 zeros = record { q = nought; q2 = nought; dot = nought }
 
 unfoldable pub summed : Row → Row → Row → ℕ → Sums → Sums
-summed vals h0 h1 p s =
+summed valsCentered h0 h1 p s =
     let q = at h0 p ⊗ at h1 p in
-    record { q = s .q ⊕ q; q2 = s .q2 ⊕ q ⊗ q; dot = s .dot ⊕ q ⊗ at vals p }
+    record { q = s .q ⊕ q; q2 = s .q2 ⊕ q ⊗ q; dot = s .dot ⊕ q ⊗ at valsCentered p }
 
 unfoldable pub pairSums : ℕ → Row → Row → Row → Sums
-pairSums n vals h0 h1 = iter (summed vals h0 h1) zeros n
+pairSums n valsCentered h0 h1 = iter (summed valsCentered h0 h1) zeros n
 
--- nInv is one over the number of pixels
 unfoldable pub fitOf : Float → Float → Float → Float → Float → Float → Float → Float → Fit
-fitOf energy nInv dot denom theta0 theta1 width edge-score =
+fitOf valEnergy nInv dot denom theta0 theta1 width edgeScore =
     let amp = dot ⊘ denom in
-    let ssr = max (energy ⊖ dot ⊗ dot ⊘ denom) nought in
+    let ssr = max (valEnergy ⊖ dot ⊗ dot ⊘ denom) nought in
     let rms = sqrt binary32 (ssr ⊗ nInv) in
-    let corr = abs dot ⊘ sqrt binary32 (denom ⊗ energy) in
-    let rel-rms = rms ⊘ max (abs amp) one in
+    let corr = abs dot ⊘ sqrt binary32 (denom ⊗ valEnergy) in
+    let relRms = rms ⊘ max (abs amp) one in
     let a = canonicalizeTrackingSwap theta0 theta1 amp in
     record {
       theta1 = a .theta1;
@@ -64,32 +67,38 @@ fitOf energy nInv dot denom theta0 theta1 width edge-score =
       width = width;
       amp = a .amp;
       rms = rms;
-      «rel_rms» = rel-rms;
+      «rel_rms» = relRms;
       corr = corr;
-      «edge_score» = edge-score;
-      objective = rel-rms ⊖ lit 0x3fa0_0000 ⊗ edge-score;
+      «edge_score» = edgeScore;
+      objective = relRms ⊖ lit 0x3fa0_0000 ⊗ edgeScore;
     }
 
 unfoldable pub scoredSums : Float → Float → Sums → Float → Float → Float → Float → Scored
-scoredSums energy nInv s theta0 theta1 width edge-score =
+scoredSums valEnergy nInv s theta0 theta1 width edgeScore =
     let denom = s .q2 ⊖ s .q ⊗ s .q ⊗ nInv in
-    cond (le denom margin) Nothing (Found (fitOf energy nInv (s .dot) denom theta0 theta1 width edge-score))
+    cond (le denom margin) Nothing (Found (fitOf valEnergy nInv (s .dot) denom theta0 theta1 width edgeScore))
 
 -- a pair that is not allowed, and a disk without energy, answer nothing
-unfoldable pub scorePairCached : ℕ → Float → Row → Float → Float → Float → Float → Row → Row → Scored
-scorePairCached n energy vals theta0 theta1 width edge-score h0 h1 =
+unfoldable pub scorePairCached : DiskData → Float → Float → Float → Float → Row → Row → Scored
+scorePairCached D theta0 theta1 width edgeScore h0 h1 =
+    let nInv = one ⊘ count (D .n) in
     cond (validPair theta0 theta1)
-    (cond (le energy margin) Nothing (scoredSums energy (one ⊘ count n) (pairSums n vals h0 h1) theta0 theta1 width edge-score))
+    (cond (le (D .«val_energy») margin) Nothing
+    (scoredSums (D .«val_energy») nInv (pairSums (D .n) (D .«vals_centered») h0 h1) theta0 theta1 width edgeScore))
     Nothing
 
--- ---- precompute_edge_alignments: a disk without weight leaves the sums as they are, and its total counts as 0
-unfoldable pub alignedTotal : ℕ → Row → Float
-alignedTotal n weights = let total = edgeWeightTotal n weights in cond (le total margin) nought total
+-- ---- precompute_edge_alignments: what is returned, and what stands in `out` then
+pub record Alignments : Type 0 where
+  pub total : Float
+  pub out : Row
 
-unfoldable pub alignedSums : ℕ → Row → Row → CandidateSet → Row → Row
-alignedSums n angles weights s out =
-    cond (le (edgeWeightTotal n weights) margin) out
-    (iter (λ c l. set l c (rankedSum n angles weights (at (s .angles) c))) out (s .n))
+-- a disk without weight leaves the sums as they are, and its total counts as 0
+unfoldable pub precomputeEdgeAlignments : DiskData → CandidateSet → Row → Alignments
+precomputeEdgeAlignments D candidates out =
+    let total = edgeWeightTotal (D .n) (D .«grad_weights») in
+    let sum : ℕ → Float = λ c. rankedSum (D .n) (D .«grad_angles») (D .«grad_weights») (at (candidates .angles) c) in
+    cond (le total margin) (record { total = nought; out = out })
+    (record { total = total; out = iter (λ c l. set l c (sum c)) out (candidates .n) })
 
 -- ---- fit_is_better: the first key that tells decides
 abbrev pub lower : Float → Float → Bool → Bool
@@ -107,7 +116,7 @@ fitIsBetter a b =
     (lower (a .theta1) (b .theta1) (lt (a .theta2) (b .theta2))))))
 
 -- ---- fit_std_errors
--- a pixel's model, its two slopes and its error, in f32; invW is one over the width
+-- a pixel's model, its two slopes and its error, in f32
 unfoldable pub slopesAt : Float → Float → SinCos → SinCos → Float → Float → Float → Slopes
 slopesAt amp invW t1 t2 x y v =
     let h1 = tanh ((neg (t1 .s) ⊗ x ⊕ t1 .c ⊗ y) ⊗ invW) in
@@ -129,9 +138,9 @@ noMoments =
       sj2 = nought;
       sqj1 = nought;
       sqj2 = nought;
-      sj11 = nought;
-      sj12 = nought;
-      sj22 = nought;
+      sj1j1 = nought;
+      sj1j2 = nought;
+      sj2j2 = nought;
       see = nought;
     }
 
@@ -145,29 +154,34 @@ gathered t m =
       sj2 = m .sj2 ⊞ t .j2;
       sqj1 = m .sqj1 ⊞ t .q ⊠ t .j1;
       sqj2 = m .sqj2 ⊞ t .q ⊠ t .j2;
-      sj11 = m .sj11 ⊞ t .j1 ⊠ t .j1;
-      sj12 = m .sj12 ⊞ t .j1 ⊠ t .j2;
-      sj22 = m .sj22 ⊞ t .j2 ⊠ t .j2;
+      sj1j1 = m .sj1j1 ⊞ t .j1 ⊠ t .j1;
+      sj1j2 = m .sj1j2 ⊞ t .j1 ⊠ t .j2;
+      sj2j2 = m .sj2j2 ⊞ t .j2 ⊠ t .j2;
       see = m .see ⊞ t .e ⊠ t .e;
     }
 
 unfoldable pub momentsOf : ℕ → Row → Row → Row → Fit → Moments
-momentsOf n xs ys vals f =
-    iter (λ p. gathered (slopesAt (f .amp) (one ⊘ f .width) (sinCos (f .theta1)) (sinCos (f .theta2)) (at xs p) (at ys p) (at vals p))) noMoments n
+momentsOf n xs ys valsCentered fit =
+    let slopes = slopesAt (fit .amp) (one ⊘ fit .width) (sinCos (fit .theta1)) (sinCos (fit .theta2)) in
+    iter (λ p. gathered (slopes (at xs p) (at ys p) (at valsCentered p))) noMoments n
 
 abbrev pub count64 : ℕ → Float
 count64 n = ofInt binary64 (pos n)
 
--- the residual with the least-squares offset: see - n * a * a, a being amp * sq / n
+-- the residual with the least-squares offset: a_qbar is amp * sq / n
 unfoldable pub residual : ℕ → Float → Moments → Float
-residual n amp m = let a = amp ⊠ m .sq ⧄ count64 n in max (m .see ⊟ count64 n ⊠ a ⊠ a) nought
+residual n amp m =
+    let aQbar = amp ⊠ m .sq ⧄ count64 n in
+    max (m .see ⊟ count64 n ⊠ aQbar ⊠ aQbar) nought
 
 unfoldable pub normal : ℕ → Moments → Matrix
 normal n m =
     (narrow (count64 n) ∷ narrow (m .sq) ∷ narrow (m .sj1) ∷ narrow (m .sj2) ∷ []) ∷
     (narrow (m .sq) ∷ narrow (m .sqq) ∷ narrow (m .sqj1) ∷ narrow (m .sqj2) ∷ []) ∷
-    (narrow (m .sj1) ∷ narrow (m .sqj1) ∷ narrow (m .sj11) ∷ narrow (m .sj12) ∷ []) ∷
-    (narrow (m .sj2) ∷ narrow (m .sqj2) ∷ narrow (m .sj12) ∷ narrow (m .sj22) ∷ []) ∷ []
+    (narrow (m .sj1) ∷ narrow (m .sqj1) ∷ narrow (m .sj1j1) ∷ narrow (m .sj1j2) ∷ []) ∷
+    (narrow (m .sj2) ∷ narrow (m .sqj2) ∷ narrow (m .sj1j2) ∷ narrow (m .sj2j2) ∷ []) ∷ []
 
-unfoldable pub fitStdErrors : ℕ → Row → Row → Row → Fit → Errors
-fitStdErrors n xs ys vals f = let m = momentsOf n xs ys vals f in axisStdErrors (normal n m) (narrow (residual n (f .amp) m)) n
+unfoldable pub fitStdErrors : DiskData → Fit → Errors
+fitStdErrors D fit =
+    let m = momentsOf (D .n) (D .xs) (D .ys) (D .«vals_centered») fit in
+    axisStdErrors (normal (D .n) m) (narrow (residual (D .n) (fit .amp) m)) (D .n)

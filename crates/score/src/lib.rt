@@ -5,9 +5,13 @@ use solver_elimination::Errors;
 use solver_elimination::Solved;
 ghost use mathlib.Core.Path.{_≡_};
 ghost use Prim.Native.Nat.{_≤_};
+ghost use lib.Ieee.{Float};
 ghost use lib.ListN.{length};
+ghost use Rattle.data.specs.Data.{OfPixels, OfValues, OfGradients, maxTanhPixels};
 ghost use Rattle.solver_elimination.specs.Solve as E;
 ghost use Rattle.score.specs.Score as S;
+
+pub const WIDTHS_PX: [f32; 4] = [0.35, 0.70, 1.40, 2.80];
 
 // What a pair of axes at one width is worth.
 pub struct Fit {
@@ -51,17 +55,32 @@ pub struct Moments {
     pub sj2: f64,
     pub sqj1: f64,
     pub sqj2: f64,
-    pub sj11: f64,
-    pub sj12: f64,
-    pub sj22: f64,
+    pub sj1j1: f64,
+    pub sj1j2: f64,
+    pub sj2j2: f64,
     pub see: f64,
 }
 
-fn pair_sums(vals: &[f32], h0: &[f32], h1: &[f32]) -> Sums
-    requires { ⌜ (length (now h0) ≡ length (now vals)) × (length (now h1) ≡ length (now vals)) ⌝ }
-    ensures { λ r. ⌜ r ≡ S.pairSums (length (now (vals .entry))) (now (vals .entry)) (now (h0 .entry)) (now (h1 .entry)) ⌝ }
+// The model's factor of each pixel for an axis at theta.
+pub fn axis_row(xs: &[f32], ys: &[f32], theta: f32, width: f32, row: &mut [f32])
+    requires { ⌜ (length (now ys) ≡ length (now xs)) × (length (now row) ≡ length (now xs)) ⌝ }
+    ensures { λ _. ⌜ now (row .exit) ≡ S.axisRow (length (now (xs .entry))) (now (xs .entry)) (now (ys .entry)) theta width ⌝ }
 {
-    let n = vals.len();
+    let n = xs.len();
+    let t = elementary::sin_cos(theta);
+    let s = t.s;
+    let c = t.c;
+    for p in 0..n {
+        row[p] = elementary::tanh((-s * xs[p] + c * ys[p]) / width);
+    }
+}
+
+fn pair_sums(vals_centered: &[f32], h0: &[f32], h1: &[f32]) -> Sums
+    requires { ⌜ (length (now h0) ≡ length (now «vals_centered»)) × (length (now h1) ≡ length (now «vals_centered»)) ⌝ }
+    ensures { λ r. ⌜ r
+        ≡ S.pairSums (length (now («vals_centered» .entry))) (now («vals_centered» .entry)) (now (h0 .entry)) (now (h1 .entry)) ⌝ }
+{
+    let n = vals_centered.len();
     let mut s = Sums {
         q: 0.0,
         q2: 0.0,
@@ -71,7 +90,7 @@ fn pair_sums(vals: &[f32], h0: &[f32], h1: &[f32]) -> Sums
         let q = h0[p] * h1[p];
         s.q += q;
         s.q2 += q * q;
-        s.dot += q * vals[p];
+        s.dot += q * vals_centered[p];
     }
     s
 }
@@ -79,8 +98,8 @@ fn pair_sums(vals: &[f32], h0: &[f32], h1: &[f32]) -> Sums
 // At the least-squares optimum the residual is the energy less dot * dot / denom; rounding can push
 // it below 0.
 fn fit_of(
-    energy: f32,
-    ninv: f32,
+    val_energy: f32,
+    n_inv: f32,
     dot: f32,
     denom: f32,
     theta0: f32,
@@ -88,12 +107,12 @@ fn fit_of(
     width: f32,
     edge_score: f32,
 ) -> Fit
-    ensures { λ r. ⌜ r ≡ S.fitOf energy ninv dot denom theta0 theta1 width «edge_score» ⌝ }
+    ensures { λ r. ⌜ r ≡ S.fitOf «val_energy» «n_inv» dot denom theta0 theta1 width «edge_score» ⌝ }
 {
     let amp = dot / denom;
-    let ssr = floats::max(energy - dot * dot / denom, 0.0);
-    let rms = roots::sqrt(ssr * ninv);
-    let corr = floats::abs(dot) / roots::sqrt(denom * energy);
+    let ssr = floats::max(val_energy - dot * dot / denom, 0.0);
+    let rms = roots::sqrt(ssr * n_inv);
+    let corr = floats::abs(dot) / roots::sqrt(denom * val_energy);
     let rel_rms = rms / floats::max(floats::abs(amp), 1.0);
     let a = solver_axes::canonicalize_tracking_swap(theta0, theta1, amp);
     Fit {
@@ -110,23 +129,23 @@ fn fit_of(
 }
 
 fn scored_sums(
-    energy: f32,
-    ninv: f32,
+    val_energy: f32,
+    n_inv: f32,
     s: Sums,
     theta0: f32,
     theta1: f32,
     width: f32,
     edge_score: f32,
 ) -> Scored
-    ensures { λ r. ⌜ r ≡ S.scoredSums energy ninv s theta0 theta1 width «edge_score» ⌝ }
+    ensures { λ r. ⌜ r ≡ S.scoredSums «val_energy» «n_inv» s theta0 theta1 width «edge_score» ⌝ }
 {
-    let denom = s.q2 - s.q * s.q * ninv;
+    let denom = s.q2 - s.q * s.q * n_inv;
     if denom <= 1e-9 {
         return Scored::Nothing;
     }
     Scored::Found(fit_of(
-        energy,
-        ninv,
+        val_energy,
+        n_inv,
         s.dot,
         denom,
         theta0,
@@ -138,8 +157,8 @@ fn scored_sums(
 
 // The score of two axes from their rows of tanh.
 pub fn score_pair_cached(
-    energy: f32,
-    vals: &[f32],
+    val_energy: f32,
+    vals_centered: &[f32],
     theta0: f32,
     theta1: f32,
     width: f32,
@@ -147,38 +166,44 @@ pub fn score_pair_cached(
     h0: &[f32],
     h1: &[f32],
 ) -> Scored
-    requires { ⌜ (length (now h0) ≡ length (now vals)) × (length (now h1) ≡ length (now vals)) × (length (now vals) ≤ 320) ⌝ }
-    ensures { λ r. ⌜ r ≡ S.scorePairCached (length (now (vals .entry))) energy (now (vals .entry)) theta0 theta1 width «edge_score» (now (h0 .entry)) (now (h1 .entry)) ⌝ }
+    requires { ⌜ (length (now h0) ≡ length (now «vals_centered»)) × (length (now h1) ≡ length (now «vals_centered»))
+        × (length (now «vals_centered») ≤ maxTanhPixels) ⌝ }
+    ensures { λ r. ⌜ OfValues «val_energy» (now («vals_centered» .entry))
+        (λ D. r ≡ S.scorePairCached D theta0 theta1 width «edge_score» (now (h0 .entry)) (now (h1 .entry))) ⌝ }
 {
     if geometry::valid_pair(theta0, theta1) {} else {
         return Scored::Nothing;
     }
-    if energy <= 1e-9 {
+    if val_energy <= 1e-9 {
         return Scored::Nothing;
     }
-    let s = pair_sums(vals, h0, h1);
-    let ninv = 1.0 / floats::count_f32(vals.len());
-    scored_sums(energy, ninv, s, theta0, theta1, width, edge_score)
+    let s = pair_sums(vals_centered, h0, h1);
+    let n_inv = 1.0 / floats::count_f32(vals_centered.len());
+    scored_sums(val_energy, n_inv, s, theta0, theta1, width, edge_score)
 }
 
-// The candidates' edge sums into `out`, and the weights' total; `terms` is lent as scratch.
+// Step 1 of best_disk_fit: the candidates' edge sums into `out`, and the weights' total; `terms` is
+// lent as scratch.
 pub fn precompute_edge_alignments(
-    angles: &[f32],
-    weights: &[f32],
-    set: CandidateSet,
+    grad_angles: &[f32],
+    grad_weights: &[f32],
+    candidates: CandidateSet,
     terms: &mut [f32],
     out: &mut [f32],
 ) -> f32
-    requires { ⌜ (length (now weights) ≡ length (now angles)) × (length (now terms) ≡ length (now angles)) × (set .n ≤ length (now out)) × (length (now out) ≤ 64) ⌝ }
-    ensures { λ r. ⌜ (r ≡ S.alignedTotal (length (now (angles .entry))) (now (weights .entry))) × (now (out .exit) ≡ S.alignedSums (length (now (angles .entry))) (now (angles .entry)) (now (weights .entry)) set (now (out .entry))) ⌝ }
+    requires { ⌜ (length (now «grad_weights») ≡ length (now «grad_angles»)) × (length (now terms) ≡ length (now «grad_angles»))
+        × (candidates .n ≤ length (now out)) × (length (now out) ≤ 64) ⌝ }
+    ensures { λ r. ⌜ OfGradients (now («grad_angles» .entry)) (now («grad_weights» .entry))
+        (λ D. _≡_ {A = S.Alignments} (record { total = r; out = now (out .exit) })
+        (S.precomputeEdgeAlignments D candidates (now (out .entry)))) ⌝ }
 {
-    let total = score_edges::edge_weight_total(weights);
+    let total = score_edges::edge_weight_total(grad_weights);
     if total <= 1e-9 {
         return 0.0;
     }
-    let n = set.n;
+    let n = candidates.n;
     for c in 0..n {
-        out[c] = score_edges::ranked_sum(angles, weights, set.angles[c], terms);
+        out[c] = score_edges::ranked_sum(grad_angles, grad_weights, candidates.angles[c], terms);
     }
     total
 }
@@ -207,7 +232,7 @@ fn higher(a: f32, b: f32, next: bool) -> bool
     next
 }
 
-// Lower objective, lower rel, higher edge, narrower width, smaller theta1, smaller theta2: the first
+// Lower objective, lower rel_rms, higher edge_score, narrower width, smaller theta1, smaller theta2: the first
 // key that tells by more than 1e-9 decides. With these margins it is no order.
 pub fn fit_is_better(a: Fit, b: Fit) -> bool
     ensures { λ r. ⌜ r ≡ S.fitIsBetter a b ⌝ }
@@ -219,16 +244,16 @@ pub fn fit_is_better(a: Fit, b: Fit) -> bool
     lower(a.objective, b.objective, r)
 }
 
-fn slopes_at(amp: f32, invw: f32, t1: SinCos, t2: SinCos, x: f32, y: f32, v: f32) -> Slopes
-    ensures { λ r. ⌜ r ≡ S.slopesAt amp invw t1 t2 x y v ⌝ }
+fn slopes_at(amp: f32, inv_w: f32, t1: SinCos, t2: SinCos, x: f32, y: f32, v: f32) -> Slopes
+    ensures { λ r. ⌜ r ≡ S.slopesAt amp «inv_w» t1 t2 x y v ⌝ }
 {
-    let h1 = elementary::tanh((-t1.s * x + t1.c * y) * invw);
-    let h2 = elementary::tanh((-t2.s * x + t2.c * y) * invw);
+    let h1 = elementary::tanh((-t1.s * x + t1.c * y) * inv_w);
+    let h2 = elementary::tanh((-t2.s * x + t2.c * y) * inv_w);
     let q = h1 * h2;
     Slopes {
         q,
-        j1: amp * (1.0 - h1 * h1) * invw * (-t1.c * x - t1.s * y) * h2,
-        j2: amp * h1 * (1.0 - h2 * h2) * invw * (-t2.c * x - t2.s * y),
+        j1: amp * (1.0 - h1 * h1) * inv_w * (-t1.c * x - t1.s * y) * h2,
+        j2: amp * h1 * (1.0 - h2 * h2) * inv_w * (-t2.c * x - t2.s * y),
         e: v - amp * q,
     }
 }
@@ -247,9 +272,9 @@ fn gathered(t: Slopes, m: Moments) -> Moments
         sj2: m.sj2 + j2,
         sqj1: m.sqj1 + q * j1,
         sqj2: m.sqj2 + q * j2,
-        sj11: m.sj11 + j1 * j1,
-        sj12: m.sj12 + j1 * j2,
-        sj22: m.sj22 + j2 * j2,
+        sj1j1: m.sj1j1 + j1 * j1,
+        sj1j2: m.sj1j2 + j1 * j2,
+        sj2j2: m.sj2j2 + j2 * j2,
         see: m.see + e * e,
     }
 }
@@ -264,41 +289,42 @@ fn no_moments() -> Moments
         sj2: 0.0,
         sqj1: 0.0,
         sqj2: 0.0,
-        sj11: 0.0,
-        sj12: 0.0,
-        sj22: 0.0,
+        sj1j1: 0.0,
+        sj1j2: 0.0,
+        sj2j2: 0.0,
         see: 0.0,
     }
 }
 
-fn moments_of(xs: &[f32], ys: &[f32], vals: &[f32], f: Fit) -> Moments
-    requires { ⌜ (length (now ys) ≡ length (now xs)) × (length (now vals) ≡ length (now xs)) ⌝ }
-    ensures { λ r. ⌜ r ≡ S.momentsOf (length (now (xs .entry))) (now (xs .entry)) (now (ys .entry)) (now (vals .entry)) f ⌝ }
+fn moments_of(xs: &[f32], ys: &[f32], vals_centered: &[f32], fit: Fit) -> Moments
+    requires { ⌜ (length (now ys) ≡ length (now xs)) × (length (now «vals_centered») ≡ length (now xs)) ⌝ }
+    ensures { λ r. ⌜ r
+        ≡ S.momentsOf (length (now (xs .entry))) (now (xs .entry)) (now (ys .entry)) (now («vals_centered» .entry)) fit ⌝ }
 {
     let n = xs.len();
-    let amp = f.amp;
-    let invw = 1.0 / f.width;
-    let t1 = elementary::sin_cos(f.theta1);
-    let t2 = elementary::sin_cos(f.theta2);
+    let amp = fit.amp;
+    let inv_w = 1.0 / fit.width;
+    let t1 = elementary::sin_cos(fit.theta1);
+    let t2 = elementary::sin_cos(fit.theta2);
     let mut m = no_moments();
     for p in 0..n {
-        let t = slopes_at(amp, invw, t1, t2, xs[p], ys[p], vals[p]);
+        let t = slopes_at(amp, inv_w, t1, t2, xs[p], ys[p], vals_centered[p]);
         m = gathered(t, m);
     }
     m
 }
 
 fn residual(n: usize, amp: f32, m: Moments) -> f64
-    requires { ⌜ n ≤ 320 ⌝ }
+    requires { ⌜ n ≤ maxTanhPixels ⌝ }
     ensures { λ r. ⌜ r ≡ S.residual n amp m ⌝ }
 {
     let count = floats::count_f64(n);
-    let a = floats::widen(amp) * m.sq / count;
-    floats::max_f64(m.see - count * a * a, 0.0)
+    let a_qbar = floats::widen(amp) * m.sq / count;
+    floats::max_f64(m.see - count * a_qbar * a_qbar, 0.0)
 }
 
 fn normal(n: usize, m: Moments) -> [[f32; 4]; 4]
-    requires { ⌜ n ≤ 320 ⌝ }
+    requires { ⌜ n ≤ maxTanhPixels ⌝ }
     ensures { λ r. ⌜ r ≡ S.normal n m ⌝ }
 {
     let c = narrowing::narrow(floats::count_f64(n));
@@ -308,14 +334,14 @@ fn normal(n: usize, m: Moments) -> [[f32; 4]; 4]
     let sj2 = narrowing::narrow(m.sj2);
     let sqj1 = narrowing::narrow(m.sqj1);
     let sqj2 = narrowing::narrow(m.sqj2);
-    let sj11 = narrowing::narrow(m.sj11);
-    let sj12 = narrowing::narrow(m.sj12);
-    let sj22 = narrowing::narrow(m.sj22);
+    let sj1j1 = narrowing::narrow(m.sj1j1);
+    let sj1j2 = narrowing::narrow(m.sj1j2);
+    let sj2j2 = narrowing::narrow(m.sj2j2);
     [
         [c, sq, sj1, sj2],
         [sq, sqq, sqj1, sqj2],
-        [sj1, sqj1, sj11, sj12],
-        [sj2, sqj2, sj12, sj22],
+        [sj1, sqj1, sj1j1, sj1j2],
+        [sj2, sqj2, sj1j2, sj2j2],
     ]
 }
 
@@ -334,7 +360,7 @@ fn axis_error(v: f32, c: f32) -> f32
     floats::min(roots::sqrt(v * floats::max(c, 0.0)), floats::PI)
 }
 
-// Both columns of the inverse that matter, as in `solve`. With a second caller the compiler no longer
+// Both columns of the inverse that matter, as in `solver_elimination`. With a second caller the compiler no longer
 // puts that function into the ring fit, whose stack would pass 4096 bytes; so the disk has its own.
 fn both_errors(jtj: &[[f32; 4]; 4], v: f32) -> Errors
     ensures { λ r. ⌜ r ≡ E.bothErrors v (E.solve4x4 (now (jtj .entry)) E.unit2) (E.solve4x4 (now (jtj .entry)) E.unit3) ⌝ }
@@ -363,13 +389,15 @@ fn errors_of(jtj: &[[f32; 4]; 4], ssr: f32, n: usize) -> Errors
 }
 
 // The standard errors of a fit's two axes, from one pass at its own angles and width.
-pub fn fit_std_errors(xs: &[f32], ys: &[f32], vals: &[f32], f: Fit) -> Errors
-    requires { ⌜ (length (now ys) ≡ length (now xs)) × (length (now vals) ≡ length (now xs)) × (length (now xs) ≤ 320) ⌝ }
-    ensures { λ r. ⌜ r ≡ S.fitStdErrors (length (now (xs .entry))) (now (xs .entry)) (now (ys .entry)) (now (vals .entry)) f ⌝ }
+pub fn fit_std_errors(xs: &[f32], ys: &[f32], vals_centered: &[f32], fit: Fit) -> Errors
+    requires { ⌜ (length (now ys) ≡ length (now xs)) × (length (now «vals_centered») ≡ length (now xs))
+        × (length (now xs) ≤ maxTanhPixels) ⌝ }
+    ensures { λ r. ⌜ ((energy : Float) →
+        OfPixels energy (now (xs .entry)) (now (ys .entry)) (now («vals_centered» .entry)) (λ D. r ≡ S.fitStdErrors D fit)) ⌝ }
 {
     let n = xs.len();
-    let m = moments_of(xs, ys, vals, f);
+    let m = moments_of(xs, ys, vals_centered, fit);
     let jtj = normal(n, m);
-    let ssr = narrowing::narrow(residual(n, f.amp, m));
+    let ssr = narrowing::narrow(residual(n, fit.amp, m));
     errors_of(&jtj, ssr, n)
 }

@@ -1,59 +1,43 @@
--- How well the gradients agree with a line: the sums of score.rs, precompute_edge_alignments, and of search.rs, edge_weight_total and build_axis_rows. Definitions only.
+-- How well the gradients agree with a line: the sums of score.rs, precompute_edge_alignments, and of search.rs, edge_weight_total
+-- and build_axis_rows. Definitions only.
 -- The ranking and the refinement have each its own Gaussian: of one value in exact arithmetic, but rounded apart.
-use mathlib.Core.Bool.{cond}
-use mathlib.Core.List.{List}
 use Prim.Native.Nat.{ℕ}
-use lib.ListN.{getD}
-use lib.Ieee.{Float, nan, neg, lt, le}
-use Rattle.floats.specs.Ops.{_⊕_, _⊖_, _⊗_, _⊘_, lit, minus, nought, pi, tau, halfPi}
+use lib.Ieee.{Float, neg}
+use Rattle.floats.specs.Ops.{_⊕_, _⊗_, _⊘_, lit, minus, nought, one}
+use Rattle.floats.specs.Library.{toRadians}
 use Rattle.elementary.specs.Elementary.{exp}
 use Rattle.geometry.specs.Geometry.{signedLineDelta}
 use Rattle.loops.specs.Loops.{iter}
+use Rattle.floats.specs.Rows.{Row, at}
 
-abbrev pub Row : Type 0
-Row = List Float
-
-abbrev pub at : Row → ℕ → Float
-at r i = getD r i nan
-
--- 4 degrees, and 1 / (2 * sigma * sigma)
+-- sigma = 4.0_f32.to_radians()
 abbrev pub sigma : Float
-sigma = lit 0x3d8e_fa35
+sigma = toRadians (lit 0x4080_0000)
 
+-- inv_2sigma2 = 1.0 / (2.0 * sigma * sigma)
 abbrev pub inv2Sigma2 : Float
-inv2Sigma2 = lit 0x42cd_2ce7
+inv2Sigma2 = one ⊘ (lit 0x4000_0000 ⊗ sigma ⊗ sigma)
 
 -- a sum in the order of the pixels
 unfoldable pub orderedSum : ℕ → Row → Float
-orderedSum n l = iter (λ p s. s ⊕ at l p) nought n
+orderedSum n row = iter (λ p s. s ⊕ at row p) nought n
 
 -- search.rs: edge_weight_total, and the same loop in score.rs
 unfoldable pub edgeWeightTotal : ℕ → Row → Float
-edgeWeightTotal n weights = orderedSum n weights
+edgeWeightTotal n gradWeights = orderedSum n gradWeights
 
 -- score.rs: w_p * (-d * d * inv_2sigma2).exp()
 unfoldable pub rankedTerm : Float → Float → Float
 rankedTerm w d = w ⊗ exp (neg d ⊗ d ⊗ inv2Sigma2)
 
 unfoldable pub rankedSum : ℕ → Row → Row → Float → Float
-rankedSum n angles weights theta = iter (λ p s. s ⊕ rankedTerm (at weights p) (signedLineDelta (at angles p) theta)) nought n
+rankedSum n gradAngles gradWeights theta =
+    iter (λ p s. s ⊕ rankedTerm (at gradWeights p) (signedLineDelta (at gradAngles p) theta)) nought n
 
 -- search.rs: grad_weights[p] * (-0.5 * (dd / sigma) * (dd / sigma)).exp()
 unfoldable pub refinedTerm : Float → Float → Float
 refinedTerm w d = w ⊗ exp (minus 0x3f00_0000 ⊗ (d ⊘ sigma) ⊗ (d ⊘ sigma))
 
 unfoldable pub refinedSum : ℕ → Row → Row → Float → Float
-refinedSum n angles weights theta = iter (λ p s. s ⊕ refinedTerm (at weights p) (signedLineDelta (at angles p) theta)) nought n
-
--- ---- how the code finds a difference without `%`: x is a - b + PI/2, between -TAU and TAU
-unfoldable pub farCount : Float → ℕ
-farCount x = cond (lt (neg tau) x) (cond (lt x tau) 0 1) 1
-
-unfoldable pub lessPi : Float → Float
-lessPi x = cond (le pi x) (x ⊖ pi) (cond (le x (neg pi)) (x ⊕ pi) x)
-
-unfoldable pub raisedPi : Float → Float
-raisedPi r = cond (lt r nought) (r ⊕ pi) r
-
-unfoldable pub nearDelta : Float → Float
-nearDelta x = raisedPi (lessPi x) ⊖ halfPi
+refinedSum n gradAngles gradWeights theta =
+    iter (λ p s. s ⊕ refinedTerm (at gradWeights p) (signedLineDelta (at gradAngles p) theta)) nought n

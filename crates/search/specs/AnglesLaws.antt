@@ -1,19 +1,23 @@
--- Every candidate's angle is a value that an f32 holds, whatever the disk and the seeds: each is a sum, a quotient or a constant, reduced by PI. Assumes nothing.
+-- Every candidate's angle is a value that an f32 holds, whatever the disk and the seeds: each is a sum, a product or a quotient, reduced by PI.
+-- Assumes nothing.
 use mathlib.Core.Bool.{Bool, true, false, cond}
 use mathlib.Core.List.{[], _∷_}
-use Prim.Native.Nat.{ℕ, zero, suc}
+use Prim.Native.Nat.{ℕ, zero, suc, _*_, _/_}
 use lib.ListN.{set, replicate}
 use lib.Dec.{T, leb}
 use lib.Ieee.{Float, binary32, rem, lt, fits}
 use lib.Ieee.Bits.{ofBits-fits}
-use lib.Ieee.Fits.{nan-fits, cond-fits, add-fits, div-fits, rem-fits}
+use lib.Ieee.Fits.{nan-fits, cond-fits, add-fits, mul-fits, div-fits, rem-fits}
 use Rattle.floats.specs.Ops.{_⊕_, lit, nought, pi}
-use Rattle.floats.specs.Library.{remEuclid}
+use Rattle.floats.specs.Rows.{Row, at, count}
+use Rattle.floats.specs.Library.{remEuclid, toRadians, histBins}
 use Rattle.geometry.specs.Geometry.{wrapPi}
 use Rattle.loops.specs.IterLaws.{iter-keeps}
-use Rattle.candidates.specs.Candidates.{Row, at, newSet, isNear, appended, pushUnique, Picking, bestBin, binAngle, tooLow, degrees4, degree1, picked, left, pick, unpicked, peaks, greatest, histogramPeaks, around, coarse, histogramCandidates}
+use Rattle.data.specs.Data.{DiskData}
+use Rattle.candidates.specs.Candidates.{maxCandidates, newSet, isNear, appended, pushUnique, Picking, bestBin, binAngle, tooLow, degrees4, degree1}
+use Rattle.candidates.specs.Candidates.{picked, left, pick, unpicked, maxPicks, peaks, greatest, histogramPeaks}
+use Rattle.candidates.specs.Candidates.{offDegs, offset, around, gridDeg, gridded, coarse, gradientCandidates}
 use Rattle.candidates.specs.declared.CandidateSet.{CandidateSet}
-use Rattle.search_refine.specs.Refine.{Disk}
 use Rattle.search.specs.Search.{candidatesOf}
 
 wrapped-fits : (x : Float) → T (fits binary32 x) → T (fits binary32 (wrapPi x))
@@ -44,7 +48,7 @@ pub record Fitting (s : CandidateSet) : Type 0 where
 
 push-fits : (s : CandidateSet) (x minSep : Float) → T (fits binary32 x) → Fitting s → Fitting (pushUnique s x minSep)
 unfolding pushUnique appended
-push-fits s x minSep p h = go (leb 64 (s .n)) (isNear (s .angles) (s .n) (wrapPi x) minSep)
+push-fits s x minSep p h = go (leb maxCandidates (s .n)) (isNear (s .angles) (s .n) (wrapPi x) minSep)
   where
     go : (a b : Bool) → Fitting (cond a s (cond b s (appended s (wrapPi x))))
     go true b = h
@@ -53,7 +57,7 @@ push-fits s x minSep p h = go (leb 64 (s .n)) (isNear (s .angles) (s .n) (wrapPi
 
 -- ---- the histogram's peaks, the angles around the seeds and the coarse ones
 new-fits : Fitting newSet
-new-fits = record { each = replicate-fits 64 nought (ofBits-fits binary32 0) }
+new-fits = record { each = replicate-fits maxCandidates nought (ofBits-fits binary32 0) }
 
 pick-fits : (smooth : Row) (maxV : Float) (k : ℕ) (s : Picking) → Fitting (s .found) → Fitting (pick smooth maxV k s .found)
 unfolding pick picked left binAngle
@@ -62,30 +66,30 @@ pick-fits smooth maxV k s h = go (s .over) (tooLow smooth maxV (bestBin smooth (
     go : (a b : Bool) → Fitting (cond a s (cond b (left s) (picked (bestBin smooth (s .used)) s)) .found)
     go true b = h
     go false true = h
-    go false false = push-fits (s .found) (binAngle (bestBin smooth (s .used))) degrees4 (div-fits binary32 _ (lit 0x4290_0000)) h
+    go false false = push-fits (s .found) (binAngle (bestBin smooth (s .used))) degrees4 (div-fits binary32 _ (count histBins)) h
 
 peaks-fit : (smooth : Row) → Fitting (histogramPeaks smooth)
 unfolding histogramPeaks peaks
 peaks-fit smooth = go (lt nought (greatest smooth))
   where
     go : (b : Bool) → Fitting (cond b (peaks smooth (greatest smooth)) newSet)
-    go true = iter-keeps (λ (p : Picking). Fitting (p .found)) (pick smooth (greatest smooth)) unpicked 8 new-fits (λ k s h. pick-fits smooth (greatest smooth) k s h)
+    go true =
+        iter-keeps (λ (p : Picking). Fitting (p .found)) (pick smooth (greatest smooth)) unpicked maxPicks new-fits
+        (λ k s h. pick-fits smooth (greatest smooth) k s h)
     go false = new-fits
 
 around-fits : (s : CandidateSet) (seed : Float) → Fitting s → Fitting (around s seed)
-unfolding around
-around-fits s seed h = by _ (by _ (by _ (by _ (by _ h))))
-  where
-    by : {s : CandidateSet} (d : Float) → Fitting s → Fitting (pushUnique s (seed ⊕ d) degree1)
-    by {s} d h = push-fits s (seed ⊕ d) degree1 (add-fits binary32 seed d) h
+unfolding around offset
+around-fits s seed h =
+    iter-keeps Fitting _ s 5 h
+    (λ k s h. push-fits s (seed ⊕ toRadians (at offDegs k)) degree1 (add-fits binary32 seed (toRadians (at offDegs k))) h)
 
 coarse-fits : (s : CandidateSet) → Fitting s → Fitting (coarse s)
-unfolding coarse
-coarse-fits s h = by 0x4027_8d36 (by 0x4006_0a92 (by 0x3fc9_0fdb (by 0x3f86_0a92 (by 0x3f06_0a92 (by 0 h)))))
-  where
-    by : {s : CandidateSet} (b : ℕ) → Fitting s → Fitting (pushUnique s (lit b) degree1)
-    by {s} b h = push-fits s (lit b) degree1 (ofBits-fits binary32 b) h
+unfolding coarse gridded toRadians
+coarse-fits s h =
+    iter-keeps Fitting _ s (180 / gridDeg) h
+    (λ k s h. push-fits s (toRadians (count (gridDeg * k))) degree1 (mul-fits binary32 (count (gridDeg * k)) (lit 0x3c8e_fa35)) h)
 
-pub candidates-fit : (D : Disk) (base0 base1 : Float) → Fitting (candidatesOf D base0 base1)
-unfolding candidatesOf histogramCandidates
+pub candidates-fit : (D : DiskData) (base0 base1 : Float) → Fitting (candidatesOf D base0 base1)
+unfolding candidatesOf gradientCandidates
 candidates-fit D base0 base1 = coarse-fits _ (around-fits _ (wrapPi base1) (around-fits _ (wrapPi base0) (peaks-fit _)))

@@ -5,36 +5,50 @@ use Prim.Native.Nat.{ℕ, _+_}
 use lib.ListN.{length, getD}
 use lib.Dec.{eqb, ltb}
 use lib.Ieee.{Float}
+use Rattle.floats.specs.Rows.{at}
+use Rattle.geometry.specs.Geometry.{validPair}
+use Rattle.loops.specs.Loops.{iter, range}
+use Rattle.data.specs.Data.{DiskData}
+use Rattle.candidates.specs.declared.CandidateSet.{CandidateSet}
 use Rattle.candidates.specs.declared.PairScore.{PairScore}
 use Rattle.candidates.specs.declared.Pool.{Pool}
-use Rattle.loops.specs.Loops.{iter}
 use Rattle.search_ranking.specs.Ranking.{blank, ranked}
+use Rattle.score.specs.Score.{widthsPx}
 use Rattle.score.specs.declared.Scored.{Scored}
 use Rattle.score.specs.declared.Scored.the-variants.{Found, Nothing}
-use Rattle.search_refine.specs.Refine.{Disk}
 use Rattle.search.specs.declared.Leaders.{Leaders}
 use Rattle.search.specs.declared.DiskFit.{DiskFit}
 use Rattle.search.specs.declared.DiskFit.the-variants.{Best, Missing}
-use Rattle.search.specs.Search.{pairScored, triedAll, widthAt, candidatesOf, poolBy}
+use Rattle.search.specs.Search.{pairScored, triedAll, candidatesOf, poolOf}
 
 -- the trials that an answer reports
 abbrev pub trialsOf : DiskFit → ℕ
-trialsOf (Best f t) = t
-trialsOf (Missing t) = t
+trialsOf (Best fit trials) = trials
+trialsOf (Missing trials) = trials
 
 -- 1 where a fit stands, 0 where none does
 abbrev pub filled : Scored → ℕ
 filled Nothing = 0
-filled (Found f) = 1
+filled (Found fit) = 1
 
-module _ (D : Disk) (base0 base1 : Float) where
-  -- the allowed pairs of candidates; poolOf .n is their number
-  unfoldable pub poolOf : Pool
-  poolOf = poolBy (D .n) (D .angles) (D .weights) (candidatesOf D base0 base1) base0 base1
+-- ---- the allowed pairs of candidates, counted over i < j
+unfoldable pub allowedFrom : CandidateSet → ℕ → ℕ → ℕ
+allowedFrom candidates i count =
+    range (λ j k. cond (validPair (at (candidates .angles) i) (at (candidates .angles) j)) (k + 1) k) count (i + 1) (candidates .n)
+
+unfoldable pub allowedOf : CandidateSet → ℕ
+allowedOf candidates = iter (allowedFrom candidates) 0 (candidates .n)
+
+module _ (D : DiskData) (base0 base1 : Float) where
+  unfoldable pub allowedPairs : ℕ
+  allowedPairs = allowedOf (candidatesOf D base0 base1)
+
+  unfoldable pub poolHere : Pool
+  poolHere = poolOf D (candidatesOf D base0 base1) base0 base1
 
   -- the ranked pairs that are tried: none where there are fewer than two candidates, or where no pair of them is allowed
   unfoldable pub pairsTried : List PairScore
-  pairsTried = cond (ltb (candidatesOf D base0 base1 .n) 2) [] (cond (eqb (poolOf .n) 0) [] (ranked poolOf))
+  pairsTried = cond (ltb (candidatesOf D base0 base1 .n) 2) [] (cond (eqb (poolHere .n) 0) [] (ranked poolHere))
 
   -- k
   unfoldable pub pairsKept : ℕ
@@ -42,18 +56,18 @@ module _ (D : Disk) (base0 base1 : Float) where
 
   -- one trial: a ranked pair at a width
   unfoldable pub trial : Float → ℕ → Scored
-  trial width r = pairScored (D .n) (D .energy) (D .xs) (D .ys) (D .vals) (candidatesOf D base0 base1) width (getD pairsTried r blank)
+  trial width r = pairScored D (candidatesOf D base0 base1) width (getD pairsTried r blank)
 
   -- of the 4 k trials, those that answered a fit
   unfoldable pub answeredAt : Float → ℕ → ℕ
   answeredAt width c = iter (λ r c. c + filled (trial width r)) c pairsKept
 
   unfoldable pub answeredTrials : ℕ
-  answeredTrials = iter (λ w. answeredAt (widthAt w)) 0 4
+  answeredTrials = iter (λ w. answeredAt (at widthsPx w)) 0 (length widthsPx)
 
   -- what the 4 k trials leave
   unfoldable pub leadersOf : Leaders
-  leadersOf = triedAll (D .n) (D .energy) (D .xs) (D .ys) (D .vals) (candidatesOf D base0 base1) pairsTried
+  leadersOf = triedAll D (candidatesOf D base0 base1) pairsTried
 
   -- m: how many of the two places hold a fit
   unfoldable pub leadersKept : ℕ

@@ -1,39 +1,44 @@
--- The bill is true: a search reports 4 k + 24 m trials. k, the ranked pairs tried, is the lesser of 24 and the allowed pairs; m, the leaders refined, is the lesser of 2 and the trials that answered:
--- every pair counts one trial at each width, a fit fills the first empty place, and every refinement counts 24. Assumes nothing.
+-- The bill is true: a search reports 4 k + 24 m trials. k, the ranked pairs tried, is the lesser of 24 and the allowed pairs; m, the leaders
+-- refined, is the lesser of 2 and the trials that answered: every pair counts one trial at each width, a fit fills the first empty place,
+-- and every refinement counts its 24 scorings. Assumes nothing.
 use mathlib.Core.Path.{_≡_, refl, sym, ap, _∙_}
 use mathlib.Core.Bool.{Bool, true, false, cond}
 use mathlib.Core.List.{List, []}
-use Prim.Native.Nat.{ℕ, zero, suc, _+_, _*_, _≤_, _<_, min}
+use Prim.Native.Nat.{ℕ, zero, suc, _+_, _-_, _*_, _≤_, _<_, min}
 use native.Mathlib.Omega.{arith}
 use borrow.Author.Tests.{ltb-true, eqb-true}
-use lib.ListN.{length, length-take}
+use lib.ListN.{length}
 use lib.Dec.{eqb, ltb}
 use lib.Ieee.{Float}
-use Rattle.candidates.specs.Candidates.{Row, noPairs, pairsFrom, buildPairPool}
+use Rattle.floats.specs.Rows.{Row, at}
+use Rattle.geometry.specs.Geometry.{validPair}
+use Rattle.loops.specs.Loops.{iter, range}
+use Rattle.loops.specs.IterLaws.{range-start}
+use Rattle.data.specs.Data.{DiskData}
+use Rattle.candidates.specs.Candidates.{noPairs, pairAt, pairsFrom, pooled, pairScore, buildPairPool}
 use Rattle.candidates.specs.declared.CandidateSet.{CandidateSet}
 use Rattle.candidates.specs.declared.Forced.{Forced}
 use Rattle.candidates.specs.declared.PairScore.{PairScore}
 use Rattle.candidates.specs.declared.Pool.{Pool}
-use Rattle.loops.specs.Loops.{iter}
-use Rattle.loops.specs.IterLaws.{range-start}
-use Rattle.search_ranking.specs.Ranking.{sorted, ranked}
-use Rattle.search_ranking.specs.RankingLaws.{sorted-length}
-use Rattle.score.specs.Score.{fitIsBetter}
+use Rattle.search_ranking.specs.Ranking.{maxTopPairs, ranked}
+use Rattle.search_ranking.specs.SinkLaws.{ranked-length}
+use Rattle.score.specs.Score.{widthsPx, fitIsBetter}
 use Rattle.score.specs.declared.Fit.{Fit}
 use Rattle.score.specs.declared.Scored.{Scored}
 use Rattle.score.specs.declared.Scored.the-variants.{Found, Nothing}
-use Rattle.search_refine.specs.Refine.{Disk}
-use Rattle.search_refine.specs.RefineLaws.{trials-are}
+use Rattle.search_refine.specs.RefineLaws.{refine-trials}
 use Rattle.search_refine.specs.declared.Refined.{Refined}
 use Rattle.search.specs.declared.Top.{Top}
 use Rattle.search.specs.declared.Leaders.{Leaders}
 use Rattle.search.specs.declared.DiskFit.the-variants.{Best, Missing}
-use Rattle.search.specs.Search.{behind, insertAt, insertTop, entered, widthAt, noLeaders, triedAt, triedAll, lead, secondLed, firstLed, led, candidatesOf, poolBy, searched, bestDiskFit}
-use Rattle.search.specs.Bill.{trialsOf, filled, poolOf, pairsTried, pairsKept, trial, answeredAt, answeredTrials, leadersOf, leadersKept}
+use Rattle.search.specs.Search.{topFits, behind, insertAt, insertTop, entered, noLeaders, triedAt, triedAll, lead, secondLed, firstLed, led}
+use Rattle.search.specs.Search.{candidatesOf, poolOf, searched, bestDiskFit}
+use Rattle.search.specs.Bill.{trialsOf, filled, allowedFrom, allowedOf, allowedPairs, poolHere, pairsTried, pairsKept}
+use Rattle.search.specs.Bill.{trial, answeredAt, answeredTrials, leadersOf, leadersKept}
 
 -- ---- the leaders after t trials, of which c answered: the second place is filled only where the first is
 pub record Placed (top : Top) (c : ℕ) : Type 0 where
-  pub places : filled (top .first) + filled (top .second) ≡ min 2 c
+  pub places : filled (top .first) + filled (top .second) ≡ min topFits c
   pub order : filled (top .second) ≤ filled (top .first)
 
 pub record Counted (l : Leaders) (t c : ℕ) : Type 0 where
@@ -50,12 +55,14 @@ behind-filled (Found w) f = go (fitIsBetter f w)
     go true = refl
     go false = refl
 
-insert-placed : (a b : Scored) (f : Fit) (c : ℕ) → filled a + filled b ≡ min 2 c → filled b ≤ filled a → Placed (insertAt a b f) (c + 1)
+insert-placed : (a b : Scored) (f : Fit) (c : ℕ) → filled a + filled b ≡ min topFits c → filled b ≤ filled a → Placed (insertAt a b f) (c + 1)
 unfolding insertAt
 insert-placed Nothing b f c e o = record { places = omega arith; order = omega arith }
 insert-placed (Found v) b f c e o = go (fitIsBetter f v) (behind-filled b f)
   where
-    go : (t : Bool) → filled (behind b f) ≡ 1 → Placed (cond t (record { first = Found f; second = Found v }) (record { first = Found v; second = behind b f })) (c + 1)
+    go :
+        (t : Bool) → filled (behind b f) ≡ 1 →
+        Placed (cond t (record { first = Found f; second = Found v }) (record { first = Found v; second = behind b f })) (c + 1)
     go true h = record { places = omega arith; order = omega arith }
     go false h = record { places = omega arith; order = omega arith }
 
@@ -65,21 +72,25 @@ entered-counted l Nothing t c h =
     let z : c + 0 ≡ c = omega arith in
     record { trials = ap (λ n. n + 1) (h .trials); top = rw z (h .top) }
 entered-counted l (Found f) t c h =
-    record { trials = ap (λ n. n + 1) (h .trials); top = insert-placed (l .top .first) (l .top .second) f c (h .top .places) (h .top .order) }
+    let p = insert-placed (l .top .first) (l .top .second) f c (h .top .places) (h .top .order) in
+    record { trials = ap (λ n. n + 1) (h .trials); top = p }
 
-turns-counted : (g : ℕ → Scored) (l : Leaders) (t c n : ℕ) → Counted l t c → Counted (iter (λ r l. entered l (g r)) l n) (t + n) (iter (λ r c. c + filled (g r)) c n)
+turns-counted :
+    (g : ℕ → Scored) (l : Leaders) (t c n : ℕ) → Counted l t c →
+    Counted (iter (λ r l. entered l (g r)) l n) (t + n) (iter (λ r c. c + filled (g r)) c n)
 unfolding iter
 turns-counted g l t c zero h = let z : t + 0 ≡ t = omega arith in rw z h
 turns-counted g l t c (suc n) h =
     let z : t + suc n ≡ t + n + 1 = omega arith in
-    rw z (entered-counted (iter (λ r l. entered l (g r)) l n) (g n) (t + n) (iter (λ r c. c + filled (g r)) c n) (turns-counted g l t c n h))
+    let i = turns-counted g l t c n h in
+    rw z (entered-counted (iter (λ r l. entered l (g r)) l n) (g n) (t + n) (iter (λ r c. c + filled (g r)) c n) i)
 
 -- ---- the bill of what is led
-lead-trials : (D : Disk) (v : Fit) (s : Refined) → lead D v s .trials ≡ s .trials + 24
+lead-trials : (D : DiskData) (v : Fit) (s : Refined) → lead D v s .trials ≡ s .trials + 24
 unfolding lead
-lead-trials D v s = ap (_+_ (s .trials)) (trials-are D v)
+lead-trials D v s = ap (_+_ (s .trials)) (refine-trials D v)
 
-places-billed : (D : Disk) (t : ℕ) (a b : Scored) → filled b ≤ filled a → trialsOf (firstLed D t a b) ≡ t + 24 * (filled a + filled b)
+places-billed : (D : DiskData) (t : ℕ) (a b : Scored) → filled b ≤ filled a → trialsOf (firstLed D t a b) ≡ t + 24 * (filled a + filled b)
 unfolding firstLed secondLed
 places-billed D t Nothing b o = omega arith
 places-billed D t (Found v) Nothing o = let e = lead-trials D v (record { best = v; trials = t }) in omega arith
@@ -89,53 +100,81 @@ places-billed D t (Found v) (Found w) o =
     let g = lead-trials D w s in
     omega arith
 
-none-led : (D : Disk) (s : CandidateSet) → Missing 0 ≡ led D (triedAll (D .n) (D .energy) (D .xs) (D .ys) (D .vals) s [])
+none-led : (D : DiskData) (candidates : CandidateSet) → Missing 0 ≡ led D (triedAll D candidates [])
 unfolding led firstLed triedAll triedAt iter
-none-led D s = refl
+none-led D candidates = refl
 
--- ---- the pairs: the lesser of 24 and the pool's, and one candidate has none
-ranked-length : (pool : Pool) → length (ranked pool) ≡ min 24 (pool .n)
-unfolding ranked
-ranked-length pool = length-take 24 (sorted (pool .n) (pool .pairs)) ∙ ap (min 24) (sorted-length (pool .n) (pool .pairs))
+-- ---- the pool has the allowed pairs: a turn adds one where the pair is allowed, and is counted so
+iter-through :
+    {S : Type 0} (g : S → ℕ) (f : ℕ → S → S) (h : ℕ → ℕ → ℕ) (s : S) (n : ℕ) → ((i : ℕ) (x : S) → g (f i x) ≡ h i (g x)) →
+    g (iter f s n) ≡ iter h (g s) n
+unfolding iter
+iter-through g f h s zero e = refl
+iter-through g f h s (suc n) e = e n (iter f s n) ∙ ap (h n) (iter-through g f h s n e)
 
-few-pairs : (s : CandidateSet) (edges : Row) (total : Float) (seed hist : Forced) → s .n < 2 → buildPairPool s edges total seed hist .n ≡ 0
-unfolding buildPairPool
-few-pairs s edges total seed hist h = go (s .n) refl h
+module _ (candidates : CandidateSet) (edgeAlign : Row) (gradTotal : Float) (forceSeed forceHist : Forced) where
+  pair-counted :
+      (i j : ℕ) (p : Pool) → pairAt candidates edgeAlign gradTotal forceSeed forceHist i j p .n
+      ≡ cond (validPair (at (candidates .angles) i) (at (candidates .angles) j)) (p .n + 1) (p .n)
+  unfolding pairAt pooled
+  pair-counted i j p = go (validPair (at (candidates .angles) i) (at (candidates .angles) j))
+    where
+      go : (b : Bool) → cond b (pooled (pairScore edgeAlign gradTotal forceSeed forceHist i j) p) p .n ≡ cond b (p .n + 1) (p .n)
+      go true = refl
+      go false = refl
+
+  row-counted : (i : ℕ) (p : Pool) → pairsFrom candidates edgeAlign gradTotal forceSeed forceHist i p .n ≡ allowedFrom candidates i (p .n)
+  unfolding pairsFrom allowedFrom range
+  row-counted i p =
+      iter-through (λ p. p .n) (λ d. pairAt candidates edgeAlign gradTotal forceSeed forceHist i (i + 1 + d)) _ p (candidates .n - (i + 1))
+      (λ d x. pair-counted i (i + 1 + d) x)
+
+  pool-counted : buildPairPool candidates edgeAlign gradTotal forceSeed forceHist .n ≡ allowedOf candidates
+  unfolding buildPairPool allowedOf
+  pool-counted =
+      iter-through (λ p. p .n) (pairsFrom candidates edgeAlign gradTotal forceSeed forceHist) (allowedFrom candidates) noPairs (candidates .n) row-counted
+
+-- fewer than two candidates have none
+few-allowed : (candidates : CandidateSet) → candidates .n < 2 → allowedOf candidates ≡ 0
+unfolding allowedOf
+few-allowed candidates h = go (candidates .n) refl h
   where
-    none : (p : Pool) → p .n ≡ 0 → s .n ≡ 1 → pairsFrom s edges total seed hist 0 p .n ≡ 0
-    none p z e = unfold pairsFrom in rw (e, range-start) z
+    none : candidates .n ≡ 1 → allowedFrom candidates 0 0 ≡ 0
+    none e = unfold allowedFrom in rw (e, range-start)
 
     two : (m : ℕ) → suc (suc m) < 2 → ⊥
     two m h = omega arith
 
-    go : (m : ℕ) → s .n ≡ m → m < 2 → iter (pairsFrom s edges total seed hist) noPairs m .n ≡ 0
+    go : (m : ℕ) → candidates .n ≡ m → m < 2 → iter (allowedFrom candidates) 0 m ≡ 0
     go zero e h = unfold iter in refl
-    go (suc zero) e h = unfold iter in none noPairs refl e
+    go (suc zero) e h = unfold iter in none e
     go (suc (suc m)) e h = absurd (two m h)
 
-module _ (D : Disk) (base0 base1 : Float) where
+module _ (D : DiskData) (base0 base1 : Float) where
   -- whatever is refused before a trial is what no trial leaves
   pub best-is-led : bestDiskFit D base0 base1 ≡ led D (leadersOf D base0 base1)
-  unfolding bestDiskFit searched leadersOf pairsTried poolOf
-  best-is-led = go (ltb (s .n) 2) (eqb (pool .n) 0)
+  unfolding bestDiskFit searched leadersOf pairsTried poolHere
+  best-is-led = go (ltb (candidates .n) 2) (eqb (pool .n) 0)
     where
-      s : CandidateSet
-      s = candidatesOf D base0 base1
+      candidates : CandidateSet
+      candidates = candidatesOf D base0 base1
 
       pool : Pool
-      pool = poolBy (D .n) (D .angles) (D .weights) s base0 base1
+      pool = poolOf D candidates base0 base1
 
       after : List PairScore → Leaders
-      after ps = triedAll (D .n) (D .energy) (D .xs) (D .ys) (D .vals) s ps
+      after ps = triedAll D candidates ps
 
-      go : (a b : Bool) → cond a (Missing 0) (cond b (Missing 0) (led D (after (ranked pool)))) ≡ led D (after (cond a [] (cond b [] (ranked pool))))
-      go true b = none-led D s
-      go false true = none-led D s
+      go :
+          (a b : Bool) → cond a (Missing 0) (cond b (Missing 0) (led D (after (ranked pool))))
+          ≡ led D (after (cond a [] (cond b [] (ranked pool))))
+      go true b = none-led D candidates
+      go false true = none-led D candidates
       go false false = refl
 
-  pub leaders-counted : Counted (leadersOf D base0 base1) (4 * pairsKept D base0 base1) (answeredTrials D base0 base1)
+  leaders-counted : Counted (leadersOf D base0 base1) (4 * pairsKept D base0 base1) (answeredTrials D base0 base1)
   unfolding leadersOf answeredTrials answeredAt trial triedAll triedAt pairsKept iter
-  leaders-counted = rw z (at-width 3 _ _ _ (at-width 2 _ _ _ (at-width 1 _ _ _ (at-width 0 noLeaders 0 0 (record { trials = refl; top = record { places = refl; order = omega arith } })))))
+  leaders-counted = rw z (at-width 3 _ _ _ (at-width 2 _ _ _ (at-width 1 _ _ _ (at-width 0 noLeaders 0 0 start))))
     where
       k : ℕ
       k = pairsKept D base0 base1
@@ -143,42 +182,51 @@ module _ (D : Disk) (base0 base1 : Float) where
       z : 4 * k ≡ 0 + k + k + k + k
       z = omega arith
 
-      at-width : (w : ℕ) (l : Leaders) (t c : ℕ) → Counted l t c →
-          Counted (triedAt (D .n) (D .energy) (D .xs) (D .ys) (D .vals) (candidatesOf D base0 base1) (pairsTried D base0 base1) (widthAt w) l) (t + k) (answeredAt D base0 base1 (widthAt w) c)
-      at-width w l t c h = turns-counted (trial D base0 base1 (widthAt w)) l t c k h
+      start : Counted noLeaders 0 0
+      start = record { trials = refl; top = record { places = refl; order = omega arith } }
+
+      at-width :
+          (w : ℕ) (l : Leaders) (t c : ℕ) → Counted l t c →
+          Counted (triedAt D (candidatesOf D base0 base1) (pairsTried D base0 base1) (at widthsPx w) l) (t + k)
+          (answeredAt D base0 base1 (at widthsPx w) c)
+      at-width w l t c h = turns-counted (trial D base0 base1 (at widthsPx w)) l t c k h
 
   -- the second place is filled only where the first is
-  pub leaders-in-order : filled (leadersOf D base0 base1 .top .second) ≤ filled (leadersOf D base0 base1 .top .first)
+  leaders-in-order : filled (leadersOf D base0 base1 .top .second) ≤ filled (leadersOf D base0 base1 .top .first)
   leaders-in-order = leaders-counted .top .order
 
   -- m is the lesser of 2 and the trials that answered
-  pub leaders-are : leadersKept D base0 base1 ≡ min 2 (answeredTrials D base0 base1)
+  pub leaders-are : leadersKept D base0 base1 ≡ min topFits (answeredTrials D base0 base1)
   unfolding leadersKept
   leaders-are = leaders-counted .top .places
 
-  pub leaders-most : leadersKept D base0 base1 ≤ 2
+  leaders-most : leadersKept D base0 base1 ≤ 2
   leaders-most = let e = leaders-are in omega arith
 
   -- k is the lesser of 24 and the allowed pairs
-  pub pairs-are : pairsKept D base0 base1 ≡ min 24 (poolOf D base0 base1 .n)
-  unfolding pairsKept pairsTried
-  pairs-are = go (ltb (s .n) 2) (eqb (pool .n) 0) (λ e. pool-none (ltb-true (s .n) 2 e)) (eqb-true (pool .n) 0) refl refl
+  pub pairs-are : pairsKept D base0 base1 ≡ min maxTopPairs (allowedPairs D base0 base1)
+  unfolding pairsKept pairsTried allowedPairs
+  pairs-are =
+      go (ltb (candidates .n) 2) (eqb (pool .n) 0) (λ e. few-allowed candidates (ltb-true (candidates .n) 2 e)) (eqb-true (pool .n) 0) refl refl
     where
-      s : CandidateSet
-      s = candidatesOf D base0 base1
+      candidates : CandidateSet
+      candidates = candidatesOf D base0 base1
 
       pool : Pool
-      pool = poolOf D base0 base1
+      pool = poolHere D base0 base1
 
-      pool-none : s .n < 2 → pool .n ≡ 0
-      pool-none h = unfold poolOf poolBy in few-pairs s _ _ _ _ h
+      counted : pool .n ≡ allowedOf candidates
+      counted = unfold poolHere poolOf in pool-counted candidates _ _ _ _
 
-      go : (a b : Bool) → (ltb (s .n) 2 ≡ true → pool .n ≡ 0) → (eqb (pool .n) 0 ≡ true → pool .n ≡ 0) → ltb (s .n) 2 ≡ a → eqb (pool .n) 0 ≡ b → length (cond a [] (cond b [] (ranked pool))) ≡ min 24 (pool .n)
+      go :
+          (a b : Bool) → (ltb (candidates .n) 2 ≡ true → allowedOf candidates ≡ 0) → (eqb (pool .n) 0 ≡ true → pool .n ≡ 0) →
+          ltb (candidates .n) 2 ≡ a → eqb (pool .n) 0 ≡ b →
+          length (cond a [] (cond b [] (ranked pool))) ≡ min maxTopPairs (allowedOf candidates)
       go true b f g e d = let z = f e in omega arith
-      go false true f g e d = let z = g d in omega arith
-      go false false f g e d = ranked-length pool
+      go false true f g e d = let z = g d in let c = counted in omega arith
+      go false false f g e d = rw (← counted) (ranked-length pool)
 
-  pub pairs-most : pairsKept D base0 base1 ≤ 24
+  pairs-most : pairsKept D base0 base1 ≤ 24
   pairs-most = let e = pairs-are in omega arith
 
   -- the bill: four trials for each ranked pair, 24 for each leader
@@ -195,7 +243,8 @@ module _ (D : Disk) (base0 base1 : Float) where
   -- where nothing is found there was no leader
   pub missing-leaders : (t : ℕ) → bestDiskFit D base0 base1 ≡ Missing t → leadersKept D base0 base1 ≡ 0
   unfolding leadersKept led firstLed secondLed
-  missing-leaders t e = go (leadersOf D base0 base1 .top .first) (leadersOf D base0 base1 .top .second) leaders-in-order (sym best-is-led ∙ e)
+  missing-leaders t e =
+      go (leadersOf D base0 base1 .top .first) (leadersOf D base0 base1 .top .second) leaders-in-order (sym best-is-led ∙ e)
     where
       never : {f : Fit} {n : ℕ} → Best f n ≡ Missing t → ⊥
       never e = let z : _≡_ {A = ℕ} 0 1 = cc in omega arith
@@ -204,7 +253,8 @@ module _ (D : Disk) (base0 base1 : Float) where
       second Nothing s e = never e
       second (Found w) s e = never e
 
-      go : (a b : Scored) → filled b ≤ filled a → firstLed D (leadersOf D base0 base1 .trials) a b ≡ Missing t → filled a + filled b ≡ 0
+      go :
+          (a b : Scored) → filled b ≤ filled a → firstLed D (leadersOf D base0 base1 .trials) a b ≡ Missing t → filled a + filled b ≡ 0
       go Nothing b o e = omega arith
       go (Found v) b o e = absurd (second b _ e)
 

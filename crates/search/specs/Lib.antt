@@ -1,5 +1,6 @@
 pub mod Search
-pub mod SearchLaws
+pub mod Cache
+pub mod CacheLaws
 pub mod Bill
 pub mod BillLaws
 pub mod AnglesLaws

@@ -1,5 +1,5 @@
--- Whatever the trials answer with, and every neighbour of such a fit, the answer has: it is one of their fits. So its axes lie in their ranges, its amplitude is NaN or not below zero,
--- and its width is one of the four. Assumes nothing.
+-- Whatever the trials answer with, and every neighbour of such a fit, the answer has: it is one of their fits. So its axes lie in their ranges,
+-- its amplitude is NaN or not below zero, and its width is one of the four. Assumes nothing.
 use mathlib.Core.Path.{_≡_, refl, sym, subst, _∙_}
 use mathlib.Core.Bool.{Bool, true, false, cond}
 use Prim.Native.Nat.{ℕ, _≤_, _<_}
@@ -8,23 +8,26 @@ use lib.ListN.{length, getD}
 use lib.Dec.{T}
 use lib.Ieee.{Float, binary32, fits}
 use lib.Ieee.Fits.{add-fits}
-use Rattle.score_edges.specs.Edges.{edgeWeightTotal}
-use Rattle.loops.specs.Loops.{iter}
+use Rattle.floats.specs.Rows.{Row, at}
 use Rattle.loops.specs.IterLaws.{iter-keeps}
+use Rattle.data.specs.Data.{DiskData}
 use Rattle.search_ranking.specs.Ranking.{blank}
 use Rattle.search_ranking.specs.WithinLaws.{iter-keeps-below}
-use Rattle.score.specs.Score.{scorePairCached, fitIsBetter}
+use Rattle.score.specs.Score.{widthsPx, scorePairCached, fitIsBetter}
 use Rattle.score.specs.ScoreLaws.{SoundFit, scored-sound, scored-width}
 use Rattle.score.specs.declared.Fit.{Fit}
 use Rattle.score.specs.declared.Scored.{Scored}
 use Rattle.score.specs.declared.Scored.the-variants.{Found, Nothing}
-use Rattle.search_refine.specs.Refine.{Row, at, Disk, offsetsBy, stepOf, isCentre, judged, neighbour, scored, tried, around, refineFit}
+use Rattle.search_refine.specs.Refine.{offsets, neighbour, tried, bestAfter, refineFitCached}
+use Rattle.search_refine.specs.RefineLaws.{better-keeps}
+use Rattle.search_refine.specs.declared.Offset.{Offset}
 use Rattle.search_refine.specs.declared.Refined.{Refined}
 use Rattle.search.specs.declared.Top.{Top}
 use Rattle.search.specs.declared.Leaders.{Leaders}
 use Rattle.search.specs.declared.DiskFit.{DiskFit}
 use Rattle.search.specs.declared.DiskFit.the-variants.{Best, Missing}
-use Rattle.search.specs.Search.{behind, insertAt, insertTop, entered, widthAt, noLeaders, pairScored, triedAt, triedAll, lead, secondLed, firstLed, led, bestDiskFit}
+use Rattle.search.specs.Search.{behind, insertAt, insertTop, entered, noLeaders, pairScored, triedAt, triedAll}
+use Rattle.search.specs.Search.{lead, secondLed, firstLed, led, bestDiskFit}
 use Rattle.search.specs.Bill.{pairsTried, trial, leadersOf}
 use Rattle.search.specs.BillLaws.{best-is-led}
 use Rattle.search.specs.AnglesLaws.{candidates-fit}
@@ -72,45 +75,24 @@ module _ (P : Fit → Type 0) where
   entered-has l (Found f) h b = insert-has (l .top .first) (l .top .second) f (b .first) (b .second) h
 
   -- ---- a refinement
-  module _ (D : Disk) (near : (b : Fit) → P b → (total : Float) (offs : Row) (i0 i1 : ℕ) (f : Fit) → neighbour D total offs b i0 i1 ≡ Found f → P f) where
-    abbrev Keeps : Refined → Type 0
-    Keeps s = P (s .best)
-
-    judged-has : (x : Scored) (s : Refined) → Has x → Keeps s → Keeps (judged x s)
-    unfolding judged
-    judged-has Nothing s h p = p
-    judged-has (Found f) s h p = better (fitIsBetter f (s .best)) f (s .best) h p
-
-    tried-has : (total : Float) (offs : Row) (i0 i1 : ℕ) (s : Refined) → Keeps s → Keeps (tried D total offs i0 i1 s)
-    unfolding tried scored
-    tried-has total offs i0 i1 s p = go (isCentre (at offs i0) (at offs i1))
-      where
-        go : (t : Bool) → Keeps (cond t s (judged (neighbour D total offs (s .best) i0 i1) s))
-        go true = p
-        go false = judged-has _ s (has _ (λ f e. near (s .best) p total offs i0 i1 f e)) p
-
-    around-has : (total : Float) (offs : Row) (s : Refined) → Keeps s → Keeps (around D total offs s)
-    unfolding around
-    around-has total offs s p =
-        iter-keeps Keeps (λ i0 s. iter (tried D total offs i0) s 3) s 3 p
-        (λ i0 s p. iter-keeps Keeps (tried D total offs i0) s 3 p (λ i1 s p. tried-has total offs i0 i1 s p))
-
-    refined-has : (seed : Fit) → P seed → Keeps (refineFit D seed)
-    unfolding refineFit
-    refined-has seed p =
-        let total = edgeWeightTotal (D .n) (D .weights) in
-        iter-keeps Keeps (λ k s. around D total (offsetsBy (stepOf k)) s) (record { best = seed; trials = 0 }) 3 p (λ k s p. around-has total (offsetsBy (stepOf k)) s p)
+  module _
+      (D : DiskData)
+      (near : (best : Fit) → P best → (total : Float) (o : Offset) (f : Fit) → neighbour D total o best ≡ Found f → P f) where
+    refined-has : (seed : Fit) → P seed → P (refineFitCached D seed .best)
+    unfolding refineFitCached bestAfter tried
+    refined-has seed p = iter-keeps P _ seed (length offsets) p (λ t best q. better-keeps P _ best (λ f e. near best q _ _ f e) q)
 
     -- ---- the leaders
     abbrev Says : DiskFit → Type 0
     Says (Best f t) = P f
     Says (Missing t) = 0 ≤ 0
 
-    lead-has : (seed : Fit) (s : Refined) → P seed → Keeps s → Keeps (lead D seed s)
+    lead-has : (seed : Fit) (s : Refined) → P seed → P (s .best) → P (lead D seed s .best)
     unfolding lead
-    lead-has seed s p q = better (fitIsBetter (refineFit D seed .best) (s .best)) (refineFit D seed .best) (s .best) (refined-has seed p) q
+    lead-has seed s p q =
+        better (fitIsBetter (refineFitCached D seed .best) (s .best)) (refineFitCached D seed .best) (s .best) (refined-has seed p) q
 
-    second-has : (b : Scored) (s : Refined) → Has b → Keeps s → Says (secondLed D b s)
+    second-has : (b : Scored) (s : Refined) → Has b → P (s .best) → Says (secondLed D b s)
     unfolding secondLed
     second-has Nothing s h p = p
     second-has (Found w) s h p = lead-has w s h p
@@ -121,35 +103,45 @@ module _ (P : Fit → Type 0) where
     first-has t (Found v) b h k = second-has b _ k (lead-has v (record { best = v; trials = t }) h h)
 
     -- ---- the whole search: what every trial answers with and every neighbour keeps, the answer has
-    pub search-inherits : (base0 base1 : Float) → ((w : ℕ) → w < 4 → (r : ℕ) (f : Fit) → trial D base0 base1 (widthAt w) r ≡ Found f → P f) → (f : Fit) (t : ℕ) → bestDiskFit D base0 base1 ≡ Best f t → P f
+    search-inherits :
+        (base0 base1 : Float) →
+        ((w : ℕ) → w < length widthsPx → (r : ℕ) (f : Fit) → trial D base0 base1 (at widthsPx w) r ≡ Found f → P f) →
+        (f : Fit) (t : ℕ) → bestDiskFit D base0 base1 ≡ Best f t → P f
     unfolding led leadersOf triedAll triedAt trial
     search-inherits base0 base1 seeds f t e =
         let l = leadersOf D base0 base1 in
         let b : Both (l .top) =
-        iter-keeps-below (λ (l : Leaders). Both (l .top)) _ noLeaders 4 (record { first = omega arith; second = omega arith })
-        (λ w l h b. iter-keeps (λ (l : Leaders). Both (l .top)) _ l (length (pairsTried D base0 base1)) b (λ r l b. entered-has l _ (has _ (λ f e. seeds w h r f e)) b)) in
+        iter-keeps-below (λ (l : Leaders). Both (l .top)) _ noLeaders (length widthsPx) (record { first = omega arith; second = omega arith })
+        (λ w l h b. iter-keeps (λ (l : Leaders). Both (l .top)) _ l (length (pairsTried D base0 base1)) b
+        (λ r l b. entered-has l _ (has _ (λ f e. seeds w h r f e)) b)) in
         subst Says (sym (best-is-led D base0 base1) ∙ e) (first-has (l .trials) (l .top .first) (l .top .second) (b .first) (b .second))
 
 -- what every score of two axes that f32 holds has, the answer has
-pub search-keeps : (D : Disk) (base0 base1 : Float) (P : Fit → Type 0) →
-    ((theta0 theta1 width edge-score : Float) (h0 h1 : Row) (f : Fit) → T (fits binary32 theta0) → T (fits binary32 theta1) → scorePairCached (D .n) (D .energy) (D .vals) theta0 theta1 width edge-score h0 h1 ≡ Found f → P f) →
+search-keeps :
+    (D : DiskData) (base0 base1 : Float) (P : Fit → Type 0) →
+    ((theta0 theta1 width edgeScore : Float) (h0 h1 : Row) (f : Fit) → T (fits binary32 theta0) → T (fits binary32 theta1) →
+    scorePairCached D theta0 theta1 width edgeScore h0 h1 ≡ Found f → P f) →
     (f : Fit) (t : ℕ) → bestDiskFit D base0 base1 ≡ Best f t → P f
 unfolding neighbour trial pairScored
 search-keeps D base0 base1 P each f t e =
     let held = candidates-fit D base0 base1 in
-    search-inherits P D (λ b p total offs i0 i1 f e. each _ _ _ _ _ _ f (add-fits binary32 (b .theta1) (at offs i0)) (add-fits binary32 (b .theta2) (at offs i1)) e) base0 base1
+    search-inherits P D
+    (λ best p total o f e. each _ _ _ _ _ _ f (add-fits binary32 (best .theta1) (o .d0)) (add-fits binary32 (best .theta2) (o .d1)) e) base0 base1
     (λ w h r f e. let p = getD (pairsTried D base0 base1) r blank in each _ _ _ _ _ _ f (held .each (p .i)) (held .each (p .j)) e)
     f t e
 
-pub search-sound : (D : Disk) (base0 base1 : Float) (f : Fit) (t : ℕ) → bestDiskFit D base0 base1 ≡ Best f t → SoundFit f
-search-sound D base0 base1 f t e = search-keeps D base0 base1 SoundFit (λ theta0 theta1 width edge-score h0 h1 f p q e. scored-sound (D .n) (D .energy) (D .vals) theta0 theta1 width edge-score h0 h1 f p q e) f t e
+pub search-sound : (D : DiskData) (base0 base1 : Float) (f : Fit) (t : ℕ) → bestDiskFit D base0 base1 ≡ Best f t → SoundFit f
+search-sound D base0 base1 f t e =
+    search-keeps D base0 base1 SoundFit
+    (λ theta0 theta1 width edgeScore h0 h1 f p q e. scored-sound D theta0 theta1 width edgeScore h0 h1 f p q e) f t e
 
--- ---- the width
--- the answer's width is one of the four
-pub width-known : (D : Disk) (base0 base1 : Float) (f : Fit) (t : ℕ) → bestDiskFit D base0 base1 ≡ Best f t → (w : ℕ) × (w < 4) × (f .width ≡ widthAt w)
+-- ---- the width: one of the four
+pub width-known :
+    (D : DiskData) (base0 base1 : Float) (f : Fit) (t : ℕ) → bestDiskFit D base0 base1 ≡ Best f t →
+    (w : ℕ) × (w < length widthsPx) × (f .width ≡ at widthsPx w)
 unfolding neighbour trial pairScored
 width-known D base0 base1 f t e =
-    search-inherits (λ f. (w : ℕ) × (w < 4) × (f .width ≡ widthAt w)) D
-    (λ b p total offs i0 i1 f e. (p .0, p .1, scored-width _ _ _ _ _ _ _ _ _ f e ∙ p .2)) base0 base1
-    (λ w h r f e. (w, h, scored-width _ _ _ _ _ _ _ _ _ f e))
+    search-inherits (λ f. (w : ℕ) × (w < length widthsPx) × (f .width ≡ at widthsPx w)) D
+    (λ best p total o f e. (p .0, p .1, scored-width D _ _ _ _ _ _ f e ∙ p .2)) base0 base1
+    (λ w h r f e. (w, h, scored-width D _ _ _ _ _ _ f e))
     f t e

@@ -1,4 +1,5 @@
-// The whole disk search: disk_sector/search.rs, insert_top and best_disk_fit.
+// The whole disk search: disk_sector/search.rs, insert_top and best_disk_fit. Its step 3 is in
+// search_ranking.
 use candidates::CandidateSet;
 use candidates::PairScore;
 use candidates::Pool;
@@ -8,13 +9,16 @@ use search_ranking::Ranked;
 use search_refine::Refined;
 ghost use mathlib.Core.Path.{_≡_};
 ghost use Prim.Native.Nat.{_+_, _*_, _≤_, _<_};
-ghost use lib.ListN.{length, take, drop};
-ghost use Rattle.search_refine.specs.Refine.{diskOf};
-ghost use Rattle.search_refine.specs.RefineLaws.{Sized, Room};
+ghost use lib.ListN.{length, take};
+ghost use Rattle.data.specs.Data.{diskOf, OfPixels, OfValues, OfGradients, Sized, maxTanhPixels};
+ghost use Rattle.candidates.specs.Candidates.{maxPaired, maxPairs};
 ghost use Rattle.search.specs.Search as S;
-ghost use Rattle.search.specs.SearchLaws.{Cached, Keeps, Listed, cachedScore};
+ghost use Rattle.search.specs.Cache as K;
 
-// The better two so far, in the order of their arrival among equals.
+// A row for each of the candidates that are paired.
+const CACHE: usize = candidates::MAX_PAIRED * data::MAX_TANH_PIXELS;
+
+// The better TOP_FITS = 2 so far, in the order of their arrival among equals.
 pub struct Top {
     pub first: Scored,
     pub second: Scored,
@@ -24,6 +28,12 @@ pub struct Top {
 pub struct Leaders {
     pub top: Top,
     pub trials: usize,
+}
+
+// The leaders so far at one width, and which rows the cache holds by then.
+pub struct Pass {
+    pub leaders: Leaders,
+    pub filled: [bool; candidates::MAX_PAIRED],
 }
 
 // The best fit with the number of trials, or that number alone.
@@ -64,149 +74,163 @@ pub fn insert_top(top: Top, fit: Fit) -> Top
     top
 }
 
+// A trial that answers nothing counts too.
 fn entered(s: Leaders, answer: Scored) -> Leaders
     requires { ⌜ s .trials < 1000 ⌝ }
     ensures { λ r. ⌜ (r .trials ≡ s .trials + 1) × (r ≡ S.entered s answer) ⌝ }
 {
     let top = s.top;
     let trials = s.trials + 1;
-    let Scored::Found(f) = answer else {
+    let Scored::Found(fit) = answer else {
         return Leaders { top, trials };
     };
     Leaders {
-        top: insert_top(top, f),
+        top: insert_top(top, fit),
         trials,
     }
 }
 
-fn width_at(w: usize) -> f32
-    requires { ⌜ w < 4 ⌝ }
-    ensures { λ r. ⌜ r ≡ S.widthAt w ⌝ }
-{
-    let widths = [0.35f32, 0.7, 1.4, 2.8];
-    widths[w]
-}
-
-// The row of candidate c at one width, unless it stands in the cache already.
+// Step 4: the row of candidate c at one width, unless it stands in the cache already. The Rust first
+// marks the candidates of all kept pairs; here a row is made when a pair first asks for it.
 fn ensure_row(
-    set: CandidateSet,
+    candidates: CandidateSet,
     xs: &[f32],
     ys: &[f32],
     width: f32,
     c: usize,
-    filled: &mut [bool],
+    filled: [bool; candidates::MAX_PAIRED],
     cache: &mut [f32],
-)
-    requires { ⌜ (c < 24) × (length (now ys) ≡ length (now xs)) × (length (now xs) ≤ 320) × Cached (now xs) (now ys) set width (now filled) (now cache) ⌝ }
-    ensures { λ _. ⌜ Cached (now (xs .entry)) (now (ys .entry)) set width (now (filled .exit)) (now (cache .exit)) × Keeps (now (filled .entry)) (now (filled .exit)) c ⌝ }
+) -> [bool; candidates::MAX_PAIRED]
+    requires { ⌜ (c < maxPaired) × (length (now ys) ≡ length (now xs)) × (length (now xs) ≤ maxTanhPixels)
+        × K.Cached (now xs) (now ys) candidates width filled (now cache) ⌝ }
+    ensures { λ r. ⌜ K.Cached (now (xs .entry)) (now (ys .entry)) candidates width r (now (cache .exit)) × K.Keeps filled r c ⌝ }
 {
     if filled[c] {
-        return;
+        return filled;
     }
     let n = xs.len();
-    let b = c * 320;
+    let b = c * data::MAX_TANH_PIXELS;
     let e = b + n;
-    search_refine::axis_row(xs, ys, set.angles[c], width, &mut cache[b..e]);
-    filled[c] = true;
+    score::axis_row(xs, ys, candidates.angles[c], width, &mut cache[b..e]);
+    let mut marked = filled;
+    marked[c] = true;
+    marked
 }
 
 // A pair scored from the rows in the cache.
 fn score_cached(
-    energy: f32,
-    vals: &[f32],
-    a0: f32,
-    a1: f32,
-    width: f32,
-    edge_score: f32,
-    cache: &[f32],
-    i: usize,
-    j: usize,
-) -> Scored
-    requires { ⌜ (i < 24) × (j < 24) × (length (now vals) ≤ 320) × (length (now cache) ≡ 7680) ⌝ }
-    ensures { λ r. ⌜ r ≡ cachedScore energy (now (vals .entry)) a0 a1 width «edge_score» (now (cache .entry)) i j ⌝ }
-{
-    let n = vals.len();
-    let x = i * 320;
-    let xe = x + n;
-    let y = j * 320;
-    let ye = y + n;
-    score::score_pair_cached(
-        energy,
-        vals,
-        a0,
-        a1,
-        width,
-        edge_score,
-        &cache[x..xe],
-        &cache[y..ye],
-    )
-}
-
-// One ranked pair at one width.
-fn try_pair(
-    l: Leaders,
-    energy: f32,
-    xs: &[f32],
-    ys: &[f32],
-    vals: &[f32],
-    set: CandidateSet,
+    val_energy: f32,
+    vals_centered: &[f32],
+    candidates: CandidateSet,
     p: PairScore,
     width: f32,
-    filled: &mut [bool],
-    cache: &mut [f32],
-) -> Leaders
-    requires { ⌜ (l .trials < 1000) × (p .i < 24) × (p .j < 24) × (length (now ys) ≡ length (now xs)) × (length (now vals) ≡ length (now xs)) × (length (now xs) ≤ 320) × Cached (now xs) (now ys) set width (now filled) (now cache) ⌝ }
-    ensures { λ r. ⌜ Cached (now (xs .entry)) (now (ys .entry)) set width (now (filled .exit)) (now (cache .exit)) × (r .trials ≡ l .trials + 1) × (r ≡ S.entered l (S.pairScored (length (now (xs .entry))) energy (now (xs .entry)) (now (ys .entry)) (now (vals .entry)) set width p)) ⌝ }
+    cache: &[f32],
+) -> Scored
+    requires { ⌜ (p .i < maxPaired) × (p .j < maxPaired) × (length (now «vals_centered») ≤ maxTanhPixels) × (length (now cache) ≡ K.cacheRoom) ⌝ }
+    ensures { λ r. ⌜ OfValues «val_energy» (now («vals_centered» .entry)) (λ D. r ≡ K.cachedScore D candidates width p (now (cache .entry))) ⌝ }
 {
     let i = p.i as usize;
     let j = p.j as usize;
-    ensure_row(set, xs, ys, width, i, filled, cache);
-    ensure_row(set, xs, ys, width, j, filled, cache);
-    let a0 = set.angles[i];
-    let a1 = set.angles[j];
-    let answer = score_cached(energy, vals, a0, a1, width, p.edge_score, cache, i, j);
-    entered(l, answer)
+    let n = vals_centered.len();
+    let a = i * data::MAX_TANH_PIXELS;
+    let ae = a + n;
+    let b = j * data::MAX_TANH_PIXELS;
+    let be = b + n;
+    score::score_pair_cached(
+        val_energy,
+        vals_centered,
+        candidates.angles[i],
+        candidates.angles[j],
+        width,
+        p.edge_score,
+        &cache[a..ae],
+        &cache[b..be],
+    )
 }
 
-// The ranked pairs in their order at one width.
-fn try_width(
-    s: Leaders,
-    energy: f32,
+// Step 5: one ranked pair at one width.
+fn try_pair(
+    pass: Pass,
+    val_energy: f32,
     xs: &[f32],
     ys: &[f32],
-    vals: &[f32],
-    set: CandidateSet,
+    vals_centered: &[f32],
+    candidates: CandidateSet,
+    p: PairScore,
+    width: f32,
+    cache: &mut [f32],
+) -> Pass
+    requires { ⌜ (pass .leaders .trials < 1000) × (p .i < maxPaired) × (p .j < maxPaired)
+        × K.Pixels (now xs) (now ys) (now «vals_centered») × K.Cached (now xs) (now ys) candidates width (pass .filled) (now cache) ⌝ }
+    ensures { λ r. ⌜ K.Cached (now (xs .entry)) (now (ys .entry)) candidates width (r .filled) (now (cache .exit))
+        × (r .leaders .trials ≡ pass .leaders .trials + 1)
+        × OfPixels «val_energy» (now (xs .entry)) (now (ys .entry)) (now («vals_centered» .entry))
+        (λ D. r .leaders ≡ S.entered (pass .leaders) (S.pairScored D candidates width p)) ⌝ }
+{
+    let i = p.i as usize;
+    let j = p.j as usize;
+    let before = pass.filled;
+    let one = ensure_row(candidates, xs, ys, width, i, before, cache);
+    let filled = ensure_row(candidates, xs, ys, width, j, one, cache);
+    let answer = score_cached(val_energy, vals_centered, candidates, p, width, cache);
+    let leaders = entered(pass.leaders, answer);
+    Pass { leaders, filled }
+}
+
+// Step 5: the ranked pairs in their order at one width.
+fn try_width(
+    leaders: Leaders,
+    val_energy: f32,
+    xs: &[f32],
+    ys: &[f32],
+    vals_centered: &[f32],
+    candidates: CandidateSet,
     ranked: Ranked,
     width: f32,
     cache: &mut [f32],
 ) -> Leaders
-    requires { ⌜ (s .trials ≤ 72) × Listed ranked × (length (now ys) ≡ length (now xs)) × (length (now vals) ≡ length (now xs)) × (length (now xs) ≤ 320) × (length (now cache) ≡ 7680) ⌝ }
-    ensures { λ r. ⌜ (length (now (cache .exit)) ≡ 7680) × (r .trials ≡ s .trials + ranked .n) × (r ≡ S.triedAt (length (now (xs .entry))) energy (now (xs .entry)) (now (ys .entry)) (now (vals .entry)) set (take (ranked .n) (ranked .pairs)) width s) ⌝ }
+    requires { ⌜ (leaders .trials ≤ 72) × K.Listed ranked × K.Pixels (now xs) (now ys) (now «vals_centered»)
+        × (length (now cache) ≡ K.cacheRoom) ⌝ }
+    ensures { λ r. ⌜ (length (now (cache .exit)) ≡ K.cacheRoom) × (r .trials ≡ leaders .trials + ranked .n)
+        × OfPixels «val_energy» (now (xs .entry)) (now (ys .entry)) (now («vals_centered» .entry))
+        (λ D. r ≡ S.triedAt D candidates (take (ranked .n) (ranked .pairs)) width leaders) ⌝ }
 {
-    let mut filled = [false; 24];
     let k = ranked.n;
-    let mut l = s;
+    let filled = [false; candidates::MAX_PAIRED];
+    let mut pass = Pass { leaders, filled };
     for r in 0..k {
         let p = ranked.pairs[r];
-        l = try_pair(l, energy, xs, ys, vals, set, p, width, &mut filled, cache);
+        pass = try_pair(
+            pass,
+            val_energy,
+            xs,
+            ys,
+            vals_centered,
+            candidates,
+            p,
+            width,
+            cache,
+        );
     }
-    l
+    pass.leaders
 }
 
-// All widths, the widths outermost; `cache` is lent as scratch.
+// Step 5: all widths, the widths outermost; `cache` is lent as scratch.
 fn try_widths(
-    energy: f32,
+    val_energy: f32,
     xs: &[f32],
     ys: &[f32],
-    vals: &[f32],
-    set: CandidateSet,
+    vals_centered: &[f32],
+    candidates: CandidateSet,
     ranked: Ranked,
     cache: &mut [f32],
 ) -> Leaders
-    requires { ⌜ Listed ranked × (length (now ys) ≡ length (now xs)) × (length (now vals) ≡ length (now xs)) × (length (now xs) ≤ 320) × (length (now cache) ≡ 7680) ⌝ }
-    ensures { λ r. ⌜ (r .trials ≡ 4 * ranked .n) × (r ≡ S.triedAll (length (now (xs .entry))) energy (now (xs .entry)) (now (ys .entry)) (now (vals .entry)) set (take (ranked .n) (ranked .pairs))) ⌝ }
+    requires { ⌜ K.Listed ranked × K.Pixels (now xs) (now ys) (now «vals_centered») × (length (now cache) ≡ K.cacheRoom) ⌝ }
+    ensures { λ r. ⌜ (r .trials ≡ 4 * ranked .n)
+        × OfPixels «val_energy» (now (xs .entry)) (now (ys .entry)) (now («vals_centered» .entry))
+        (λ D. r ≡ S.triedAll D candidates (take (ranked .n) (ranked .pairs))) ⌝ }
 {
-    let mut l = Leaders {
+    let mut leaders = Leaders {
         top: Top {
             first: Scored::Nothing,
             second: Scored::Nothing,
@@ -214,180 +238,232 @@ fn try_widths(
         trials: 0,
     };
     for w in 0..4usize {
-        let width = width_at(w);
-        l = try_width(l, energy, xs, ys, vals, set, ranked, width, cache);
+        let width = score::WIDTHS_PX[w];
+        leaders = try_width(
+            leaders,
+            val_energy,
+            xs,
+            ys,
+            vals_centered,
+            candidates,
+            ranked,
+            width,
+            cache,
+        );
     }
-    l
+    leaders
 }
 
-// The same, with the rows on this call's stack: 24 rows of 320 places.
+// Step 5, with the cache on this call's stack.
 fn try_all(
-    energy: f32,
+    val_energy: f32,
     xs: &[f32],
     ys: &[f32],
-    vals: &[f32],
-    set: CandidateSet,
+    vals_centered: &[f32],
+    candidates: CandidateSet,
     ranked: Ranked,
 ) -> Leaders
-    requires { ⌜ Listed ranked × (length (now ys) ≡ length (now xs)) × (length (now vals) ≡ length (now xs)) × (length (now xs) ≤ 320) ⌝ }
-    ensures { λ r. ⌜ (r .trials ≡ 4 * ranked .n) × (r ≡ S.triedAll (length (now (xs .entry))) energy (now (xs .entry)) (now (ys .entry)) (now (vals .entry)) set (take (ranked .n) (ranked .pairs))) ⌝ }
+    requires { ⌜ K.Listed ranked × K.Pixels (now xs) (now ys) (now «vals_centered») ⌝ }
+    ensures { λ r. ⌜ (r .trials ≡ 4 * ranked .n)
+        × OfPixels «val_energy» (now (xs .entry)) (now (ys .entry)) (now («vals_centered» .entry))
+        (λ D. r ≡ S.triedAll D candidates (take (ranked .n) (ranked .pairs))) ⌝ }
 {
-    let mut cache = [0.0f32; 7680];
-    try_widths(energy, xs, ys, vals, set, ranked, &mut cache)
+    let mut cache = [0.0f32; CACHE];
+    try_widths(
+        val_energy,
+        xs,
+        ys,
+        vals_centered,
+        candidates,
+        ranked,
+        &mut cache,
+    )
 }
 
-// A leader refined, and the better of it and what was found so far.
+// Step 6: a leader refined, and the better of it and what was found so far.
 fn lead(
     s: Refined,
     seed: Fit,
-    energy: f32,
+    val_energy: f32,
     xs: &[f32],
     ys: &[f32],
-    vals: &[f32],
-    angles: &[f32],
-    weights: &[f32],
-    terms: &mut [f32],
+    vals_centered: &[f32],
+    grad_angles: &[f32],
+    grad_weights: &[f32],
 ) -> Refined
-    requires { ⌜ (s .trials < 1000) × (length (now vals) ≡ length (now xs)) × Sized (now xs) (now ys) (now angles) (now weights) (now terms) ⌝ }
-    ensures { λ r. ⌜ Sized (now (xs .entry)) (now (ys .entry)) (now (angles .entry)) (now (weights .entry)) (now (terms .exit)) × (r .trials ≡ s .trials + 24) × (r ≡ S.lead (diskOf energy (now (xs .entry)) (now (ys .entry)) (now (vals .entry)) (now (angles .entry)) (now (weights .entry))) seed s) ⌝ }
+    requires { ⌜ (s .trials < 1000) × Sized (now xs) (now ys) (now «vals_centered») (now «grad_angles») (now «grad_weights») ⌝ }
+    ensures { λ r. ⌜ (r .trials ≡ s .trials + 24) × (r ≡ S.lead
+        (diskOf «val_energy» (now (xs .entry)) (now (ys .entry)) (now («vals_centered» .entry)) (now («grad_angles» .entry)) (now («grad_weights» .entry)))
+        seed s) ⌝ }
 {
     let best = s.best;
-    let mut r1 = [0.0f32; 960];
-    let mut e1 = [0.0f32; 3];
-    let mut r2 = [0.0f32; 960];
-    let mut e2 = [0.0f32; 3];
-    let f = search_refine::refine_fit_cached(
+    let mut rows = [0.0f32; search_rows::ROWS];
+    let refined = search_refine::refine_fit_cached(
         seed,
-        energy,
+        val_energy,
         xs,
         ys,
-        vals,
-        angles,
-        weights,
-        &mut r1,
-        &mut e1,
-        &mut r2,
-        &mut e2,
-        terms,
+        vals_centered,
+        grad_angles,
+        grad_weights,
+        &mut rows,
     );
-    let fit = f.best;
-    let trials = s.trials + f.trials;
+    let fit = refined.best;
+    let trials = s.trials + refined.trials;
     if score::fit_is_better(fit, best) {
         return Refined { best: fit, trials };
     }
     Refined { best, trials }
 }
 
-// Both leaders, as many as there are.
+// Step 6: the leaders, as many as there are.
 fn led(
-    l: Leaders,
-    energy: f32,
+    leaders: Leaders,
+    val_energy: f32,
     xs: &[f32],
     ys: &[f32],
-    vals: &[f32],
-    angles: &[f32],
-    weights: &[f32],
-    terms: &mut [f32],
+    vals_centered: &[f32],
+    grad_angles: &[f32],
+    grad_weights: &[f32],
 ) -> DiskFit
-    requires { ⌜ (l .trials ≤ 96) × (length (now vals) ≡ length (now xs)) × Sized (now xs) (now ys) (now angles) (now weights) (now terms) ⌝ }
-    ensures { λ r. ⌜ r ≡ S.led (diskOf energy (now (xs .entry)) (now (ys .entry)) (now (vals .entry)) (now (angles .entry)) (now (weights .entry))) l ⌝ }
+    requires { ⌜ (leaders .trials ≤ 96) × Sized (now xs) (now ys) (now «vals_centered») (now «grad_angles») (now «grad_weights») ⌝ }
+    ensures { λ r. ⌜ r ≡ S.led
+        (diskOf «val_energy» (now (xs .entry)) (now (ys .entry)) (now («vals_centered» .entry)) (now («grad_angles» .entry)) (now («grad_weights» .entry)))
+        leaders ⌝ }
 {
-    let top = l.top;
+    let top = leaders.top;
     let first = top.first;
     let second = top.second;
     let Scored::Found(v) = first else {
-        return DiskFit::Missing(l.trials);
+        return DiskFit::Missing(leaders.trials);
     };
     let start = Refined {
         best: v,
-        trials: l.trials,
+        trials: leaders.trials,
     };
-    let a = lead(start, v, energy, xs, ys, vals, angles, weights, terms);
+    let a = lead(
+        start,
+        v,
+        val_energy,
+        xs,
+        ys,
+        vals_centered,
+        grad_angles,
+        grad_weights,
+    );
     let Scored::Found(w) = second else {
-        let found = a.best;
-        return DiskFit::Best(found, a.trials);
+        let best = a.best;
+        return DiskFit::Best(best, a.trials);
     };
-    let b = lead(a, w, energy, xs, ys, vals, angles, weights, terms);
-    let found = b.best;
-    DiskFit::Best(found, b.trials)
+    let b = lead(
+        a,
+        w,
+        val_energy,
+        xs,
+        ys,
+        vals_centered,
+        grad_angles,
+        grad_weights,
+    );
+    let best = b.best;
+    DiskFit::Best(best, b.trials)
 }
 
-// The allowed pairs of the candidates, with their edge scores.
+// Steps 1 and 2: the allowed pairs of the candidates, with their edge scores.
 fn pool_of(
     base0: f32,
     base1: f32,
-    angles: &[f32],
-    weights: &[f32],
-    set: CandidateSet,
-    terms: &mut [f32],
+    grad_angles: &[f32],
+    grad_weights: &[f32],
+    candidates: CandidateSet,
 ) -> Pool
-    requires { ⌜ (set .n ≤ 24) × (length (now weights) ≡ length (now angles)) × (length (now terms) ≡ length (now angles)) ⌝ }
-    ensures { λ r. ⌜ (r .n ≤ 276) × (r ≡ S.poolBy (length (now (angles .entry))) (now (angles .entry)) (now (weights .entry)) set base0 base1) ⌝ }
+    requires { ⌜ (candidates .n ≤ maxPaired) × (length (now «grad_weights») ≡ length (now «grad_angles»))
+        × (length (now «grad_angles») ≤ maxTanhPixels) ⌝ }
+    ensures { λ r. ⌜ (r .n ≤ maxPairs) × OfGradients (now («grad_angles» .entry)) (now («grad_weights» .entry))
+        (λ D. r ≡ S.poolOf D candidates base0 base1) ⌝ }
 {
-    let mut edges = [0.0f32; 64];
-    let total = score::precompute_edge_alignments(angles, weights, set, terms, &mut edges);
-    let seed = candidates::forced_seed_pair(set, base0, base1);
-    let hist = candidates::forced_histogram_pair(set, &edges);
-    candidates::build_pair_pool(set, &edges, total, seed, hist)
+    let mut edge_align = [0.0f32; candidates::MAX_CANDIDATES];
+    let mut terms = [0.0f32; data::MAX_TANH_PIXELS];
+    let from = 0usize;
+    let n = grad_angles.len();
+    let grad_total = score::precompute_edge_alignments(
+        grad_angles,
+        grad_weights,
+        candidates,
+        &mut terms[from..n],
+        &mut edge_align,
+    );
+    let force_seed = candidates::forced_seed_pair(candidates, base0, base1);
+    let force_hist = candidates::forced_histogram_pair(candidates, &edge_align);
+    candidates::build_pair_pool(candidates, &edge_align, grad_total, force_seed, force_hist)
 }
 
+// Steps 1 to 6, for two candidates or more.
 fn search_set(
-    energy: f32,
+    val_energy: f32,
     base0: f32,
     base1: f32,
     xs: &[f32],
     ys: &[f32],
-    vals: &[f32],
-    angles: &[f32],
-    weights: &[f32],
-    set: CandidateSet,
-    terms: &mut [f32],
+    vals_centered: &[f32],
+    grad_angles: &[f32],
+    grad_weights: &[f32],
+    candidates: CandidateSet,
 ) -> DiskFit
-    requires { ⌜ (2 ≤ set .n) × (set .n ≤ 24) × (length (now vals) ≡ length (now xs)) × Sized (now xs) (now ys) (now angles) (now weights) (now terms) ⌝ }
-    ensures { λ r. ⌜ r ≡ S.searched (diskOf energy (now (xs .entry)) (now (ys .entry)) (now (vals .entry)) (now (angles .entry)) (now (weights .entry))) set (S.poolBy (length (now (xs .entry))) (now (angles .entry)) (now (weights .entry)) set base0 base1) ⌝ }
+    requires { ⌜ (2 ≤ candidates .n) × (candidates .n ≤ maxPaired)
+        × Sized (now xs) (now ys) (now «vals_centered») (now «grad_angles») (now «grad_weights») ⌝ }
+    ensures { λ r. ⌜ r ≡ S.searched
+        (diskOf «val_energy» (now (xs .entry)) (now (ys .entry)) (now («vals_centered» .entry)) (now («grad_angles» .entry)) (now («grad_weights» .entry)))
+        candidates base0 base1 ⌝ }
 {
-    let pool = pool_of(base0, base1, angles, weights, set, terms);
+    let pool = pool_of(base0, base1, grad_angles, grad_weights, candidates);
     if pool.n == 0 {
         return DiskFit::Missing(0);
     }
     let ranked = search_ranking::rank(pool);
-    let l = try_all(energy, xs, ys, vals, set, ranked);
-    led(l, energy, xs, ys, vals, angles, weights, terms)
+    let leaders = try_all(val_energy, xs, ys, vals_centered, candidates, ranked);
+    led(
+        leaders,
+        val_energy,
+        xs,
+        ys,
+        vals_centered,
+        grad_angles,
+        grad_weights,
+    )
 }
 
-// The search over any disk of at most 320 pixels.
+// The search over any disk of at most MAX_TANH_PIXELS pixels.
 pub fn best_disk_fit(
-    energy: f32,
+    val_energy: f32,
     base0: f32,
     base1: f32,
     xs: &[f32],
     ys: &[f32],
-    vals: &[f32],
-    angles: &[f32],
-    weights: &[f32],
+    vals_centered: &[f32],
+    grad_angles: &[f32],
+    grad_weights: &[f32],
 ) -> DiskFit
-    requires { ⌜ (length (now xs) ≤ 320) × (length (now ys) ≡ length (now xs)) × (length (now vals) ≡ length (now xs)) × (length (now angles) ≡ length (now xs)) × (length (now weights) ≡ length (now xs)) ⌝ }
-    ensures { λ r. ⌜ r ≡ S.bestDiskFit (diskOf energy (now (xs .entry)) (now (ys .entry)) (now (vals .entry)) (now (angles .entry)) (now (weights .entry))) base0 base1 ⌝ }
+    requires { ⌜ Sized (now xs) (now ys) (now «vals_centered») (now «grad_angles») (now «grad_weights») ⌝ }
+    ensures { λ r. ⌜ r ≡ S.bestDiskFit
+        (diskOf «val_energy» (now (xs .entry)) (now (ys .entry)) (now («vals_centered» .entry)) (now («grad_angles» .entry)) (now («grad_weights» .entry)))
+        base0 base1 ⌝ }
 {
     let b0 = geometry::wrap_pi(base0);
     let b1 = geometry::wrap_pi(base1);
-    let set = candidates::histogram_candidates(angles, weights, b0, b1);
-    if set.n < 2 {
+    let candidates = candidates::histogram_candidates(grad_angles, grad_weights, b0, b1);
+    if candidates.n < 2 {
         return DiskFit::Missing(0);
     }
-    let mut row = [0.0f32; 320];
-    let from = 0usize;
-    let n = xs.len();
     search_set(
-        energy,
+        val_energy,
         base0,
         base1,
         xs,
         ys,
-        vals,
-        angles,
-        weights,
-        set,
-        &mut row[from..n],
+        vals_centered,
+        grad_angles,
+        grad_weights,
+        candidates,
     )
 }

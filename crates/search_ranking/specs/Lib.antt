@@ -1,4 +1,5 @@
 pub mod Ranking
+pub mod PoolLaws
 pub mod RankingLaws
 pub mod SinkLaws
 pub mod WithinLaws

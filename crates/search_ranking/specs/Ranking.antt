@@ -1,15 +1,21 @@
 -- The ranking of the pool: disk_sector/search.rs, best_disk_fit, step 3. Definitions only.
 -- The Rust selects the first k and sorts them; no two pairs share i and j, so that this is the sorted pool's first k.
 use mathlib.Core.Bool.{Bool, true, false, cond}
-use mathlib.Core.List.{List, [], _∷_}
-use Prim.Native.Nat.{ℕ}
-use lib.ListN.{take, getD}
+use mathlib.Core.List.{List, [], _∷_, _++_}
+use Prim.Native.Nat.{ℕ, _-_, min}
+use lib.ListN.{length, take, getD, replicate}
 use lib.Dec.{ltb}
 use lib.Ieee.{nan}
 use Rattle.floats.specs.Library.{totalKey}
 use Rattle.candidates.specs.declared.PairScore.{PairScore}
 use Rattle.candidates.specs.declared.Pool.{Pool}
+use Rattle.candidates.specs.Candidates.{noPair}
 use Rattle.loops.specs.Loops.{iter}
+use Rattle.search_ranking.specs.declared.Ranked.{Ranked}
+
+-- MAX_TOP_PAIRS
+abbrev pub maxTopPairs : ℕ
+maxTopPairs = 24
 
 -- greater edge score by the total order, then lower i, then lower j
 unfoldable pub keysBefore : PairScore → PairScore → Bool
@@ -36,10 +42,10 @@ blank = record { i = 0; j = 0; «edge_score» = nan; forced = false }
 unfoldable pub sorted : ℕ → List PairScore → List PairScore
 sorted n pairs = iter (λ p l. insertRanked (getD pairs p blank) l) [] n
 
--- MAX_TOP_PAIRS is 24
+-- the first of the sorted pool
 unfoldable pub ranked : Pool → List PairScore
-ranked pool = take 24 (sorted (pool .n) (pool .pairs))
+ranked pool = take maxTopPairs (sorted (pool .n) (pool .pairs))
 
--- how many are kept
-unfoldable pub kept : ℕ → ℕ
-kept n = cond (ltb 24 n) 24 n
+-- in an array: k = n_pairs.min(MAX_TOP_PAIRS) pairs, and no pair in the places behind them
+unfoldable pub rank : Pool → Ranked
+rank pool = record { n = min maxTopPairs (pool .n); pairs = ranked pool ++ replicate (maxTopPairs - length (ranked pool)) noPair }

@@ -1,24 +1,31 @@
 -- The ranking is sorted, it has the pool's own pairs, and no other arrangement of them is sorted. Assumes nothing.
 use mathlib.Core.Path.{_≡_, refl, sym, ap, _∙_, subst}
 use mathlib.Core.Logic.{_⊎_, inl, inr, Or·elim}
-use mathlib.Core.Bool.{Bool, true, false, cond, Bool-set}
+use mathlib.Core.Bool.{Bool, true, false, cond, Bool-set, false≢true}
 use mathlib.Core.List.{List, [], _∷_, _++_, cons≢nil, List·Mem, not-mem-nil, mem-cons-self, mem-cons-of-mem, eq-or-mem-of-mem-cons}
-use mathlib.Core.List.{Perm, List·Permᴰ, List·Permᴰ·nil, List·Permᴰ·cons, List·Permᴰ·swap, List·Permᴰ·trans, Perm·nil, Perm·cons, Perm·trans, Perm·symm, Perm·mem-iff, Perm·nil-eq, Perm·eq-nil, Perm·cons-inv, perm-append-singleton}
+use mathlib.Core.List.{Perm, Perm·nil, Perm·cons, Perm·trans, Perm·symm, Perm·mem-iff, Perm·nil-eq, Perm·eq-nil, Perm·cons-inv, perm-append-singleton}
+use mathlib.Core.List.{List·Permᴰ, List·Permᴰ·nil, List·Permᴰ·cons, List·Permᴰ·swap, List·Permᴰ·trans}
 use Prim.Native.Nat.{ℕ, zero, suc, _+_, _≤_, _<_}
 use native.Mathlib.Nat.{le-of-suc-le-suc, not-suc-le-zero}
 use native.Mathlib.Omega.{arith}
 use borrow.Author.Tests.{lt-ltb, le-ltb, ltb-true, ltb-false}
 use lib.ListN.{length, take, getD}
 use lib.Seq.{take-suc}
-use lib.Dec.{T, ltb}
+use lib.Dec.{ltb}
+use lib.Ieee.{Float}
+use Rattle.floats.specs.Rows.{Row}
 use Rattle.floats.specs.Library.{totalKey}
+use Rattle.data.specs.Data.{DiskData}
+use Rattle.candidates.specs.Candidates.{maxPaired, histogramCandidates, buildPairPool}
+use Rattle.candidates.specs.CandidatesLaws.{candidates-most}
+use Rattle.candidates.specs.declared.CandidateSet.{CandidateSet}
+use Rattle.candidates.specs.declared.Forced.{Forced}
 use Rattle.candidates.specs.declared.PairScore.{PairScore}
+use Rattle.candidates.specs.declared.Pool.{Pool}
 use Rattle.loops.specs.Loops.{iter}
 use Rattle.loops.specs.IterLaws.{iter-next}
 use Rattle.search_ranking.specs.Ranking.{keysBefore, isBefore, insertRanked, blank, sorted}
-
-apart : false ≡ true → ⊥
-apart e = subst T (sym e) tt
+use Rattle.search_ranking.specs.PoolLaws.{Distinct, pool-few, pool-distinct}
 
 pub compared : (m n : ℕ) → (m < n) ⊎ (n ≤ m)
 compared m n = by (ltb m n) refl
@@ -45,7 +52,8 @@ unfolding insertRanked
 take-insert zero x l = refl
 take-insert (suc k) x [] = refl
 take-insert (suc k) x (y ∷ l) =
-    either-way (λ b. take (suc k) (cond b (x ∷ insertRanked y l) (y ∷ insertRanked x l)) ≡ take (suc k) (cond b (x ∷ insertRanked y (take k l)) (y ∷ insertRanked x (take k l))))
+    let m = take k l in
+    either-way (λ b. take (suc k) (cond b (x ∷ insertRanked y l) (y ∷ insertRanked x l)) ≡ take (suc k) (cond b (x ∷ insertRanked y m) (y ∷ insertRanked x m)))
     (ap {B = List PairScore} (λ r. x ∷ r) (take-insert k y l)) (ap {B = List PairScore} (λ r. y ∷ r) (take-insert k x l)) (isBefore x y)
 
 pub insert-before : (x y : PairScore) (l : List PairScore) → isBefore x y ≡ true → insertRanked x (y ∷ l) ≡ x ∷ insertRanked y l
@@ -84,7 +92,7 @@ lex-true : (m n : ℕ) (r : Bool) → lex m n r ≡ true → (m < n) ⊎ ((m ≡
 lex-true m n r e = elim (compared m n) [
   | inl h ↦ inl h
   | inr h ↦ elim (compared n m) [
-    | inl g ↦ absurd (apart (sym (lex-above m n r g) ∙ e))
+    | inl g ↦ absurd (false≢true (sym (lex-above m n r g) ∙ e))
     | inr g ↦ let q : m ≡ n = omega arith in inr (q, sym (lex-level m n r q) ∙ e)
   ]
 ]
@@ -93,7 +101,7 @@ lex-false : (m n : ℕ) (r : Bool) → lex m n r ≡ false → (n < m) ⊎ ((m �
 lex-false m n r e = elim (compared n m) [
   | inl h ↦ inl h
   | inr h ↦ elim (compared m n) [
-    | inl g ↦ absurd (apart (sym e ∙ lex-below m n r g))
+    | inl g ↦ absurd (false≢true (sym e ∙ lex-below m n r g))
     | inr g ↦ let q : m ≡ n = omega arith in inr (q, sym (lex-level m n r q) ∙ e)
   ]
 ]
@@ -113,7 +121,7 @@ lex-trans l m n r s t h p q = elim (lex-true l m r p) [
 -- neither way: the keys are the same
 lex-neither : (m n : ℕ) (r s : Bool) → lex m n r ≡ false → lex n m s ≡ false → (m ≡ n) × (r ≡ false) × (s ≡ false)
 lex-neither m n r s p q = elim (lex-false m n r p) [
-  | inl a ↦ absurd (apart (sym q ∙ lex-below n m s a))
+  | inl a ↦ absurd (false≢true (sym q ∙ lex-below n m s a))
   | inr a ↦ (a .0, a .1, sym (lex-level n m s (sym (a .0))) ∙ q)
 ]
 
@@ -122,9 +130,14 @@ abbrev turn : Bool → ℕ
 turn true = 0
 turn false = 1
 
-before-lex : (a b : PairScore) → isBefore a b ≡ lex (turn (a .forced)) (turn (b .forced)) (lex (totalKey (b .«edge_score»)) (totalKey (a .«edge_score»)) (lex (a .i) (b .i) (lex (a .j) (b .j) false)))
+-- the keys after the flag
+abbrev keysLex : PairScore → PairScore → Bool → Bool
+keysLex a b r = lex (totalKey (b .«edge_score»)) (totalKey (a .«edge_score»)) (lex (a .i) (b .i) r)
+
+before-lex : (a b : PairScore) → isBefore a b ≡ lex (turn (a .forced)) (turn (b .forced)) (keysLex a b (lex (a .j) (b .j) false))
 unfolding isBefore keysBefore
-before-lex a b = flags (a .forced) (b .forced) ∙ ap (λ (z : Bool). lex (turn (a .forced)) (turn (b .forced)) (lex (totalKey (b .«edge_score»)) (totalKey (a .«edge_score»)) (lex (a .i) (b .i) z))) (last (a .j) (b .j))
+before-lex a b =
+    flags (a .forced) (b .forced) ∙ ap (λ (z : Bool). lex (turn (a .forced)) (turn (b .forced)) (keysLex a b z)) (last (a .j) (b .j))
   where
     flags : (s t : Bool) → cond s (cond t (keysBefore a b) true) (cond t false (keysBefore a b)) ≡ lex (turn s) (turn t) (keysBefore a b)
     flags true true = refl
@@ -191,7 +204,7 @@ not-ahead : (w x y : PairScore) → isBefore x y ≡ true → isBefore w y ≡ f
 not-ahead w x y p q = by (isBefore w x) refl
   where
     by : (b : Bool) → isBefore w x ≡ b → b ≡ false
-    by true e = absurd (apart (sym q ∙ before-trans w x y e p))
+    by true e = absurd (false≢true (sym q ∙ before-trans w x y e p))
     by false e = refl
 
 none-ahead : (x y : PairScore) (l : List PairScore) → isBefore x y ≡ true → NoneBefore y l → NoneBefore x l
@@ -210,7 +223,9 @@ unfolding insertRanked
 insert-order x [] h = (tt, tt)
 insert-order x (y ∷ l) h = by (isBefore x y) refl (insert-order y l (h .1)) (insert-order x l (h .1))
   where
-    by : (b : Bool) → isBefore x y ≡ b → InOrder (insertRanked y l) → InOrder (insertRanked x l) → InOrder (cond b (x ∷ insertRanked y l) (y ∷ insertRanked x l))
+    by :
+        (b : Bool) → isBefore x y ≡ b → InOrder (insertRanked y l) → InOrder (insertRanked x l) →
+        InOrder (cond b (x ∷ insertRanked y l) (y ∷ insertRanked x l))
     by true e p q = (insert-none x y l (not-ahead y x y e (before-irrefl y)) (none-ahead x y l e (h .0)), p)
     by false e p q = (insert-none y x l e (h .0), q)
 
@@ -224,14 +239,15 @@ none-at x [] h b p = absurd (not-suc-le-zero p)
 none-at x (y ∷ l) h zero p = h .0
 none-at x (y ∷ l) h (suc b) p = none-at x l (h .1) b (le-of-suc-le-suc p)
 
-order-at : (l : List PairScore) → InOrder l → (a b : ℕ) → a < b → b < length l → isBefore (getD l b blank) (getD l a blank) ≡ false
+-- the same by places
+abbrev pub Sorted : List PairScore → Type 0
+Sorted l = (a b : ℕ) → a < b → b < length l → isBefore (getD l b blank) (getD l a blank) ≡ false
+
+order-at : (l : List PairScore) → InOrder l → Sorted l
 order-at [] h a b p q = absurd (not-suc-le-zero q)
 order-at (x ∷ l) h a zero p q = absurd (not-suc-le-zero p)
 order-at (x ∷ l) h zero (suc b) p q = none-at x l (h .0) b (le-of-suc-le-suc q)
 order-at (x ∷ l) h (suc a) (suc b) p q = order-at l (h .1) a b (le-of-suc-le-suc p) (le-of-suc-le-suc q)
-
-pub ranked-sorted : (n : ℕ) (pairs : List PairScore) (a b : ℕ) → a < b → b < n → isBefore (getD (sorted n pairs) b blank) (getD (sorted n pairs) a blank) ≡ false
-ranked-sorted n pairs a b p q = order-at (sorted n pairs) (sorted-order n pairs) a b p (rw (sorted-length n pairs) q)
 
 -- ---- the same pairs
 insert-perm : (x : PairScore) (l : List PairScore) → List·Permᴰ (insertRanked x l) (x ∷ l)
@@ -239,9 +255,10 @@ unfolding insertRanked
 insert-perm x [] = List·Permᴰ·cons refl List·Permᴰ·nil
 insert-perm x (y ∷ l) =
     either-way (λ b. List·Permᴰ (cond b (x ∷ insertRanked y l) (y ∷ insertRanked x l)) (x ∷ y ∷ l))
-    (List·Permᴰ·cons refl (insert-perm y l)) (List·Permᴰ·trans (List·Permᴰ·cons refl (insert-perm x l)) (List·Permᴰ·swap refl refl)) (isBefore x y)
+    (List·Permᴰ·cons refl (insert-perm y l))
+    (List·Permᴰ·trans (List·Permᴰ·cons refl (insert-perm x l)) (List·Permᴰ·swap refl refl)) (isBefore x y)
 
-pub ranked-same : (n : ℕ) (pairs : List PairScore) → n ≤ length pairs → Perm (sorted n pairs) (take n pairs)
+ranked-same : (n : ℕ) (pairs : List PairScore) → n ≤ length pairs → Perm (sorted n pairs) (take n pairs)
 unfolding sorted iter
 ranked-same zero pairs h = Perm·nil
 ranked-same (suc n) pairs h =
@@ -265,13 +282,10 @@ none-from : (x : PairScore) (l : List PairScore) → ((b : ℕ) → b < length l
 none-from x [] h = tt
 none-from x (y ∷ l) h = (h 0 (omega arith), none-from x l (λ b p. h (suc b) (omega arith)))
 
-order-from : (l : List PairScore) → ((a b : ℕ) → a < b → b < length l → isBefore (getD l b blank) (getD l a blank) ≡ false) → InOrder l
+order-from : (l : List PairScore) → Sorted l → InOrder l
 order-from [] h = tt
-order-from (x ∷ l) h = (none-from x l (λ b p. h 0 (suc b) (omega arith) (omega arith)), order-from l (λ a b p q. h (suc a) (suc b) (omega arith) (omega arith)))
-
--- two pairs of l that share i and j are one
-abbrev pub Distinct : List PairScore → Type 0
-Distinct l = (u v : PairScore) → List·Mem u l → List·Mem v l → u .i ≡ v .i → u .j ≡ v .j → u ≡ v
+order-from (x ∷ l) h =
+    (none-from x l (λ b p. h 0 (suc b) (omega arith) (omega arith)), order-from l (λ a b p q. h (suc a) (suc b) (omega arith) (omega arith)))
 
 order-only : (l m : List PairScore) → Distinct l → InOrder l → InOrder m → Perm l m → l ≡ m
 order-only [] m o p q r = Perm·nil-eq r
@@ -284,19 +298,40 @@ order-only (x ∷ l) (y ∷ m) o p q r =
     let f : l ≡ m = order-only l m (λ u v a b. o u v (mem-cons-of-mem x a) (mem-cons-of-mem x b)) (p .1) (q .1) t in
     λ i. e i ∷ f i
 
-pub ranked-only : (n : ℕ) (pairs l : List PairScore) → n ≤ length pairs → Distinct (take n pairs) → Perm l (take n pairs) → ((a b : ℕ) → a < b → b < length l → isBefore (getD l b blank) (getD l a blank) ≡ false) → l ≡ sorted n pairs
+ranked-only : (n : ℕ) (pairs l : List PairScore) → n ≤ length pairs → Distinct (take n pairs) → Perm l (take n pairs) → Sorted l → l ≡ sorted n pairs
 ranked-only n pairs l h o p q =
     order-only l (sorted n pairs) (λ u v a b. o u v (Perm·mem-iff p .0 a) (Perm·mem-iff p .0 b)) (order-from l q) (sorted-order n pairs)
     (Perm·trans p (Perm·symm (ranked-same n pairs h)))
 
--- What the ranking of the first n pairs is. No pair stands before one that precedes it; it has the very pairs that are ranked; two pairs of which neither
--- stands before the other are alike; and where no two of the pairs share i and j, no other arrangement of them is sorted. So its first 24, which `rank`
--- returns, are what sorting the pool in whatever way and keeping the first 24 gives.
-pub record RankedIs (n : ℕ) (pairs : List PairScore) : Type 0 where
-  pub in-order : (a b : ℕ) → a < b → b < n → isBefore (getD (sorted n pairs) b blank) (getD (sorted n pairs) a blank) ≡ false
-  pub same : Perm (sorted n pairs) (take n pairs)
+-- What the ranking of a pool is: sorted; the pool's own pairs; two pairs of which neither stands before the other are alike; and no other arrangement
+-- of the pool's pairs is sorted. So its first 24, which `rank` returns, are what sorting the pool in whatever way and keeping the first 24 gives.
+pub record RankedIs (pool : Pool) : Type 0 where
+  pub in-order : Sorted (sorted (pool .n) (pool .pairs))
+  pub same : Perm (sorted (pool .n) (pool .pairs)) (take (pool .n) (pool .pairs))
   pub strict : (x y : PairScore) → isBefore x y ≡ false → isBefore y x ≡ false → Alike x y
-  pub only : (l : List PairScore) → Distinct (take n pairs) → Perm l (take n pairs) → ((a b : ℕ) → a < b → b < length l → isBefore (getD l b blank) (getD l a blank) ≡ false) → l ≡ sorted n pairs
+  pub only : (l : List PairScore) → Perm l (take (pool .n) (pool .pairs)) → Sorted l → l ≡ sorted (pool .n) (pool .pairs)
 
-pub ranked-is : (n : ℕ) (pairs : List PairScore) → n ≤ length pairs → RankedIs n pairs
-ranked-is n pairs h = record { in-order = ranked-sorted n pairs; same = ranked-same n pairs h; strict = ranked-strict; only = λ l. ranked-only n pairs l h }
+-- of a pool that build_pair_pool makes of the search's candidates, whatever the disk and the seeds
+module _ (D : DiskData) (base0 base1 : Float) (edgeAlign : Row) (gradTotal : Float) (forceSeed forceHist : Forced) where
+  pub ranked-is : RankedIs (buildPairPool (histogramCandidates D base0 base1) edgeAlign gradTotal forceSeed forceHist)
+  ranked-is = record {
+    in-order = order-at (sorted n pairs) (sorted-order n pairs);
+    same = ranked-same n pairs few;
+    strict = ranked-strict;
+    only = λ l. ranked-only n pairs l few (pool-distinct candidates edgeAlign gradTotal forceSeed forceHist most);
+  }
+    where
+      candidates : CandidateSet
+      candidates = histogramCandidates D base0 base1
+
+      most : candidates .n ≤ maxPaired
+      most = candidates-most D base0 base1
+
+      n : ℕ
+      n = buildPairPool candidates edgeAlign gradTotal forceSeed forceHist .n
+
+      pairs : List PairScore
+      pairs = buildPairPool candidates edgeAlign gradTotal forceSeed forceHist .pairs
+
+      few : n ≤ length pairs
+      few = pool-few candidates edgeAlign gradTotal forceSeed forceHist most

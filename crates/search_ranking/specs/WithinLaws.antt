@@ -5,15 +5,16 @@ use Prim.Native.Nat.{ℕ, zero, suc, _+_, _-_, _<_}
 use native.Mathlib.Omega.{arith}
 use lib.ListN.{getD, set, take, replicate}
 use lib.Ieee.{Float}
+use Rattle.floats.specs.Rows.{Row, at}
 use Rattle.geometry.specs.Geometry.{validPair}
 use Rattle.loops.specs.Loops.{iter, range}
 use Rattle.loops.specs.IterLaws.{iter-keeps}
-use Rattle.candidates.specs.Candidates.{Row, at, noPair, noPairs, pairScore, pooled, pairAt, pairsFrom, buildPairPool}
+use Rattle.candidates.specs.Candidates.{maxPairs, noPair, noPairs, pairScore, pooled, pairAt, pairsFrom, buildPairPool}
 use Rattle.candidates.specs.declared.CandidateSet.{CandidateSet}
 use Rattle.candidates.specs.declared.Forced.{Forced}
 use Rattle.candidates.specs.declared.PairScore.{PairScore}
 use Rattle.candidates.specs.declared.Pool.{Pool}
-use Rattle.search_ranking.specs.Ranking.{blank, isBefore, insertRanked, sorted, ranked}
+use Rattle.search_ranking.specs.Ranking.{maxTopPairs, blank, isBefore, insertRanked, sorted, ranked}
 
 -- the candidates of each pair are among the first b
 pub record Within (b : ℕ) (l : List PairScore) : Type 0 where
@@ -83,25 +84,35 @@ module _ (b : ℕ) where
 
   pub ranked-within : (pool : Pool) → Within b (pool .pairs) → 0 < b → Within b (ranked pool)
   unfolding ranked
-  ranked-within pool w h = within-take 24 (sorted (pool .n) (pool .pairs)) h (within-sorted (pool .n) (pool .pairs) h w)
+  ranked-within pool w h = within-take maxTopPairs (sorted (pool .n) (pool .pairs)) h (within-sorted (pool .n) (pool .pairs) h w)
 
 -- ---- the pool
-module _ (s : CandidateSet) (edges : Row) (total : Float) (seed hist : Forced) where
+module _ (candidates : CandidateSet) (edgeAlign : Row) (gradTotal : Float) (forceSeed forceHist : Forced) where
   abbrev Fine : Pool → Type 0
-  Fine p = Within (s .n) (p .pairs)
+  Fine p = Within (candidates .n) (p .pairs)
 
-  pair-within : (i j : ℕ) (p : Pool) → i < s .n → j < s .n → Fine p → Fine (pairAt s edges total seed hist i j p)
+  abbrev pairHere : ℕ → ℕ → Pool → Pool
+  pairHere = pairAt candidates edgeAlign gradTotal forceSeed forceHist
+
+  abbrev rowHere : ℕ → Pool → Pool
+  rowHere = pairsFrom candidates edgeAlign gradTotal forceSeed forceHist
+
+  pair-within : (i j : ℕ) (p : Pool) → i < candidates .n → j < candidates .n → Fine p → Fine (pairHere i j p)
   unfolding pairAt pooled pairScore
-  pair-within i j p h k w = go (validPair (at (s .angles) i) (at (s .angles) j))
+  pair-within i j p h k w = go (validPair (at (candidates .angles) i) (at (candidates .angles) j))
     where
-      go : (t : Bool) → Fine (cond t (pooled (pairScore edges total seed hist i j) p) p)
-      go true = within-set (s .n) (p .pairs) (p .n) (pairScore edges total seed hist i j) h k w
+      x : PairScore
+      x = pairScore edgeAlign gradTotal forceSeed forceHist i j
+
+      go : (t : Bool) → Fine (cond t (pooled x p) p)
+      go true = within-set (candidates .n) (p .pairs) (p .n) x h k w
       go false = w
 
-  row-within : (i : ℕ) (p : Pool) → i < s .n → Fine p → Fine (pairsFrom s edges total seed hist i p)
+  row-within : (i : ℕ) (p : Pool) → i < candidates .n → Fine p → Fine (rowHere i p)
   unfolding pairsFrom
-  row-within i p h w = range-keeps-below Fine (pairAt s edges total seed hist i) p (i + 1) (s .n) w (λ j x k v. pair-within i j x h k v)
+  row-within i p h w = range-keeps-below Fine (pairHere i) p (i + 1) (candidates .n) w (λ j x k v. pair-within i j x h k v)
 
-  pub pool-within : 0 < s .n → Within (s .n) (buildPairPool s edges total seed hist .pairs)
+  pub pool-within : 0 < candidates .n → Within (candidates .n) (buildPairPool candidates edgeAlign gradTotal forceSeed forceHist .pairs)
   unfolding buildPairPool
-  pool-within h = iter-keeps-below Fine (pairsFrom s edges total seed hist) noPairs (s .n) (within-replicate (s .n) 276 h) (λ i x l w. row-within i x l w)
+  pool-within h =
+      iter-keeps-below Fine rowHere noPairs (candidates .n) (within-replicate (candidates .n) maxPairs h) (λ i x l w. row-within i x l w)

@@ -3,24 +3,23 @@ use candidates::PairScore;
 use candidates::Pool;
 ghost use mathlib.Core.Path.{_≡_};
 ghost use Prim.Native.Nat.{_≤_};
-ghost use lib.ListN.{length, take};
+ghost use lib.ListN.{replicate};
+ghost use Rattle.candidates.specs.Candidates.{maxPairs, noPair};
 ghost use Rattle.search_ranking.specs.Ranking as R;
 
-const MAX_TOP_PAIRS: usize = 24;
+pub const MAX_TOP_PAIRS: usize = 24;
 
-// The first pairs of the ranking, best first: n of the 24 places.
+// The first pairs of the ranking, best first: n of the places.
 pub struct Ranked {
     pub n: usize,
-    pub pairs: [PairScore; 24],
+    pub pairs: [PairScore; MAX_TOP_PAIRS],
 }
 
 fn keys_before(a: PairScore, b: PairScore) -> bool
     ensures { λ r. ⌜ r ≡ R.keysBefore a b ⌝ }
 {
-    let ea = a.edge_score;
-    let eb = b.edge_score;
-    let ka = floats::total_key(ea);
-    let kb = floats::total_key(eb);
+    let ka = floats::total_key(a.edge_score);
+    let kb = floats::total_key(b.edge_score);
     if kb < ka {
         return true;
     }
@@ -52,7 +51,7 @@ fn is_before(a: PairScore, b: PairScore) -> bool
 }
 
 fn unranked() -> Ranked
-    ensures { λ r. ⌜ (r .n ≡ 0) × (length (r .pairs) ≡ 24) ⌝ }
+    ensures { λ r. ⌜ (r .n ≡ 0) × (r .pairs ≡ replicate R.maxTopPairs noPair) ⌝ }
 {
     let p = PairScore {
         i: 0,
@@ -60,14 +59,14 @@ fn unranked() -> Ranked
         edge_score: 0.0,
         forced: false,
     };
-    let pairs = [p; 24];
+    let pairs = [p; MAX_TOP_PAIRS];
     Ranked { n: 0, pairs }
 }
 
-// Each pair goes down the ranking so far; the one that falls off the 24th place is dropped.
+// Each pair goes down the ranking so far; the one that falls off the last place is dropped.
 pub fn rank(pool: Pool) -> Ranked
-    requires { ⌜ pool .n ≤ 276 ⌝ }
-    ensures { λ r. ⌜ (r .n ≤ 24) × (r .n ≡ R.kept (pool .n)) × (take (r .n) (r .pairs) ≡ R.ranked pool) ⌝ }
+    requires { ⌜ pool .n ≤ maxPairs ⌝ }
+    ensures { λ r. ⌜ r ≡ R.rank pool ⌝ }
 {
     let n = pool.n;
     let mut top = unranked();

@@ -1,90 +1,84 @@
--- The refinement of a fit: disk_sector/search.rs, build_axis_rows and refine_fit_cached. Definitions only.
+-- The refinement of a fit: disk_sector/search.rs, refine_fit and refine_fit_cached. Definitions only.
 -- The definition keeps no rows: each neighbour is scored from rows made of the best's own axes at that moment.
-use mathlib.Core.Bool.{Bool, cond, _&&_}
-use mathlib.Core.List.{List, [], _∷_}
-use Prim.Native.Nat.{ℕ, _+_}
+use mathlib.Core.Bool.{cond, _&&_}
+use mathlib.Core.List.{List, [], _∷_, _++_}
+use Prim.Native.Nat.{ℕ}
+use lib.Dec.{leb}
 use lib.ListN.{length, getD}
-use lib.Ieee.{Float, nan, neg, eq}
-use Rattle.floats.specs.Ops.{_⊕_, _⊗_, _⊘_, lit, nought}
+use lib.Ieee.{Float, neg, eq}
+use Rattle.floats.specs.Ops.{_⊕_, lit, nought}
 use Rattle.floats.specs.Library.{toRadians}
-use Rattle.elementary.specs.Elementary.{sinCos, tanh}
-use Rattle.elementary.specs.declared.SinCos.{SinCos}
+use Rattle.loops.specs.Loops.{iter, tab}
+use Rattle.data.specs.Data.{DiskData, maxTanhPixels}
 use Rattle.candidates.specs.Candidates.{combineEdgePair}
 use Rattle.score_edges.specs.Edges.{edgeWeightTotal, refinedSum}
-use Rattle.loops.specs.Loops.{iter, tab}
-use Rattle.score.specs.Score.{scorePairCached, fitIsBetter}
+use Rattle.score.specs.Score.{axisRow, scorePairCached, fitIsBetter}
 use Rattle.score.specs.declared.Fit.{Fit}
 use Rattle.score.specs.declared.Scored.{Scored}
 use Rattle.score.specs.declared.Scored.the-variants.{Found, Nothing}
+use Rattle.search_refine.specs.declared.Offset.{Offset}
 use Rattle.search_refine.specs.declared.Refined.{Refined}
 
-abbrev pub Row : Type 0
-Row = List Float
+-- ---- the scorings of a refinement, one for each offset, in the order of the Rust's three loops
+abbrev pub by : Float → Float → Offset
+by d0 d1 = record { d0 = d0; d1 = d1 }
 
-abbrev pub at : Row → ℕ → Float
-at r i = getD r i nan
+-- if d0 == 0.0 && d1 == 0.0 { continue }
+unfoldable pub unlessMiddle : Float → Float → List Offset
+unlessMiddle d0 d1 = cond (eq d0 nought && eq d1 nought) [] (by d0 d1 ∷ [])
 
--- DiskData: n pixels with their places, centred values (vals_centered), gradients (grad_angles, grad_weights) and val_energy
-pub record Disk : Type 0 where
-  pub n : ℕ
-  pub energy : Float
-  pub xs : Row
-  pub ys : Row
-  pub vals : Row
-  pub angles : Row
-  pub weights : Row
+-- for d1 in [-step, 0.0, step], and for d0 in the same
+unfoldable pub beside : Float → Float → List Offset
+beside step d0 = unlessMiddle d0 (neg step) ++ (unlessMiddle d0 nought ++ unlessMiddle d0 step)
 
--- the disk of five slices; the first says how many pixels there are
-abbrev pub diskOf : Float → Row → Row → Row → Row → Row → Disk
-diskOf energy xs ys vals angles weights =
-    record { n = length xs; energy = energy; xs = xs; ys = ys; vals = vals; angles = angles; weights = weights }
+unfoldable pub around : Float → List Offset
+around step = beside step (neg step) ++ (beside step nought ++ beside step step)
 
--- ---- build_axis_rows
--- d = -s * x + c * y, and then (d / width).tanh()
-abbrev pub rowAt : SinCos → Float → Row → Row → ℕ → Float
-rowAt t width xs ys p = tanh ((neg (t .s) ⊗ at xs p ⊕ t .c ⊗ at ys p) ⊘ width)
+-- for step_deg in [1.0, 0.5, 0.25]
+unfoldable pub offsets : List Offset
+offsets = around (toRadians (lit 0x3f80_0000)) ++ (around (toRadians (lit 0x3f00_0000)) ++ around (toRadians (lit 0x3e80_0000)))
 
-unfoldable pub axisRow : ℕ → Row → Row → Float → Float → Row
-axisRow n xs ys theta width = tab (rowAt (sinCos theta) width xs ys) n
+-- ---- refine_fit_cached
+module _ (D : DiskData) (total : Float) where
+  -- one scoring: the best's axes moved by an offset
+  unfoldable pub neighbour : Offset → Fit → Scored
+  neighbour o best =
+      let theta1 = best .theta1 ⊕ o .d0 in
+      let theta2 = best .theta2 ⊕ o .d1 in
+      let edge1 = refinedSum (D .n) (D .«grad_angles») (D .«grad_weights») theta1 in
+      let edge2 = refinedSum (D .n) (D .«grad_angles») (D .«grad_weights») theta2 in
+      scorePairCached D theta1 theta2 (best .width) (combineEdgePair edge1 edge2 total)
+      (axisRow (D .n) (D .xs) (D .ys) theta1 (best .width))
+      (axisRow (D .n) (D .xs) (D .ys) theta2 (best .width))
 
--- ---- refine_fit_cached: the steps of 1, 0.5 and 0.25 degrees, and the offsets of each
-unfoldable pub stepOf : ℕ → Float
-stepOf k = toRadians (getD (lit 0x3f80_0000 ∷ lit 0x3f00_0000 ∷ lit 0x3e80_0000 ∷ []) k nan)
+-- an answer that is better becomes the best
+unfoldable pub betterOf : Scored → Fit → Fit
+betterOf Nothing best = best
+betterOf (Found fit) best = cond (fitIsBetter fit best) fit best
 
-abbrev pub offsetsBy : Float → Row
-offsetsBy step = neg step ∷ nought ∷ step ∷ []
+unfoldable pub tried : DiskData → Float → Offset → Fit → Fit
+tried D total o best = betterOf (neighbour D total o best) best
 
-unfoldable pub isCentre : Float → Float → Bool
-isCentre d0 d1 = eq d0 nought && eq d1 nought
+-- past the end of the offsets
+abbrev pub nowhere : Offset
+nowhere = by nought nought
 
--- a neighbour that is better becomes the best
-unfoldable pub judged : Scored → Refined → Refined
-judged Nothing s = record { best = s .best; trials = s .trials + 1 }
-judged (Found f) s = record { best = cond (fitIsBetter f (s .best)) f (s .best); trials = s .trials + 1 }
+-- the best after the first t scorings
+unfoldable pub bestAfter : DiskData → Fit → ℕ → Fit
+bestAfter D seed t =
+    let total = edgeWeightTotal (D .n) (D .«grad_weights») in
+    iter (λ t. tried D total (getD offsets t nowhere)) seed t
 
-module _ (D : Disk) (total : Float) (offs : Row) where
-  -- the neighbour (i0, i1) of b
-  unfoldable pub neighbour : Fit → ℕ → ℕ → Scored
-  neighbour b i0 i1 =
-      let t1 = b .theta1 ⊕ at offs i0 in
-      let t2 = b .theta2 ⊕ at offs i1 in
-      let e1 = refinedSum (D .n) (D .angles) (D .weights) t1 in
-      let e2 = refinedSum (D .n) (D .angles) (D .weights) t2 in
-      scorePairCached (D .n) (D .energy) (D .vals) t1 t2 (b .width) (combineEdgePair e1 e2 total)
-      (axisRow (D .n) (D .xs) (D .ys) t1 (b .width))
-      (axisRow (D .n) (D .xs) (D .ys) t2 (b .width))
+-- the fold over the offsets; its trials are their number
+unfoldable pub refineFitCached : DiskData → Fit → Refined
+refineFitCached D seed = record { best = bestAfter D seed (length offsets); trials = length offsets }
 
-  unfoldable pub scored : ℕ → ℕ → Refined → Refined
-  scored i0 i1 s = judged (neighbour (s .best) i0 i1) s
+-- what the scorings answer, each around the best of its moment
+unfoldable pub answers : DiskData → Fit → List Scored
+answers D seed =
+    let total = edgeWeightTotal (D .n) (D .«grad_weights») in
+    tab (λ t. neighbour D total (getD offsets t nowhere) (bestAfter D seed t)) (length offsets)
 
-  -- the centre is no neighbour
-  unfoldable pub tried : ℕ → ℕ → Refined → Refined
-  tried i0 i1 s = cond (isCentre (at offs i0) (at offs i1)) s (scored i0 i1 s)
-
-  unfoldable pub around : Refined → Refined
-  around s = iter (λ i0 s. iter (tried i0) s 3) s 3
-
-unfoldable pub refineFit : Disk → Fit → Refined
-refineFit D seed =
-    let total = edgeWeightTotal (D .n) (D .weights) in
-    iter (λ k s. around D total (offsetsBy (stepOf k)) s) (record { best = seed; trials = 0 }) 3
+-- ---- refine_fit: the path for over 320 pixels is left out, so that it is a parameter here
+unfoldable pub refineFit : (DiskData → Fit → Fit) → DiskData → Fit → Fit
+refineFit refineFitScalar D seed = cond (leb (D .n) maxTanhPixels) (refineFitCached D seed .best) (refineFitScalar D seed)

@@ -1,4 +1,4 @@
--- A frame's shape (document 01, "Frame lines"): its type, length and characters, in the order of the refusals. Definitions only.
+-- A frame's shape (docs/RULES.md, Frame lines): its type, length and characters, in the order of the refusals. Definitions only.
 use mathlib.Core.Bool.{cond, not, _||_}
 use mathlib.Core.List.{List}
 use mathlib.Core.Path.{_≡_}

@@ -2,7 +2,6 @@
 // canonicalize_tracking_swap. The ring and the disk both go through here.
 ghost use mathlib.Core.Path.{_≡_};
 ghost use Rattle.solver_axes.specs.Canonical as C;
-ghost use Rattle.solver_axes.specs.CanonicalLaws.{InRange};
 
 // Both axes, the amplitude, and whether the axes were exchanged.
 pub struct Axes {
@@ -14,6 +13,7 @@ pub struct Axes {
 
 pub fn wrap_to_tau(x: f32) -> f32
     ensures { λ r. ⌜ r ≡ C.wrapToTau x ⌝ }
+    ensures { λ r. ⌜ C.WrappedTau x r ⌝ }
 {
     let r = remainders::rem_euclid_tau(x);
     if floats::is_finite(r) {
@@ -54,6 +54,7 @@ fn settled(t1: f32, t2: f32, a: f32) -> Axes
 // An axis turned by PI with the amplitude negated is the same model.
 pub fn canonicalize_tracking_swap(theta1: f32, theta2: f32, amp: f32) -> Axes
     ensures { λ r. ⌜ r ≡ C.canonicalizeTrackingSwap theta1 theta2 amp ⌝ }
+    ensures { λ r. ⌜ C.CanonicalRange (r .theta1) (r .theta2) (r .amp) ⌝ }
 {
     let t1 = wrap_to_tau(theta1);
     let t2 = wrap_to_tau(theta2);

@@ -6,10 +6,7 @@ use Rattle.candidates.proofs.bin_angle.Tie as tie
 
 returns : tie.Need-returns
 unfolding C.binAngle
-returns c = rw (c .count-f32 .ensures)
+returns c = rw (c .before .count-f32 .ensures, c .count-f322 .ensures)
 
 pub bin-angle-spec : {M : Type 1} → statement M
-bin-angle-spec =
-    tie.close
-    (tie.spec
-    (λ c κs. search needs) returns)
+bin-angle-spec = tie.close (tie.spec (λ c κs. search needs) (λ c κs. search needs) returns)

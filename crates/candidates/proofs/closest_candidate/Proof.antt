@@ -11,10 +11,7 @@ returns c = rw (eq-eqb _ _ (c .if1 .taken))
 
 returns-2 : tie.Need-returns-2
 unfolding C.closestCandidate
-returns-2 c = rw (ne-eqb _ _ (c .before .before .if1 .left), ← c .before .wrap-pi .ensures, ← c .nearest .ensures .1)
+returns-2 c = rw (ne-eqb _ _ (c .before .before .if1 .left), ← c .before .wrap-pi .ensures .0, ← c .nearest .ensures .1)
 
 pub closest-candidate-spec : {M : Type 1} → statement M
-closest-candidate-spec =
-    tie.close
-    (tie.spec
-    returns (λ c κs. search needs) (λ c κs. search needs) returns-2)
+closest-candidate-spec = tie.close (tie.spec returns (λ c κs. search needs) (λ c κs. search needs) returns-2)

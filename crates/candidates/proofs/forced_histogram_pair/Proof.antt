@@ -10,10 +10,10 @@ use Rattle.candidates.proofs.forced_histogram_pair.Statement.{statement
 use Rattle.candidates.proofs.forced_histogram_pair.Tie as tie
 
 abbrev Inv-loop : tie.InvT-loop
-Inv-loop edges n t₀ c₀ t c = (2 ≤ c) × (c ≤ n) × (t .top0 < c) × (t .top1 < c) × (t ≡ C.topsOf edges c)
+Inv-loop edgeAlign n t₀ c₀ t c = (2 ≤ c) × (c ≤ n) × (t .top0 < c) × (t .top1 < c) × (t ≡ C.topsOf edgeAlign c)
 
 abbrev μ-loop : tie.MeasureT-loop
-μ-loop edges n t₀ c₀ t c = n - c
+μ-loop edgeAlign n t₀ c₀ t c = n - c
 
 returns : tie.Need-returns Inv-loop μ-loop
 unfolding C.forcedHistogramPair
@@ -25,11 +25,17 @@ loop-holds c = (search needs, search needs, search needs, search needs, rw range
 
 loop-again : tie.Need-loop-again Inv-loop μ-loop
 unfolding C.topsOf
-loop-again c = (search needs, search needs, search needs, search needs, range-more _ _ _ _ _ _ (search needs) (c .before .before .loop .inv .4) (c .raised-tops .ensures .2))
+loop-again c =
+    let e = c .before .before .loop .inv .4 in
+    (search needs, search needs, search needs, search needs, range-more _ _ _ _ _ _ (search needs) e (c .raised-tops .ensures .2))
 
 returns-2 : tie.Need-returns-2 Inv-loop μ-loop
 unfolding C.forcedHistogramPair
-returns-2 c = let h : c .before .before .loop .c ≡ c .before .before .before .before .before .before .args .set .n = omega arith in rw (le-ltb _ _ (c .before .before .before .before .if1 .left), ← h, ← c .before .before .loop .inv .4) (c .ordered .ensures)
+returns-2 c =
+    let l = c .before .before in
+    let b = l .before .before in
+    let h : l .loop .c ≡ b .before .before .args .candidates .n = omega arith in
+    rw (le-ltb _ _ (b .if1 .left), ← h, ← l .loop .inv .4) (c .ordered .ensures)
 
 pub forced-histogram-pair-spec : {M : Type 1} → statement M
 forced-histogram-pair-spec =

@@ -11,15 +11,27 @@ returns c = rw (lt-ltb _ _ (c .if1 .taken))
 
 returns-2 : tie.Need-returns-2
 unfolding C.forcedSeedPair C.bothClosest
-returns-2 c = rw (le-ltb _ _ (c .before .before .before .if1 .left), ← c .before .before .closest-candidate .ensures, c .enum-told .given .1)
+returns-2 c =
+    let b = c .before .before in
+    rw (le-ltb _ _ (b .before .if1 .left), ← b .closest-candidate .ensures, c .enum-told .given .1)
 
 returns-3 : tie.Need-returns-3
 unfolding C.forcedSeedPair C.bothClosest
-returns-3 c = rw (le-ltb _ _ (c .before .before .before .before .before .before .before .if1 .left), ← c .before .before .before .before .before .before .closest-candidate .ensures, c .before .before .before .before .i .given .1, ← c .before .before .closest-candidate2 .ensures, c .enum-told2 .given .1)
+returns-3 c =
+    let d = c .before .before in
+    let i = d .before .before in
+    let b = i .before .before in
+    rw (le-ltb _ _ (b .before .if1 .left), ← b .closest-candidate .ensures, i .i .given .1, ← d .closest-candidate2 .ensures, c .enum-told2 .given .1)
 
 returns-4 : tie.Need-returns-4
 unfolding C.forcedSeedPair C.bothClosest
-returns-4 c = rw (le-ltb _ _ (c .before .before .before .before .before .before .before .before .before .if1 .left), ← c .before .before .before .before .before .before .before .before .closest-candidate .ensures, c .before .before .before .before .before .before .i .given .1, ← c .before .before .before .before .closest-candidate2 .ensures, c .before .before .j .given .1) (c .ordered .ensures)
+returns-4 c =
+    let j = c .before .before in
+    let d = j .before .before in
+    let i = d .before .before in
+    let b = i .before .before in
+    rw (le-ltb _ _ (b .before .if1 .left), ← b .closest-candidate .ensures, i .i .given .1, ← d .closest-candidate2 .ensures, j .j .given .1)
+    (c .ordered .ensures)
 
 pub forced-seed-pair-spec : {M : Type 1} → statement M
 forced-seed-pair-spec =

@@ -3,6 +3,7 @@ use mathlib.Core.Path.{_≡_}
 use Prim.Native.Nat.{_≤_, _-_}
 use native.Mathlib.Omega.{arith}
 use lib.ListN.{length}
+use Rattle.floats.specs.Library.{histBins}
 use Rattle.loops.specs.Loops.{iter}
 use Rattle.loops.specs.IterLaws.{iter-zero, iter-more}
 use Rattle.candidates.specs.Candidates as C
@@ -11,10 +12,10 @@ use Rattle.candidates.proofs.histogram.Statement.{statement}
 use Rattle.candidates.proofs.histogram.Tie as tie
 
 abbrev Inv-loop : tie.InvT-loop
-Inv-loop angles weights hist₀ n i₀ hist i = (i ≤ n) × (length hist ≡ 72) × (hist ≡ iter (C.counted angles weights) hist₀ i)
+Inv-loop gradAngles gradWeights hist₀ n i₀ hist i = (i ≤ n) × (length hist ≡ histBins) × (hist ≡ iter (C.counted gradAngles gradWeights) hist₀ i)
 
 abbrev μ-loop : tie.MeasureT-loop
-μ-loop angles weights hist₀ n i₀ hist i = n - i
+μ-loop gradAngles gradWeights hist₀ n i₀ hist i = n - i
 
 loop-holds : tie.Need-loop-holds Inv-loop μ-loop
 loop-holds c = (search needs, search needs, rw iter-zero)
@@ -25,11 +26,16 @@ loop-again c = (search needs, search needs, iter-more _ _ _ _ _ (c .before .befo
 
 loop-again-2 : tie.Need-loop-again-2 Inv-loop μ-loop
 unfolding C.counted
-loop-again-2 c = (search needs, search needs, iter-more _ _ _ _ _ (c .before .before .before .before .before .before .loop .inv .2) (rw (c .before .before .before .if1 .left, ← c .before .bin-of .ensures .0)))
+loop-again-2 c =
+    let b = c .before .before .before in
+    let e = b .before .before .before .loop .inv .2 in
+    (search needs, search needs, iter-more _ _ _ _ _ e (rw (b .if1 .left, ← c .before .bin-of .ensures .0)))
 
 returns : tie.Need-returns Inv-loop μ-loop
 unfolding C.histogram
-returns c = let h : c .before .loop .i ≡ length (c .before .before .before .before .before .args .angles .now) = omega arith in (search needs, rw h at (c .before .loop .inv .2))
+returns c =
+    let h : c .before .loop .i ≡ length (c .before .before .before .before .before .args .«grad-angles» .now) = omega arith in
+    (search needs, rw h at (c .before .loop .inv .2))
 
 pub histogram-spec : {M : Type 1} → statement M
 histogram-spec =

@@ -6,8 +6,16 @@ use Rattle.candidates.proofs.histogram_candidates.Statement.{statement}
 use Rattle.candidates.proofs.histogram_candidates.Tie as tie
 
 returns : tie.Need-returns
-unfolding C.histogramCandidates
-returns c = (omega arith, rw (← c .before .before .before .before .before .before .before .before .before .before .histogram .ensures .1, ← c .before .before .before .before .before .before .smooth-bins .ensures .1, ← c .before .before .before .histogram-peaks .ensures .1, ← c .before .before .around .ensures .1, ← c .before .around2 .ensures .1) (c .coarse .ensures .1))
+unfolding C.gradientCandidates
+returns c =
+    let p = c .before .before .before in
+    let s = p .before .before .before in
+    let h = s .before .before .before .before in
+    let first = c .before .before .around .ensures .1 in
+    let second = c .before .around2 .ensures .1 in (
+      omega arith,
+      rw (← h .histogram .ensures .1, ← s .smooth-bins .ensures .1, ← p .histogram-peaks .ensures .1, ← first, ← second) (c .coarse .ensures .1),
+    )
 
 pub histogram-candidates-spec : {M : Type 1} → statement M
 histogram-candidates-spec =

@@ -6,7 +6,9 @@ use Rattle.candidates.proofs.histogram_peaks.Tie as tie
 
 returns : tie.Need-returns
 unfolding C.histogramPeaks
-returns c = (c .before .peaks .ensures .0, rw (← c .before .before .before .before .greatest .ensures, c .before .before .before .if1 .taken) (c .before .peaks .ensures .1))
+returns c =
+    let b = c .before .before .before in
+    (c .before .peaks .ensures .0, rw (← b .before .greatest .ensures, b .if1 .taken) (c .before .peaks .ensures .1))
 
 returns-2 : tie.Need-returns-2
 unfolding C.histogramPeaks

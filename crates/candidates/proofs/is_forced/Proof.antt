@@ -13,7 +13,4 @@ unfolding C.isForced
 returns-2 c = rw (← c .before .before .matches-pair .ensures, c .before .if1 .left) (c .matches-pair2 .ensures)
 
 pub is-forced-spec : {M : Type 1} → statement M
-is-forced-spec =
-    tie.close
-    (tie.spec
-    (λ c κs. search needs) returns (λ c κs. search needs) returns-2)
+is-forced-spec = tie.close (tie.spec (λ c κs. search needs) (λ c κs. search needs) returns returns-2)

@@ -11,10 +11,10 @@ use Rattle.candidates.proofs.nearest.Statement.{statement}
 use Rattle.candidates.proofs.nearest.Tie as tie
 
 abbrev Inv-loop : tie.InvT-loop
-Inv-loop target set n s₀ c₀ s c = (c ≤ n) × (s .i ≤ n) × (s ≡ C.nearest (set .angles) target c)
+Inv-loop targetW candidates n best₀ c₀ best c = (c ≤ n) × (best .«best_i» ≤ n) × (best ≡ C.nearest (candidates .angles) targetW c)
 
 abbrev μ-loop : tie.MeasureT-loop
-μ-loop target set n s₀ c₀ s c = n - c
+μ-loop targetW candidates n best₀ c₀ best c = n - c
 
 loop-holds : tie.Need-loop-holds Inv-loop μ-loop
 unfolding C.nearest div ofBits
@@ -22,7 +22,10 @@ loop-holds c = (search needs, search needs, rw iter-zero)
 
 loop-again : tie.Need-loop-again Inv-loop μ-loop
 unfolding C.nearest C.nearer
-loop-again c = (search needs, rw (c .nearer .ensures) (nearer-place _ _ _ _ (search needs) (search needs)), iter-more _ _ _ _ _ (c .before .before .before .before .loop .inv .2) (rw (← c .before .line-delta .ensures) (c .nearer .ensures)))
+loop-again c =
+    let e = c .nearer .ensures in
+    let l = c .before .before .before .before .loop in
+    (search needs, rw e (nearer-place _ _ _ _ (search needs) (search needs)), iter-more _ _ _ _ _ (l .inv .2) (rw (← c .before .line-delta .ensures .0) e))
 
 returns : tie.Need-returns Inv-loop μ-loop
 returns c = let h : c .before .loop .c ≡ c .before .before .args .t1 .n = omega arith in (search needs, rw h at (c .before .loop .inv .2))

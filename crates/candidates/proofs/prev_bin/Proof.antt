@@ -14,7 +14,4 @@ unfolding C.prevBin
 returns-2 c = (search needs, rw (ne-eqb _ _ (c .if1 .left)))
 
 pub prev-bin-spec : {M : Type 1} → statement M
-prev-bin-spec =
-    tie.close
-    (tie.spec
-    returns (λ c. search needs) returns-2)
+prev-bin-spec = tie.close (tie.spec (λ c. search needs) returns (λ c. search needs) returns-2)

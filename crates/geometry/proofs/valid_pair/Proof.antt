@@ -6,11 +6,15 @@ use Rattle.geometry.proofs.valid_pair.Tie as tie
 
 returns : tie.Need-returns
 unfolding G.validPair
-returns c = rw (← c .before .line-separation .ensures, c .if1 .taken)
+returns c =
+    let b = c .before .before in
+    rw (← b .before .line-separation .ensures .0, ← b .to-radians .ensures, ← c .before .to-radians2 .ensures, c .if1 .taken)
 
 returns-2 : tie.Need-returns-2
 unfolding G.validPair
-returns-2 c = rw (← c .before .line-separation .ensures, c .if1 .left)
+returns-2 c =
+    let b = c .before .before in
+    rw (← b .before .line-separation .ensures .0, ← b .to-radians .ensures, ← c .before .to-radians2 .ensures, c .if1 .left)
 
 pub valid-pair-spec : {M : Type 1} → statement M
-valid-pair-spec = tie.close (tie.spec (λ c κs. search needs) returns returns-2)
+valid-pair-spec = tie.close (tie.spec (λ c κs. search needs) (λ c κs. search needs) (λ c κs. search needs) returns returns-2)

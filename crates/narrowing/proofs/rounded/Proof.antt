@@ -1,5 +1,4 @@
 -- Assumes nothing.
-use mathlib.Core.Path.{_≡_}
 use native.Mathlib.Omega.{arith}
 use Rattle.floats.specs.NarrowLaws.{closest-up, closest-tie, closest-down, rest-in, quotient-in, not-more}
 use borrow.Author.Needs.{needs}

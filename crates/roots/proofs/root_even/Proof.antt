@@ -1,13 +1,13 @@
 -- The nearest whole number s to the root of m is the whole root q, or q + 1: whichever the rounding of the root asks for. Assumes nothing.
 use Prim.Native.Nat.{ℕ, suc, _+_, _*_, _-_, _^_, _≤_, _<_}
-use mathlib.Core.Path.{_≡_, refl, sym, ap, subst, _∙_}
+use mathlib.Core.Path.{_≡_, refl, ap, subst, _∙_}
 use mathlib.Core.Bool.{Bool, true, false}
 use native.Mathlib.Omega.{arith}
 use native.Mathlib.Nat.{lt-of-lt-of-le, le-of-eq, mul-add, add-mul}
 use lib.Dec.{ltb}
 use lib.Ieee.{binary32, units}
 use borrow.Author.Tests.{ltb-true, ltb-false}
-use Rattle.floats.specs.RootLaws.{IsRoot, root-above, root-below, root-up, root-stay, suc-square}
+use Rattle.floats.specs.RootLaws.{root-above, root-below, root-up, root-stay, suc-square}
 use Rattle.floats.specs.Library.{rootUnits}
 use borrow.Author.Needs.{needs}
 use Rattle.roots.proofs.root_even.Statement.{statement}

@@ -1,7 +1,7 @@
 -- A NaN, a zero and +infinity stay, what is below zero has no root, and the rest goes by its bits. Assumes nothing.
 use mathlib.Core.Path.{_≡_, _∙_, ap, subst}
 use mathlib.Core.Bool.{true, false}
-use lib.Ieee.{Float, binary32, ofBits, eq, lt}
+use lib.Ieee.{Float, binary32, eq, lt}
 use lib.Ieee.Bits.{ofBits-toBits}
 use Rattle.floats.specs.FiniteLaws.{zero32, of-true}
 use Rattle.floats.specs.Library.{sqrt}

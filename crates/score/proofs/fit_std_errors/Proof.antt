@@ -6,7 +6,16 @@ use Rattle.score.proofs.fit_std_errors.Tie as tie
 
 returns : tie.Need-returns
 unfolding S.fitStdErrors
-returns c = rw (← c .before .before .before .before .before .moments-of .ensures, ← c .before .before .before .before .normal .ensures, ← c .before .before .before .residual .ensures, ← c .before .before .narrow .ensures) (c .errors-of .ensures)
+returns c =
+    let c3 = c .before .before .before in
+    let c4 = c3 .before in
+    let c5 = c4 .before in
+    λ energy angles weights. rw (
+      ← c5 .moments-of .ensures,
+      ← c4 .normal .ensures,
+      ← c3 .residual .ensures,
+      ← c .before .before .narrow .ensures,
+    ) (c .errors-of .ensures)
 
 pub fit-std-errors-spec : {M : Type 1} → statement M
 fit-std-errors-spec =

@@ -6,7 +6,12 @@ use Rattle.score.proofs.gathered.Tie as tie
 
 returns : tie.Need-returns
 unfolding S.gathered
-returns c = rw (c .before .before .before .before .before .before .before .before .before .before .widen4 .ensures, c .before .before .before .before .before .before .before .before .before .before .before .widen3 .ensures, c .before .before .before .before .before .before .before .before .before .before .before .before .widen2 .ensures, c .before .before .before .before .before .before .before .before .before .before .before .before .before .widen .ensures)
+returns c =
+    let c10 = c .before .before .before .before .before .before .before .before .before .before in
+    let c11 = c10 .before in
+    let c12 = c11 .before in
+    let c13 = c12 .before in
+    rw (c10 .widen4 .ensures, c11 .widen3 .ensures, c12 .widen2 .ensures, c13 .widen .ensures)
 
 pub gathered-spec : {M : Type 1} → statement M
 gathered-spec =

@@ -6,7 +6,28 @@ use Rattle.score.proofs.normal.Tie as tie
 
 returns : tie.Need-returns
 unfolding S.normal
-returns c = rw (c .narrow10 .ensures, c .before .narrow9 .ensures, c .before .before .narrow8 .ensures, c .before .before .before .narrow7 .ensures, c .before .before .before .before .narrow6 .ensures, c .before .before .before .before .before .narrow5 .ensures, c .before .before .before .before .before .before .narrow4 .ensures, c .before .before .before .before .before .before .before .narrow3 .ensures, c .before .before .before .before .before .before .before .before .narrow2 .ensures, c .before .before .before .before .before .before .before .before .before .narrow .ensures, c .before .before .before .before .before .before .before .before .before .before .count-f64 .ensures)
+returns c =
+    let c3 = c .before .before .before in
+    let c4 = c3 .before in
+    let c5 = c4 .before in
+    let c6 = c5 .before in
+    let c7 = c6 .before in
+    let c8 = c7 .before in
+    let c9 = c8 .before in
+    let c10 = c9 .before in
+    rw (
+      c .narrow10 .ensures,
+      c .before .narrow9 .ensures,
+      c .before .before .narrow8 .ensures,
+      c3 .narrow7 .ensures,
+      c4 .narrow6 .ensures,
+      c5 .narrow5 .ensures,
+      c6 .narrow4 .ensures,
+      c7 .narrow3 .ensures,
+      c8 .narrow2 .ensures,
+      c9 .narrow .ensures,
+      c10 .count-f64 .ensures,
+    )
 
 pub normal-spec : {M : Type 1} → statement M
 normal-spec =

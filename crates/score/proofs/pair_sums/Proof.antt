@@ -24,7 +24,7 @@ unfolding S.pairSums S.summed
 loop-again c = (search needs, rw iter-next (cc))
 
 returns : tie.Need-returns Inv-loop μ-loop
-returns c = let h : c .before .loop .p ≡ length (c .before .before .args .vals .now) = omega arith in rw h at (c .before .loop .inv .1)
+returns c = let h : c .before .loop .p ≡ length (c .before .before .args .vals-centered .now) = omega arith in rw h at (c .before .loop .inv .1)
 
 pub pair-sums-spec : {M : Type 1} → statement M
 pair-sums-spec =

@@ -6,15 +6,26 @@ use Rattle.score.proofs.score_pair_cached.Tie as tie
 
 returns : tie.Need-returns
 unfolding S.scorePairCached
-returns c = rw (← c .before .valid-pair .ensures, c .if1 .left)
+returns c = λ xs ys angles weights l. rw (← c .before .valid-pair .ensures, c .if1 .left)
 
 returns-2 : tie.Need-returns-2
 unfolding S.scorePairCached
-returns-2 c = rw (← c .before .before .valid-pair .ensures, c .before .if1 .taken, c .if2 .taken)
+returns-2 c = λ xs ys angles weights l. rw (← c .before .before .valid-pair .ensures, c .before .if1 .taken, c .if2 .taken)
 
 returns-3 : tie.Need-returns-3
 unfolding S.scorePairCached
-returns-3 c = rw (← c .before .before .before .before .before .valid-pair .ensures, c .before .before .before .before .if1 .taken, c .before .before .before .if2 .left, ← c .before .before .pair-sums .ensures, ← c .before .count-f32 .ensures) (c .scored-sums .ensures)
+returns-3 c =
+    let c3 = c .before .before .before in
+    let c4 = c3 .before in
+    let c5 = c4 .before in
+    λ xs ys angles weights l. rw (
+      ← c5 .valid-pair .ensures,
+      c4 .if1 .taken,
+      c3 .if2 .left,
+      l,
+      ← c .before .before .pair-sums .ensures,
+      ← c .before .count-f32 .ensures,
+    ) (c .scored-sums .ensures)
 
 pub score-pair-cached-spec : {M : Type 1} → statement M
 score-pair-cached-spec =

@@ -4,7 +4,7 @@ use Prim.Native.Nat.{_≤_, _-_}
 use native.Mathlib.Omega.{arith}
 use lib.ListN.{length}
 use borrow.Author.Tests.{eqb-true}
-use Rattle.score_edges.specs.EdgesLaws.{AllNear, all-near-none, all-near-next, far-most}
+use Rattle.score_edges.specs.NearLaws.{AllNear, all-near-none, all-near-next, far-most}
 use borrow.Author.Needs.{needs}
 use Rattle.score_edges.proofs.all_near.Statement.{statement}
 use Rattle.score_edges.proofs.all_near.Tie as tie
@@ -22,10 +22,15 @@ add-count : tie.Need-add-count Inv-loop μ-loop
 add-count c = let h = far-most _ _ (c .far .ensures) in search (needs, h)
 
 loop-again : tie.Need-loop-again Inv-loop μ-loop
-loop-again c = let h = far-most _ _ (c .far .ensures) in (search needs, omega (arith, h), all-near-next _ _ _ _ _ (c .before .before .before .loop .inv .2) (c .far .ensures))
+loop-again c =
+    let h = far-most _ _ (c .far .ensures) in
+    (search needs, omega (arith, h), all-near-next _ _ _ _ _ (c .before .before .before .loop .inv .2) (c .far .ensures))
 
 returns : tie.Need-returns Inv-loop μ-loop
-returns c = λ e. let h : c .before .loop .p ≡ length (c .before .before .before .args .angles .now) = omega arith in rw h at (c .before .loop .inv .2 (eqb-true _ _ e))
+returns c = λ e.
+    let a = c .before .before .before .args in
+    let h : c .before .loop .p ≡ length (a .grad-angles .now) = omega arith in
+    rw h at (c .before .loop .inv .2 (eqb-true _ _ e))
 
 pub all-near-spec : {M : Type 1} → statement M
 all-near-spec =

@@ -14,15 +14,28 @@ returns-2 c = rw (c .before .before .before .first .given .1, ← c .before .fit
 
 returns-3 : tie.Need-returns-3
 unfolding S.insertTop S.insertAt S.behind
-returns-3 c = rw (c .before .before .before .before .before .first .given .1, c .enum-told2 .given .1, ← c .before .before .before .fit-is-better .ensures, c .before .before .if1 .left)
+returns-3 c =
+    let c3 = c .before .before .before in
+    let c5 = c3 .before .before in
+    rw (c5 .first .given .1, c .enum-told2 .given .1, ← c3 .fit-is-better .ensures, c .before .before .if1 .left)
 
 returns-4 : tie.Need-returns-4
 unfolding S.insertTop S.insertAt S.behind
-returns-4 c = rw (c .before .before .before .before .before .before .before .before .first .given .1, c .before .before .before .second .given .1, ← c .before .before .before .before .before .before .fit-is-better .ensures, c .before .before .before .before .before .if1 .left, ← c .before .fit-is-better2 .ensures, c .if2 .taken)
+returns-4 c =
+    let c3 = c .before .before .before in
+    let c5 = c3 .before .before in
+    let c6 = c5 .before in
+    let c8 = c6 .before .before in
+    rw (c8 .first .given .1, c3 .second .given .1, ← c6 .fit-is-better .ensures, c5 .if1 .left, ← c .before .fit-is-better2 .ensures, c .if2 .taken)
 
 returns-5 : tie.Need-returns-5
 unfolding S.insertTop S.insertAt S.behind
-returns-5 c = rw (c .before .before .before .before .before .before .before .before .first .given .1, c .before .before .before .second .given .1, ← c .before .before .before .before .before .before .fit-is-better .ensures, c .before .before .before .before .before .if1 .left, ← c .before .fit-is-better2 .ensures, c .if2 .left)
+returns-5 c =
+    let c3 = c .before .before .before in
+    let c5 = c3 .before .before in
+    let c6 = c5 .before in
+    let c8 = c6 .before .before in
+    rw (c8 .first .given .1, c3 .second .given .1, ← c6 .fit-is-better .ensures, c5 .if1 .left, ← c .before .fit-is-better2 .ensures, c .if2 .left)
 
 pub insert-top-spec : {M : Type 1} → statement M
 insert-top-spec =

@@ -1,39 +1,60 @@
--- Three steps of the search, from empty slots; the weights are as many as the pixels, and the number of trials is a law of the definition. Assumes nothing.
-use Rattle.search_refine.specs.Refine.{diskOf}
-use Rattle.search_refine.specs.RefineLaws.{Sized, Holds, kept-none, refined-is, trials-are}
-use Rattle.search_refine.specs.Refine.{around, offsetsBy, stepOf}
-use Rattle.search_refine.specs.declared.Refined.{Refined}
-use Rattle.loops.specs.IterLaws.{iter-zero, iter-more}
-use Rattle.loops.specs.Loops.{iter}
+-- 24 turns from empty slots, each the definition's; the weights are as many as the pixels. Assumes nothing.
+use mathlib.Core.Path.{_≡_, _∙_}
+use Prim.Native.Nat.{_≤_, _-_}
 use native.Mathlib.Omega.{arith}
-use Prim.Native.Nat.{_≤_, _-_, _*_}
-use mathlib.Core.Path.{_≡_, _∙_, ap}
+use lib.ListN.{getD}
+use Rattle.loops.specs.Loops.{iter}
+use Rattle.loops.specs.IterLaws.{iter-zero, iter-more}
+use Rattle.data.specs.Data.{diskOf}
+use Rattle.search_rows.specs.Rows.{Kept}
+use Rattle.search_rows.specs.RowsLaws.{kept-none}
+use Rattle.search_refine.specs.Refine.{offsets, nowhere, tried}
+use Rattle.search_refine.specs.RefineLaws.{refined-is}
 use borrow.Author.Needs.{needs}
 use Rattle.search_refine.proofs.refine_fit_cached.Statement.{statement}
 use Rattle.search_refine.proofs.refine_fit_cached.Tie as tie
 
 abbrev Inv-loop : tie.InvT-loop
-Inv-loop energy xs ys vals angles weights r1₀ e1₀ r2₀ e2₀ terms₀ total k1₀ k2₀ s₀ k₀ r1 e1 r2 e2 terms k1 k2 s k = (k ≤ 3) × (s .trials ≤ 9 * k) × Sized xs ys angles weights terms × Holds xs ys angles weights (s .best .width) k1 r1 e1 k2 r2 e2 × (s ≡ iter (λ k s. around (diskOf energy xs ys vals angles weights) total (offsetsBy (stepOf k)) s) s₀ k)
+Inv-loop val-energy xs ys vals-centered grad-angles grad-weights rows₀ total turn₀ t₀ rows turn t =
+    let D = diskOf val-energy xs ys vals-centered grad-angles grad-weights in
+    (t ≤ 24) × (turn .refined .trials ≡ t) × (turn .slots .total ≡ total)
+    × Kept xs ys grad-angles grad-weights (turn .refined .best .width) (turn .slots) rows
+    × (turn .refined .best ≡ iter (λ t. tried D total (getD offsets t nowhere)) (turn₀ .refined .best) t)
 
 abbrev μ-loop : tie.MeasureT-loop
-μ-loop energy xs ys vals angles weights r1₀ e1₀ r2₀ e2₀ terms₀ total k1₀ k2₀ s₀ k₀ r1 e1 r2 e2 terms k1 k2 s k = 3 - k
+μ-loop val-energy xs ys vals-centered grad-angles grad-weights rows₀ total turn₀ t₀ rows turn t = 24 - t
 
 loop-holds : tie.Need-loop-holds Inv-loop μ-loop
-loop-holds c = (search needs, search needs, c .before .before .before .before .before .before .before .before .before .before .before .pre .1, record { one = kept-none _ _ (c .before .before .before .before .before .before .before .before .before .before .before .pre .2); two = kept-none _ _ (c .before .before .before .before .before .before .before .before .before .before .before .pre .3) }, rw iter-zero)
+loop-holds c =
+    let s = c .before .before .before .before .before .before .before .before in
+    (search needs, search needs, rw (c .no-slots .ensures), rw (c .no-slots .ensures) (kept-none _ _ (s .pre .1)), rw iter-zero)
 
-step-around-requires : tie.Need-step-around-requires Inv-loop μ-loop
-step-around-requires c κs = (omega (arith, c .before .before .before .before .before .before .before .before .before .before .loop .inv .1, c .before .before .before .before .before .before .before .before .before .before .loop .inv .0), c .before .before .before .before .before .before .before .before .before .before .before .before .before .before .before .before .before .before .before .before .before .before .pre .0, c .before .before .before .before .before .before .before .before .before .before .loop .inv .2, c .before .before .before .before .before .before .before .before .before .before .loop .inv .3)
+try-neighbour-requires : tie.Need-try-neighbour-requires Inv-loop μ-loop
+try-neighbour-requires c κs =
+    let i = c .before .before .loop .inv in
+    let s = c .before .before .before .before .before .before .before .before .before .before .before in
+    (search needs, omega (arith, i .1), s .pre .0, i .3)
 
 loop-again : tie.Need-loop-again Inv-loop μ-loop
-loop-again c = let e = c .before .before .before .before .before .before .before .before .before .before .before .before .step-around .ensures in (search needs, omega (arith, e .2, c .before .before .before .before .before .before .before .before .before .before .before .before .before .before .before .before .before .before .before .before .before .before .before .loop .inv .1), e .0, e .1, iter-more _ _ _ _ _ (c .before .before .before .before .before .before .before .before .before .before .before .before .before .before .before .before .before .before .before .before .before .before .before .loop .inv .4) (rw (← c .before .before .before .before .before .before .before .before .before .before .before .before .before .before .before .before .before .before .before .before .before .offsets .ensures) (e .3)))
+loop-again c =
+    let e = c .before .before .try-neighbour .ensures in
+    let i = c .before .before .before .before .before .loop .inv in
+    (search needs, omega (arith, e .0, i .1), e .2 ∙ i .2, e .1, iter-more _ _ _ _ _ (i .4) (rw (i .2) at (e .3)))
 
 returns : tie.Need-returns Inv-loop μ-loop
-returns c = let a = c .before .before .before .before .before .before .before .before .before .before .before .before .before .args in let i = c .before .loop .inv in let h : c .before .loop .k ≡ 3 = omega arith in let e = refined-is (a .energy) (a .xs .now) (a .ys .now) (a .vals .now) (a .angles .now) (a .weights .now) _ (a .seed) _ (c .before .before .edge-weight-total .ensures) (c .before .before .before .before .before .before .before .before .before .before .before .before .before .pre .1 .w) (rw h at (c .before .loop .inv .4)) in (i .2, i .3 .one .room, i .3 .two .room, ap (λ (q : Refined). q .trials) e ∙ trials-are _ _, e)
+returns c =
+    let l = c .before .before in
+    let h : l .loop .t ≡ 24 = omega arith in
+    let i = rw h at (l .loop .inv) in
+    let w = l .before .before in
+    let s = w .before .before .before .before .before .before .before in
+    let a = s .args in
+    refined-is (a .val-energy) (a .xs .now) (a .ys .now) (a .vals-centered .now) (a .grad-angles .now) (a .grad-weights .now) _ (a .seed) _
+    (w .edge-weight-total .ensures) (s .pre .0 .w) (i .1) (i .4)
 
 pub refine-fit-cached-spec : {M : Type 1} → statement M
 refine-fit-cached-spec =
     tie.close
     (tie.spec
-    Inv-loop μ-loop (λ c κs. search needs) loop-holds (λ c κs. search needs) (λ c. search needs) (λ c. search needs)
-    step-around-requires (λ c. search needs) (λ c. search needs) loop-again (λ c. search needs) (λ c. search needs)
-    (λ c. search needs) (λ c. search needs) (λ c. search needs) returns)
+    Inv-loop μ-loop (λ c κs. search needs) (λ c κs. search needs) loop-holds try-neighbour-requires
+    (λ c. search needs) (λ c. search needs) loop-again (λ c. search needs) returns)

@@ -1,4 +1,4 @@
--- The refusals in document 01's order. Assumes nothing.
+-- The refusals in the order of docs/RULES.md. Assumes nothing.
 use Rattle.shapes.specs.Shapes as S
 use borrow.Author.Tests.{lt-ltb, le-ltb}
 use borrow.Author.Needs.{needs}

@@ -11,20 +11,24 @@ use Rattle.candidates.proofs.CandidateSet.is_near.Statement.{statement}
 use Rattle.candidates.proofs.CandidateSet.is_near.Tie as tie
 
 abbrev Inv-loop : tie.InvT-loop
-Inv-loop a minsep self n i₀ i = (i ≤ n) × (C.isNear (self .angles) i a minsep ≡ false)
+Inv-loop a minSep self n i₀ i = (i ≤ n) × (C.isNear (self .angles) i a minSep ≡ false)
 
 abbrev μ-loop : tie.MeasureT-loop
-μ-loop a minsep self n i₀ i = n - i
+μ-loop a minSep self n i₀ i = n - i
 
 loop-holds : tie.Need-loop-holds Inv-loop μ-loop
 unfolding C.isNear
 loop-holds c = (search needs, rw iter-zero)
 
 returns : tie.Need-returns Inv-loop μ-loop
-returns c = near-found _ _ _ _ _ (c .before .before .before .loop-test .taken) (c .before .before .before .before .loop .inv .1) (rw (c .before .line-delta .ensures) at (c .if1 .taken))
+returns c =
+    let b = c .before .before .before in
+    near-found _ _ _ _ (b .before .loop .inv .1) _ (b .loop-test .taken) (rw (c .before .line-delta .ensures .0) at (c .if1 .taken))
 
 loop-again : tie.Need-loop-again Inv-loop μ-loop
-loop-again c = (search needs, near-not _ _ _ _ (c .before .before .before .before .loop .inv .1) (rw (c .before .line-delta .ensures) at (c .if1 .left)))
+loop-again c =
+    let b = c .before .before .before in
+    (search needs, near-not _ _ _ _ (b .before .loop .inv .1) (rw (c .before .line-delta .ensures .0) at (c .if1 .left)))
 
 returns-2 : tie.Need-returns-2 Inv-loop μ-loop
 returns-2 c = let h : c .before .loop .i ≡ c .before .before .args .t1 .n = omega arith in cc

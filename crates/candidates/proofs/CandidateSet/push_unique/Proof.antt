@@ -11,11 +11,15 @@ returns c = (search needs, search needs, rw (le-leb _ _ (c .if1 .taken)))
 
 returns-2 : tie.Need-returns-2
 unfolding C.pushUnique
-returns-2 c = (search needs, search needs, rw (lt-leb _ _ (c .before .before .before .if1 .left), ← c .before .before .wrap-pi .ensures, ← c .before .is-near .ensures, c .if2 .taken))
+returns-2 c =
+    let b = c .before .before in
+    (search needs, search needs, rw (lt-leb _ _ (b .before .if1 .left), ← b .wrap-pi .ensures .0, ← c .before .is-near .ensures, c .if2 .taken))
 
 returns-3 : tie.Need-returns-3
 unfolding C.pushUnique C.appended
-returns-3 c = (search needs, search needs, rw (lt-leb _ _ (c .before .before .before .if1 .left), ← c .before .before .wrap-pi .ensures, ← c .before .is-near .ensures, c .if2 .left))
+returns-3 c =
+    let b = c .before .before in
+    (search needs, search needs, rw (lt-leb _ _ (b .before .if1 .left), ← b .wrap-pi .ensures .0, ← c .before .is-near .ensures, c .if2 .left))
 
 pub push-unique-spec : {M : Type 1} → statement M
 push-unique-spec =
