@@ -1,13 +1,13 @@
 -- The held rows score a neighbour as the definition does; a refinement makes one scoring for each of 24 offsets, and its best is the seed
 -- or what one of them answered, of the seed's own width. Assumes nothing.
 use mathlib.Core.Path.{_≡_, refl, sym, ap, _∙_, subst}
-use mathlib.Core.Bool.{Bool, true, false, cond, _&&_}
-use mathlib.Core.List.{List, [], _∷_, _++_}
+use mathlib.Core.Bool.{Bool, true, false, cond}
+use mathlib.Core.List.{List, [], _∷_}
 use Prim.Native.Nat.{ℕ, zero, suc, _+_, _/_, _%_, _<_, _≤_}
 use native.Mathlib.Omega.{arith}
 use lib.Dec.{leb, le→leb}
 use lib.ListN.{length, getD}
-use lib.Ieee.{Float, nan, eq, mul, neg, ofBits}
+use lib.Ieee.{Float, eq, mul, neg, ofBits}
 use lib.Ieee.Bits.{is-true}
 use Rattle.floats.specs.Ops.{_⊕_, lit, nought}
 use Rattle.floats.specs.Library.{toRadians}
@@ -29,7 +29,10 @@ use Rattle.search_refine.specs.declared.Refined.{Refined}
 use Rattle.search_refine.specs.Refine.{by, unlessMiddle, beside, around, offsets, nowhere, neighbour, betterOf, tried}
 use Rattle.search_refine.specs.Refine.{bestAfter, refineFitCached, answers, refineFit}
 
--- ---- how the code finds the offsets of neighbour t: eight a step, the middle of the square passed over
+-- ---- how the code finds the offsets of neighbour t of 24: eight a step, the middle of the square passed over
+abbrev pub neighbours : ℕ
+neighbours = 24
+
 abbrev pub placeOf : ℕ → ℕ
 placeOf t = t % 8 + t % 8 / 4
 
@@ -42,15 +45,15 @@ sides step = neg step ∷ nought ∷ step ∷ []
 abbrev offsetBy : ℕ → Offset
 offsetBy t = by (at (sides (stepAt t)) (placeOf t / 3)) (at (sides (stepAt t)) (placeOf t % 3))
 
-all-offsets : tab offsetBy 24 ≡ offsets
+all-offsets : tab offsetBy neighbours ≡ offsets
 unfolding tab offsets around beside unlessMiddle toRadians eq mul neg ofBits
 all-offsets = refl
 
-pub offset-at : (t : ℕ) → t < 24 → offsetBy t ≡ getD offsets t nowhere
-offset-at t h = sym (tab-at offsetBy nowhere 24 t h) ∙ ap (λ (l : List Offset). getD l t nowhere) all-offsets
+pub offset-at : (t : ℕ) → t < neighbours → offsetBy t ≡ getD offsets t nowhere
+offset-at t h = sym (tab-at offsetBy nowhere neighbours t h) ∙ ap (λ (l : List Offset). getD l t nowhere) all-offsets
 
-pub offsets-are : length offsets ≡ 24
-offsets-are = ap length (sym all-offsets) ∙ tab-length offsetBy 24
+pub offsets-are : length offsets ≡ neighbours
+offsets-are = ap length (sym all-offsets) ∙ tab-length offsetBy neighbours
 
 -- ---- a neighbour
 -- with the rows of both axes in their slots the held score is the neighbour's
@@ -99,11 +102,11 @@ kept-on {xs} {ys} {angles} {weights} {rows} {slots} D total o best next e h =
     subst (λ (w : Float). Kept xs ys angles weights w slots rows) (sym (ap (λ (f : Fit). f .width) e ∙ tried-width D total o best)) h
 
 -- ---- the whole refinement
--- 24 turns of the code, with the total of all weights
+-- all turns of the code, with the total of all weights
 pub refined-is :
     (energy : Float) (xs ys vals angles weights : Row) (total : Float) (seed : Fit) (r : Refined) →
-    total ≡ edgeWeightTotal (length weights) weights → length weights ≡ length xs → r .trials ≡ 24 →
-    r .best ≡ iter (λ t. tried (diskOf energy xs ys vals angles weights) total (getD offsets t nowhere)) seed 24 →
+    total ≡ edgeWeightTotal (length weights) weights → length weights ≡ length xs → r .trials ≡ neighbours →
+    r .best ≡ iter (λ t. tried (diskOf energy xs ys vals angles weights) total (getD offsets t nowhere)) seed neighbours →
     r ≡ refineFitCached (diskOf energy xs ys vals angles weights) seed
 unfolding refineFitCached bestAfter
 refined-is energy xs ys vals angles weights total seed r t w n e =

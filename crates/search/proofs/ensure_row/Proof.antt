@@ -3,6 +3,7 @@ use mathlib.Core.Path.{_≡_}
 use Prim.Native.Nat.{_+_, _-_, _*_}
 use native.Mathlib.Omega.{arith}
 use lib.ListN.{length}
+use Rattle.data.specs.Data.{maxTanhPixels}
 use Rattle.search.specs.CacheLaws.{cached-more, keeps-marked}
 use borrow.Author.Needs.{needs}
 use Rattle.search.proofs.ensure_row.Statement.{statement}
@@ -13,7 +14,7 @@ returns-2 c =
     let s = c .before .before .before .before .before .before .before .before .before in
     let n = length (s .args .xs .now) in
     let k = s .args .c in
-    let p : k * 320 + n - k * 320 ≡ n = omega arith in (
+    let p : k * maxTanhPixels + n - k * maxTanhPixels ≡ n = omega arith in (
       rw p (cached-more _ _ _ _ _ k (s .pre .3) (s .pre .0) (s .pre .2) (c .before .before .axis-row .ensures)),
       keeps-marked _ _ (omega (arith, s .pre .0, s .pre .3 .marks)),
     )

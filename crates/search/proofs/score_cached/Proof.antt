@@ -3,6 +3,7 @@ use mathlib.Core.Path.{_≡_}
 use Prim.Native.Nat.{_+_, _-_, _*_}
 use native.Mathlib.Omega.{arith}
 use lib.ListN.{length}
+use Rattle.data.specs.Data.{maxTanhPixels}
 use Rattle.search.specs.Cache.{cachedScore}
 use borrow.Author.Needs.{needs}
 use Rattle.search.proofs.score_cached.Statement.{statement}
@@ -15,8 +16,8 @@ returns c = λ xs ys angles weights l.
     let n = length (s .args .vals-centered .now) in
     let i = s .args .p .i in
     let j = s .args .p .j in
-    let x : i * 320 + n - i * 320 ≡ n = omega arith in
-    let y : j * 320 + n - j * 320 ≡ n = omega arith in
+    let x : i * maxTanhPixels + n - i * maxTanhPixels ≡ n = omega arith in
+    let y : j * maxTanhPixels + n - j * maxTanhPixels ≡ n = omega arith in
     rw l (rw (x, y, l) at (c .score-pair-cached .ensures xs ys angles weights l))
 
 pub score-cached-spec : {M : Type 1} → statement M

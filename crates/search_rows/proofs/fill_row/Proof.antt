@@ -3,6 +3,7 @@ use mathlib.Core.Path.{_≡_, _∙_}
 use Prim.Native.Nat.{_+_, _-_, _*_}
 use native.Mathlib.Omega.{arith}
 use lib.ListN.{length}
+use Rattle.data.specs.Data.{maxTanhPixels}
 use Rattle.search_rows.specs.RowsLaws.{filled}
 use borrow.Author.Needs.{needs}
 use Rattle.search_rows.proofs.fill_row.Statement.{statement}
@@ -15,8 +16,8 @@ returns c =
     let s = c6 .before .before .before .before .before .before .before in
     let n = length (s .args .xs .now) in
     let q = s .args .q in
-    let p : q * 320 + n - q * 320 ≡ n = omega arith in
-    let z : 1920 + n - 1920 ≡ n = omega arith in
+    let p : q * maxTanhPixels + n - q * maxTanhPixels ≡ n = omega arith in
+    let z : 6 * maxTanhPixels + n - 6 * maxTanhPixels ≡ n = omega arith in
     let er = c6 .axis-row .kept .1 .1 .1 .1 .0 in
     let eu = c2 .refined-sum .kept .1 .1 .1 .0 in
     let u = c2 .refined-sum .last .1 .1 .1 .0 in (
