@@ -9,20 +9,24 @@ use lib.Seq.{getD-set-same, getD-set-other}
 use lib.Dec.{T, eqb, eqb→eq}
 use lib.Ieee.{Float}
 use lib.Ieee.Fits.{eq→eqb}
+use Rattle.floats.specs.Ops.{nought}
 use Rattle.floats.specs.Rows.{Row, at}
 use Rattle.loops.specs.TabLaws.{tab-length, part-length}
 use Rattle.data.specs.Data.{DiskData, diskOf, maxTanhPixels, rowOf}
 use Rattle.data.specs.RowLaws.{lent, wrote}
-use Rattle.candidates.specs.Candidates.{maxPaired}
+use Rattle.candidates.specs.Candidates.{maxCandidates, maxPaired, forcedSeedPair, forcedHistogramPair, buildPairPool}
 use Rattle.candidates.specs.declared.CandidateSet.{CandidateSet}
+use Rattle.candidates.specs.declared.Forced.{Forced}
 use Rattle.candidates.specs.declared.PairScore.{PairScore}
 use Rattle.candidates.specs.declared.Pool.{Pool}
 use Rattle.search_ranking.specs.Ranking.{rank}
 use Rattle.search_ranking.specs.SinkLaws.{ranked-length, rank-count, rank-most, rank-pairs}
 use Rattle.search_ranking.specs.WithinLaws.{Within, pool-within, ranked-within}
 use Rattle.search_ranking.specs.declared.Ranked.{Ranked}
-use Rattle.score.specs.Score.{axisRow}
-use Rattle.search.specs.Search.{pairScored, poolOf}
+use Rattle.score.specs.Score.{axisRow, Alignments, precomputeEdgeAlignments}
+use Rattle.score.specs.declared.Scored.{Scored}
+use Rattle.search.specs.declared.Leaders.{Leaders}
+use Rattle.search.specs.Search.{entered, pairScored, poolOf}
 use Rattle.search.specs.Cache.{cacheRoom, Cached, Keeps, Listed, cachedScore}
 
 module _ (xs ys : Row) (candidates : CandidateSet) (width : Float) where
@@ -77,7 +81,7 @@ keeps-marked filled c h = record { here = getD-set-same filled c true false h; s
     marked (x ∷ l) (suc c) (suc d) e = marked l c d e
 
 -- with both rows filled it is the definition's score
-pub cached-score :
+cached-score :
     (energy : Float) (xs ys vals angles weights : Row) (candidates : CandidateSet) (width : Float) (p : PairScore)
     {filled : List Bool} {cache : Row} → Cached xs ys candidates width filled cache →
     getD filled (p .i) false ≡ true → getD filled (p .j) false ≡ true →
@@ -85,6 +89,25 @@ pub cached-score :
     ≡ pairScored (diskOf energy xs ys vals angles weights) candidates width p
 unfolding cachedScore pairScored
 cached-score energy xs ys vals angles weights candidates width p h a b = rw (h .row (p .i) a, h .row (p .j) b)
+
+-- so what it makes of the leaders is the definition's turn
+pub pair-tried :
+    (energy : Float) (xs ys vals angles weights : Row) (candidates : CandidateSet) (width : Float) (p : PairScore)
+    {filled : List Bool} {cache : Row} (l next : Leaders) (a : Scored) → next ≡ entered l a →
+    a ≡ cachedScore (diskOf energy xs ys vals angles weights) candidates width p cache → Cached xs ys candidates width filled cache →
+    getD filled (p .i) false ≡ true → getD filled (p .j) false ≡ true →
+    next ≡ entered l (pairScored (diskOf energy xs ys vals angles weights) candidates width p)
+pair-tried energy xs ys vals angles weights candidates width p l next a en ea h i j =
+    en ∙ ap (entered l) (ea ∙ cached-score energy xs ys vals angles weights candidates width p h i j)
+
+-- ---- the pool of steps 1 and 2, from what its four calls return
+pub pool-is :
+    (D : DiskData) (candidates : CandidateSet) (base0 base1 total : Float) (out : Row) (seed hist : Forced) (pool : Pool) →
+    _≡_ {A = Alignments} (record { total = total; out = out }) (precomputeEdgeAlignments D candidates (replicate maxCandidates nought)) →
+    seed ≡ forcedSeedPair candidates base0 base1 → hist ≡ forcedHistogramPair candidates out →
+    pool ≡ buildPairPool candidates out total seed hist → pool ≡ poolOf D candidates base0 base1
+unfolding poolOf
+pool-is D candidates base0 base1 total out seed hist pool e s h p = rw (← e, ← s, ← h) p
 
 -- ---- the ranking of a pool of the candidates' pairs is listed so
 within-more : (a b : ℕ) (l : List PairScore) → a ≤ b → Within a l → Within b l

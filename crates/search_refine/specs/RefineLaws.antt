@@ -140,6 +140,9 @@ module _ (D : DiskData) (seed : Fit) where
   pub refine-trials : refineFitCached D seed .trials ≡ 24
   refine-trials = ap (λ (r : Refined). r .trials) refine-is-fold ∙ answers-are ∙ offsets-are
 
+  pub refined-trials : (r : Refined) → r ≡ refineFitCached D seed → r .trials ≡ 24
+  refined-trials r e = ap (λ (x : Refined). x .trials) e ∙ refine-trials
+
 -- up to 320 pixels the Rust takes the cached path
 pub refine-fit-is :
     (scalar : DiskData → Fit → Fit) (D : DiskData) (seed : Fit) → D .n ≤ maxTanhPixels → refineFit scalar D seed ≡ refineFitCached D seed .best

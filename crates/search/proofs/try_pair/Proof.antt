@@ -1,8 +1,6 @@
 -- Both rows are filled by then, so that the cache's score is the definition's. Assumes nothing.
-use mathlib.Core.Path.{sym, _∙_, ap}
-use Rattle.search.specs.CacheLaws.{cached-score}
-use Rattle.search.specs.Search as S
-use Rattle.score.specs.declared.Scored.{Scored}
+use mathlib.Core.Path.{sym}
+use Rattle.search.specs.CacheLaws.{pair-tried}
 use borrow.Author.Needs.{needs}
 use Rattle.search.proofs.try_pair.Statement.{statement}
 use Rattle.search.proofs.try_pair.Tie as tie
@@ -18,9 +16,8 @@ returns c =
       e2 .0,
       c .entered .ensures .0,
       λ angles weights.
-          let score = cached-score _ _ _ (a .vals-centered .now) angles weights _ _ (a .p) (e2 .0) first (e2 .1 .here) in
           let answer = c .before .score-cached .ensures (a .xs .now) (a .ys .now) angles weights (sym (s .pre .3 .v)) in
-          c .entered .ensures .1 ∙ ap (λ (x : Scored). S.entered (a .pass .leaders) x) (answer ∙ score),
+          pair-tried _ _ _ (a .vals-centered .now) angles weights _ _ (a .p) _ _ _ (c .entered .ensures .1) answer (e2 .0) first (e2 .1 .here),
     )
 
 pub try-pair-spec : {M : Type 1} → statement M
