@@ -67,7 +67,8 @@ float jb_narrow(double x);
  * characters are written), and 1 if `out` is under 98 bytes: nothing is written then. Bytes of `out` past the answer
  * keep their value; no byte outside `out` is touched, and `line` is not changed. Every line is answered; `line` and
  * `out` must not overlap.
- * The characters are those of the project's frame lines: lower-case hexadecimal, with a NaN as 7fc00000. */
+ * The characters of lines and answers are those of docs/RULES.md, Frame lines: lower-case hexadecimal, with a NaN as
+ * 7fc00000. */
 uint32_t jb_answer_line(const uint8_t *line, size_t line_len, uint8_t *out, size_t out_len);
 
 /* The ring fit of 16 samples at 16 angles (radians).
@@ -75,8 +76,9 @@ uint32_t jb_answer_line(const uint8_t *line, size_t line_len, uint8_t *out, size
  * starts (1 or 2), updates of the first start, of the second (0 to 6 each), 1 if the errors are known else 0.
  * Then 0 <= theta1 < PI, theta1 <= theta2 < 2 PI and both errors lie from 0 to PI; the amplitude is not below 0, or
  * NaN after an overflow. Elements behind those written keep their value.
- * Otherwise returns number * 65536 + place, and neither buffer is changed:
- *   65536 (number 1)       a slice of another length than 16, or `fit` under 6 or `counts` under 4 elements
+ * Otherwise returns number * 65536 + place (docs/RULES.md, Refusals), and neither buffer is changed. The first of these
+ * that applies:
+ *   65536 (number 1)       `fit` under 6 or `counts` under 4 elements; a slice of another length than 16
  *   196608 + place (3)     a value that is not finite: place 0 to 15 a sample, 16 to 31 an angle, the first one
  * The four arrays must not overlap. */
 uint32_t jb_fit_ring(const float *samples, size_t samples_len, const float *angles, size_t angles_len,
@@ -91,6 +93,8 @@ uint32_t jb_fit_ring(const float *samples, size_t samples_len, const float *angl
  * relative rms, correlation, edge score, objective, error of theta1, error of theta2; counts[0..1] = trials (at most
  * 144), 1 if the errors are known else 0. Then 0 <= theta1 < PI, theta1 <= theta2 < 2 PI and both errors lie from 0 to
  * PI; the amplitude is not below 0, or NaN after an overflow. Elements behind those written keep their value.
+ * An rms of 0 is a perfect fit only where the correlation is close to 1. Where a square overflowed, or val_energy is
+ * less than the sum of squares, the rms is 0 too: the correlation is then 0, NaN, infinite or above 1.
  * Otherwise returns number * 65536 + place, and neither buffer is changed. The first of these that applies:
  *   65536 (number 1)       `fit` under 11 or `counts` under 2 elements
  *   131072 (2)             xs has no element, or more than 320

@@ -204,7 +204,7 @@ static void whole(const char *what, unsigned long got, unsigned long want)
     exit(1);
 }
 
-/* Document 01's first example: 16 samples of 0 at 16 angles of 0. Both buffers are longer than they must be. */
+/* The first printed example of docs/RULES.md: 16 samples of 0 at 16 angles of 0. Both buffers are longer than need be. */
 static void check_fit_ring(void)
 {
     static const uint32_t want[6] = {0, 0, 0x3fc90fdbu, 0x40490fdbu, 0x40490fdbu, 0};
@@ -260,7 +260,7 @@ static void check_disk_places(float *fit, uint32_t *counts)
     }
 }
 
-/* Document 01's order of refusals. Its example, one pixel of 0 and axes 0 and PI/2, is refused after 96 trials. */
+/* The order of refusals of docs/RULES.md. Its example, one pixel of 0 and axes 0 and PI/2, is refused after 96 trials. */
 static void check_disk_refusals(void)
 {
     float fit[12];

@@ -248,7 +248,7 @@ fn answer_line(line: &[u8], out: &mut [u8]) -> u32 {
     unsafe { jb_answer_line(line.as_ptr(), line.len(), out.as_mut_ptr(), out.len()) }
 }
 
-/// Document 01's first example: 16 samples of 0 at 16 angles of 0.
+/// The first printed example of docs/RULES.md: 16 samples of 0 at 16 angles of 0.
 fn check_fit_ring() {
     let (mut fit, mut counts) = ([7.0f32; 7], [7u32; 5]);
     for i in 0..32 {
@@ -269,7 +269,7 @@ fn check_fit_ring() {
     judge(counts == [1, 0, 0, 0, 7], || format!("the counts of zeros are {counts:?}"));
 }
 
-/// A disk without contrast, refused in each way. Document 01's example, a pixel of 0, is refused after 96 trials.
+/// A disk without contrast, refused in each way. The example of docs/RULES.md, a pixel of 0, is refused after 96 trials.
 fn check_fit_disk() {
     let (mut fit, mut counts) = ([7.0f32; 12], [7u32; 3]);
     let head = [0.0, 0.0, bits(0x3fc9_0fdb)];

@@ -108,9 +108,9 @@ def lines_of(function, count):
 
 def answers(program, path):
     with open(path, "rb") as source:
-        done = subprocess.run([program], stdin=source, stdout=subprocess.PIPE)
+        done = subprocess.run(program, stdin=source, stdout=subprocess.PIPE)
     if done.returncode != 0:
-        sys.exit("FAIL: %s ended with status %d on %s" % (program, done.returncode, path))
+        sys.exit("FAIL: %s ended with status %d on %s" % (" ".join(program), done.returncode, path))
     return done.stdout.decode("ascii", "replace").splitlines()
 
 
@@ -119,7 +119,7 @@ def compare(function, count, ours, rust):
     path = os.path.join(WORK, "%02d.txt" % function)
     with open(path, "w") as out:
         out.write("\n".join(lines) + "\n")
-    got, want = answers(ours, path), answers(rust, path)
+    got, want = answers(ours, path), answers([rust], path)
     if not len(got) == len(want) == len(lines):
         sys.exit("FAIL: %d lines of %s, %d answers, %d from Rust" % (len(lines), NAMES[function], len(got), len(want)))
     for asked, a, b in zip(lines, got, want):
@@ -139,11 +139,12 @@ def main():
         sys.exit("usage: lines.py all|sample")
     rustc = shutil.which("rustc")
     if rustc is None:
-        print("lines: skipped, no rustc to build the Rust side")
+        print("NOT RUN: lines: no rustc to build the Rust side")
         return
-    ours = os.path.join(ROOT, os.environ.get("FUNCLINES", "target/bin/funclines"))
-    if not os.access(ours, os.X_OK):
-        sys.exit("FAIL: there is no program %s to ask" % ours)
+    given = os.environ.get("FUNCLINES")
+    ours = [os.path.join(ROOT, given)] if given else [os.path.join(ROOT, "tools/program"), "funclines"]
+    if not os.access(ours[0], os.X_OK):
+        sys.exit("FAIL: there is no program %s to ask" % ours[0])
     os.makedirs(WORK, exist_ok=True)
     random.seed(20240607)                         # fixed, so that a failure can be run again
     rust = build_rust(rustc)

@@ -1,5 +1,5 @@
-//! The checked layer: frame lines in, answer lines out, refusals in document 01's order. It is ours, and written
-//! here a second time from document 01; the fits come from the Rust text.
+//! The checked layer: frame lines in, answer lines out, refusals in the order of docs/RULES.md. It is ours, and written
+//! here a second time from that page; the fits come from the Rust text.
 
 use crate::both;
 use crate::wire::{from_bits, is_hexadecimal, number, push_hex, to_bits, words};
@@ -115,7 +115,7 @@ fn refused(refusal: Refusal, counts: Counts) -> Answered {
     Answered { line, outcome: Outcome::Refused(refusal, counts) }
 }
 
-/// Document 01: unknown if both errors equal PI.
+/// docs/RULES.md, Frame lines: unknown if both errors equal PI.
 fn known(errors: [f32; 2]) -> u32 {
     u32::from(errors != [std::f32::consts::PI; 2])
 }

@@ -1,4 +1,4 @@
-//! Function lines: one function of the Rust text for each number of FUNCTION-LINES.md.
+//! Function lines: one function of the Rust text for each number of docs/RULES.md, Function lines.
 
 use crate::both;
 use crate::wire::{words, Answer, Arguments};

@@ -2,7 +2,7 @@
 
 use shapes::{Disk, Fit9, Pair, Pool, Ring, Scored, Set, ANGLES, PAIRS, PIXELS};
 
-/// The one NaN of document 01.
+/// The one NaN (docs/RULES.md, Floats).
 const NAN: u32 = 0x7fc0_0000;
 const NAN_OF_64: u64 = 0x7ff8_0000_0000_0000;
 
@@ -55,7 +55,7 @@ pub fn push_hex(text: &mut Vec<u8>, value: u32, digits: u32) {
 }
 
 /// Takes the arguments of a function line one after another. Every method answers nothing where the line is not
-/// of the form that FUNCTION-LINES.md gives, or a count leaves the domain.
+/// of the form that docs/RULES.md gives, or a count leaves the domain.
 pub struct Arguments {
     words: Vec<u32>,
     at: usize,

@@ -14,12 +14,15 @@ pub const MAX_PAIRED: usize = 24;
 
 pub const MAX_PAIRS: usize = MAX_PAIRED * (MAX_PAIRED - 1) / 2;
 
+// The bins that are picked at most.
+const MAX_PICKS: usize = 8;
+
 // The angles around a seed, in degrees, and the step of the coarse grid.
 const OFF_DEGS: [f32; 5] = [-8.0, -4.0, 0.0, 4.0, 8.0];
 
 const GRID_DEG: usize = 30;
 
-// Candidate line angles: their number and 64 places.
+// Candidate line angles: their number and their places.
 pub struct CandidateSet {
     pub n: usize,
     pub angles: [f32; MAX_CANDIDATES],
@@ -199,13 +202,13 @@ fn is_too_low(smooth: &[f32], max_v: f32, best_i: usize) -> bool
     smooth[best_i] < max_v * 0.12
 }
 
-// At most 8 picks, until one is below 0.12 of the maximum. A pick that is dropped counts.
+// At most MAX_PICKS, until one is below 0.12 of the maximum. A pick that is dropped counts.
 fn peaks(smooth: &[f32], max_v: f32, used: &mut [bool]) -> CandidateSet
     requires { ⌜ (length (now smooth) ≡ histBins) × (now used ≡ replicate histBins false) ⌝ }
     ensures { λ r. ⌜ (r .n ≤ C.maxPicks) × (r ≡ C.peaks (now (smooth .entry)) «max_v») ⌝ }
 {
     let mut candidates = CandidateSet::new();
-    for k in 0..8usize {
+    for k in 0..MAX_PICKS {
         let best_i = best_bin(smooth, used);
         if is_too_low(smooth, max_v, best_i) {
             break;

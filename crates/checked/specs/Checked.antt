@@ -1,16 +1,15 @@
--- The checked entries (document 01, "Numbers of refusal"): what is refused by number and place, and what is answered. Definitions only.
+-- The checked entries (docs/RULES.md, Refusals): what is refused by number and place, and what is answered. Definitions only.
 use mathlib.Core.Bool.{Bool, true, false, cond, not, _&&_, _||_}
-use mathlib.Core.List.{List, [], _∷_}
-use Prim.Native.Nat.{ℕ, zero, suc, _+_, _*_}
+use mathlib.Core.List.{List, [], _∷_, _++_}
+use Prim.Native.Nat.{ℕ, zero, suc, _+_}
 use lib.ListN.{length, getD}
 use lib.Dec.{eqb, ltb}
-use lib.Ieee.{Float, nan, binary32, eq, toBits}
+use lib.Ieee.{Float, nan, eq}
 use lib.Ieee.Scale.{finite}
 use Rattle.floats.specs.Ops.{pi}
 use Rattle.robust.specs.Robust.{fitRing}
 use Rattle.robust.specs.declared.RingFit.{RingFit}
 use Rattle.solver.specs.declared.TwoAxisFit.{TwoAxisFit}
-use Rattle.solver_elimination.specs.declared.Errors.{Errors}
 use Rattle.score.specs.Score.{fitStdErrors}
 use Rattle.score.specs.declared.Fit.{Fit}
 use Rattle.data.specs.Data.{DiskData}
@@ -34,28 +33,28 @@ unfoldable pub firstWild : List Float → Wild
 firstWild l = wildFrom l (length l) 0
 
 -- the errors are known unless both equal PI
-unfoldable pub errorsKnown : TwoAxisFit → Bool
-errorsKnown f = not (eq (f .«fit_std_error_theta1») pi && eq (f .«fit_std_error_theta2») pi)
+unfoldable pub errorsKnown : Float → Float → Bool
+errorsKnown e1 e2 = not (eq e1 pi && eq e2 pi)
 
--- ---- the ring: 1 for a length that is not 16, then 3 for the first value that is not finite, the samples numbered before the angles
+-- ---- the ring: 1 for a length that is not 16, then 3 for the first value that is not finite
+-- the values in the order of their places: the samples, then the angles
+abbrev pub ringInputs : List Float → List Float → List Float
+ringInputs samples angles = samples ++ angles
+
 unfoldable pub ringFitted : List Float → List Float → RingAnswer
-ringFitted samples angles = let r = fitRing 16 samples angles in Fitted r (errorsKnown (r .fit))
+ringFitted samples angles = let r = fitRing 16 samples angles in Fitted r (errorsKnown (r .fit .«fit_std_error_theta1») (r .fit .«fit_std_error_theta2»))
 
-unfoldable pub anglesLooked : List Float → List Float → Wild → RingAnswer
-anglesLooked samples angles Clean = ringFitted samples angles
-anglesLooked samples angles (At i) = Refused 3 (16 + i)
-
-unfoldable pub samplesLooked : List Float → List Float → Wild → RingAnswer
-samplesLooked samples angles Clean = anglesLooked samples angles (firstWild angles)
-samplesLooked samples angles (At i) = Refused 3 i
+unfoldable pub ringLooked : List Float → List Float → Wild → RingAnswer
+ringLooked samples angles Clean = ringFitted samples angles
+ringLooked samples angles (At i) = Refused 3 i
 
 unfoldable pub checkedRing : List Float → List Float → RingAnswer
 checkedRing samples angles =
-    cond (eqb (length samples) 16)
-    (cond (eqb (length angles) 16) (samplesLooked samples angles (firstWild samples)) (Refused 1 0))
+    cond (eqb (length samples) 16 && eqb (length angles) 16)
+    (ringLooked samples angles (firstWild (ringInputs samples angles)))
     (Refused 1 0)
 
--- ---- document 01's number, place and values of each case
+-- ---- number, place and values of each case (docs/RULES.md, Refusals)
 unfoldable pub ringNumber : RingAnswer → ℕ
 ringNumber (Fitted r k) = 0
 ringNumber (Refused number place) = number
@@ -64,47 +63,36 @@ unfoldable pub ringPlace : RingAnswer → ℕ
 ringPlace (Fitted r k) = 0
 ringPlace (Refused number place) = place
 
--- amp, theta1, theta2, both errors, rms; nothing of a refusal
+-- amp, theta1, theta2, both errors, rms: the order of a ring's values stands here alone
+abbrev pub fitValues : TwoAxisFit → List Float
+fitValues f = f .amp ∷ f .theta1 ∷ f .theta2 ∷ f .«fit_std_error_theta1» ∷ f .«fit_std_error_theta2» ∷ f .rms ∷ []
+
+-- nothing of a refusal
 unfoldable pub ringValues : RingAnswer → List Float
-ringValues (Fitted r k) = r .fit .amp ∷ r .fit .theta1 ∷ r .fit .theta2 ∷ r .fit .«fit_std_error_theta1» ∷ r .fit .«fit_std_error_theta2» ∷ r .fit .rms ∷ []
+ringValues (Fitted r k) = fitValues (r .fit)
 ringValues (Refused number place) = []
 
 -- starts, updates of the first and of the second start, known
 abbrev pub flag : Bool → ℕ
 flag b = cond b 1 0
 
+abbrev pub fitCounts : RingFit → Bool → List ℕ
+fitCounts r k = r .starts ∷ r .first ∷ r .second ∷ flag k ∷ []
+
 unfoldable pub ringCounts : RingAnswer → List ℕ
-ringCounts (Fitted r k) = r .starts ∷ r .first ∷ r .second ∷ flag k ∷ []
+ringCounts (Fitted r k) = fitCounts r k
 ringCounts (Refused number place) = []
 
 -- ---- the disk: 2 for the number of pixels, 1 for lengths that differ, 3 for the first value that is not finite, 4 where the search answers nothing
--- the values in their order: val_energy, base0, base1, then xs, ys, vals_centered, grad_angles, grad_weights
-unfoldable pub shifted : Wild → ℕ → Wild → Wild
-shifted (At i) off next = At (off + i)
-shifted Clean off next = next
-
--- a lone value as one of a list
-unfoldable pub lone : Float → ℕ → Wild → Wild
-lone x place next = cond (finite x) next (At place)
-
-unfoldable pub diskWild : Float → Float → Float → List Float → List Float → List Float → List Float → List Float → Wild
-diskWild energy base0 base1 xs ys vals angles weights =
-    let n = length xs in
-    lone energy 0 (lone base0 1 (lone base1 2
-    (shifted (firstWild xs) 3
-    (shifted (firstWild ys) (3 + n)
-    (shifted (firstWild vals) (3 + 2 * n)
-    (shifted (firstWild angles) (3 + 3 * n)
-    (shifted (firstWild weights) (3 + 4 * n) Clean)))))))
-
-unfoldable pub bothKnown : Errors → Bool
-bothKnown e = not (eq (e .error1) pi && eq (e .error2) pi)
+-- the values in the order of their places
+abbrev pub diskInputs : DiskData → Float → Float → List Float
+diskInputs D base0 base1 = D .«val_energy» ∷ base0 ∷ base1 ∷ (D .xs ++ (D .ys ++ (D .«vals_centered» ++ (D .«grad_angles» ++ D .«grad_weights»))))
 
 -- the fit with its errors, or that there is none after so many trials
 unfoldable pub measuredOf : ℕ → List Float → List Float → List Float → Fit → ℕ → DiskAnswer
 measuredOf n xs ys vals f trials =
     let e = fitStdErrors n xs ys vals f in
-    Disks.Fitted (record { fit = f; «fit_std_error_theta1» = e .error1; «fit_std_error_theta2» = e .error2; trials = trials }) (bothKnown e)
+    Disks.Fitted (record { fit = f; «fit_std_error_theta1» = e .error1; «fit_std_error_theta2» = e .error2; trials = trials }) (errorsKnown (e .error1) (e .error2))
 
 unfoldable pub diskMeasured : DiskData → DiskFit → DiskAnswer
 diskMeasured D (Missing trials) = Disks.Refused 4 trials
@@ -117,16 +105,17 @@ unfoldable pub diskLooked : DiskData → Float → Float → Wild → DiskAnswer
 diskLooked D base0 base1 (At i) = Disks.Refused 3 i
 diskLooked D base0 base1 Clean = diskFitted D base0 base1
 
+-- the number of pixels is the length of xs, and the other four are as long
 unfoldable pub sameLengths : DiskData → Bool
 sameLengths D =
-    eqb (length (D .ys)) (D .n) && (eqb (length (D .«vals_centered»)) (D .n) && (eqb (length (D .«grad_angles»)) (D .n) && eqb (length (D .«grad_weights»)) (D .n)))
+    let same : List Float → Bool = λ l. eqb (length l) (D .n) in
+    same (D .xs) && (same (D .ys) && (same (D .«vals_centered») && (same (D .«grad_angles») && same (D .«grad_weights»))))
 
--- D .n is the length of xs
 unfoldable pub checkedDisk : DiskData → Float → Float → DiskAnswer
 checkedDisk D base0 base1 =
     cond (eqb (D .n) 0 || ltb 320 (D .n)) (Disks.Refused 2 0)
     (cond (sameLengths D)
-    (diskLooked D base0 base1 (diskWild (D .«val_energy») base0 base1 (D .xs) (D .ys) (D .«vals_centered») (D .«grad_angles») (D .«grad_weights»)))
+    (diskLooked D base0 base1 (firstWild (diskInputs D base0 base1)))
     (Disks.Refused 1 0))
 
 unfoldable pub diskNumber : DiskAnswer → ℕ
@@ -137,7 +126,7 @@ unfoldable pub diskPlace : DiskAnswer → ℕ
 diskPlace (Disks.Fitted m k) = 0
 diskPlace (Disks.Refused number place) = place
 
--- theta1, theta2, width, amp, rms, rel_rms, corr, edge_score, objective, both errors; nothing of a refusal
+-- theta1, theta2, width, amp, rms, rel_rms, corr, edge_score, objective, both errors: the order of a disk's values stands here alone
 abbrev pub measuredValues : Measured → List Float
 measuredValues m =
     m .fit .theta1 ∷ m .fit .theta2 ∷ m .fit .width ∷ m .fit .amp ∷ m .fit .rms ∷ m .fit .«rel_rms» ∷ m .fit .corr ∷ m .fit .«edge_score» ∷
@@ -148,6 +137,9 @@ diskValues (Disks.Fitted m k) = measuredValues m
 diskValues (Disks.Refused number place) = []
 
 -- trials, known
+abbrev pub measuredCounts : Measured → Bool → List ℕ
+measuredCounts m k = m .trials ∷ flag k ∷ []
+
 unfoldable pub diskCounts : DiskAnswer → List ℕ
-diskCounts (Disks.Fitted m k) = m .trials ∷ flag k ∷ []
+diskCounts (Disks.Fitted m k) = measuredCounts m k
 diskCounts (Disks.Refused number place) = []

@@ -1,17 +1,17 @@
--- What the checked entries promise, for every list of values, non-numbers included. `checkedRing` and `checkedDisk` are the answers' definitions: the contracts of `checked::fit_ring` and `checked::fit_disk` say that the code's answers equal them. Assumes nothing.
+-- What the checked entries promise, for every list of values, non-numbers included: exactly when each number is given, and what an answer's values and counts keep to. `checkedRing` and `checkedDisk` are the answers' definitions: the contracts of `checked::fit_ring` and `checked::fit_disk` say that the code's answers equal them. A promise speaks of the paper's number, place, values and counts of an answer (Checked.antt). Assumes nothing.
 use mathlib.Core.Path.{_≡_, refl, sym, ap, subst, _∙_}
-use mathlib.Core.Bool.{Bool, true, false, cond, not, _||_}
+use mathlib.Core.Bool.{Bool, true, false, cond, not, _&&_, _||_, true≢false}
 use mathlib.Core.List.{List}
-use Prim.Native.Nat.{ℕ, zero, suc, _+_, _*_, _≤_, _<_, min}
+use Prim.Native.Nat.{ℕ, _+_, _*_, _≤_, _<_, min}
 use native.Mathlib.Omega.{arith}
-use lib.ListN.{length, getD}
+use lib.ListN.{length, getD, length-append, List·getD-append}
 use lib.Dec.{T, eqb, ltb, eqb→eq}
 use lib.Ieee.{Float, nan, lt, le, eq, isNan}
 use lib.Ieee.Scale.{finite}
 use Rattle.floats.specs.Ops.{lit, nought, pi, tau}
-use Rattle.solver.specs.SoundLaws.{Sound}
+use Rattle.floats.specs.FiniteLaws.{of-true}
 use Rattle.robust.specs.Robust.{fitRing}
-use Rattle.robust.specs.SoundLaws.{Billed, SoundRing, ring-sound}
+use Rattle.robust.specs.SoundLaws.{SoundRing, ring-sound}
 use Rattle.robust.specs.Residual.{ringSum}
 use Rattle.robust.specs.ResidualLaws.{ring-tiny}
 use Rattle.robust.specs.declared.RingFit.{RingFit}
@@ -25,200 +25,361 @@ use Rattle.search.specs.BillLaws.{disk-bill, disk-bill-most, leaders-are, missi
 use Rattle.search.specs.SoundLaws.{search-sound, width-known}
 use Rattle.search.specs.declared.DiskFit.{DiskFit}
 use Rattle.search.specs.declared.DiskFit.the-variants.{Best, Missing}
+use Rattle.checked.specs.declared.Wild.{Wild}
+use Rattle.checked.specs.declared.Wild.the-variants.{At, Clean}
 use Rattle.checked.specs.declared.Measured.{Measured}
 use Rattle.checked.specs.declared.DiskAnswer.{DiskAnswer}
 use Rattle.checked.specs.declared.DiskAnswer.the-variants as Disks
-use Rattle.checked.specs.declared.Wild.{Wild}
-use Rattle.checked.specs.declared.Wild.the-variants.{At, Clean}
 use Rattle.checked.specs.declared.RingAnswer.{RingAnswer}
 use Rattle.checked.specs.declared.RingAnswer.the-variants.{Fitted, Refused}
-use Rattle.checked.specs.Checked.{wildFrom, firstWild, errorsKnown, ringFitted, anglesLooked, samplesLooked, checkedRing, diskWild, measuredOf, diskMeasured, diskFitted, diskLooked, sameLengths, checkedDisk}
+use Rattle.checked.specs.Checked as C
+use Rattle.checked.specs.Checked.{firstWild, ringInputs, checkedRing, ringNumber, ringPlace, ringValues, ringCounts, diskInputs, checkedDisk, diskNumber, diskPlace, diskValues, diskCounts}
+use Rattle.checked.specs.CheckedLaws.{IsFirstWild, wild-first, clean-finite}
 
--- where no place is wild, every value is finite
-all-finite : (l : List Float) (left i : ℕ) → wildFrom l left i ≡ Clean → (j : ℕ) → j < left → T (finite (getD l (i + j) nan))
-unfolding wildFrom
-all-finite l zero i e j h = absurd (none h)
-  where
-    none : j < 0 → ⊥
-    none h = omega arith
-all-finite l (suc left) i e j h = go (finite (getD l i nan)) (λ t. t) e (λ c k g. all-finite l left (i + 1) c k g)
-  where
-    later : (j : ℕ) → j < suc left → T (finite (getD l i nan)) → ((k : ℕ) → k < left → T (finite (getD l (i + 1 + k) nan))) → T (finite (getD l (i + j) nan))
-    later zero h t rest = let z : i ≡ i + 0 = omega arith in subst (λ (k : ℕ). T (finite (getD l k nan))) z t
-    later (suc j) h t rest =
-        let z : i + 1 + j ≡ i + suc j = omega arith in
-        let g : j < left = omega arith in
-        subst (λ (k : ℕ). T (finite (getD l k nan))) z (rest j g)
+-- every value of a list is finite
+abbrev pub AllFinite : List Float → Type 0
+AllFinite l = (i : ℕ) → i < length l → finite (getD l i nan) ≡ true
 
-    wild : At i ≡ Clean → ⊥
-    wild e = let z : _≡_ {A = ℕ} 0 1 = cc in omega arith
+as-true : {b : Bool} → b ≡ true → T b
+as-true e = rw e tt
 
-    go : (b : Bool) → (T b → T (finite (getD l i nan))) → cond b (wildFrom l left (i + 1)) (At i) ≡ Clean → (wildFrom l left (i + 1) ≡ Clean → (k : ℕ) → k < left → T (finite (getD l (i + 1 + k) nan))) → T (finite (getD l (i + j) nan))
-    go true t e rest = later j h (t tt) (rest e)
-    go false t e rest = absurd (wild e)
+-- ---- the ring
+module _ (samples angles : List Float) where
+  abbrev inputs : List Float
+  inputs = ringInputs samples angles
 
-module _ (samples angles : List Float) (r : RingFit) (known : Bool) where
-  never : {number place : ℕ} → Refused number place ≡ Fitted r known → ⊥
-  never e = let z : _≡_ {A = ℕ} 0 1 = cc in omega arith
+  abbrev answer : RingAnswer
+  answer = checkedRing samples angles
 
-  behind-angles : (w : Wild) → anglesLooked samples angles w ≡ Fitted r known → r ≡ fitRing 16 samples angles
-  unfolding anglesLooked ringFitted
-  behind-angles Clean e = cc
-  behind-angles (At i) e = absurd (never e)
+  -- exactly when each answer is given: 1 for a length that is not 16; 3, with both lengths 16, for a value that is not finite, at the first such place; a fit where all 32 values are finite
+  pub data RingCase (a : RingAnswer) : Type 0 where
+    wrong-length : (eqb (length samples) 16 && eqb (length angles) 16) ≡ false → a ≡ Refused 1 0 → RingCase a
+    wrong-value : (p : ℕ) → p < 32 → IsFirstWild inputs p → a ≡ Refused 3 p → RingCase a
+    answered : length samples ≡ 16 → length inputs ≡ 32 → AllFinite inputs → a ≡ C.ringFitted samples angles → RingCase a
 
-  behind-samples : (w : Wild) → samplesLooked samples angles w ≡ Fitted r known → r ≡ fitRing 16 samples angles
-  unfolding samplesLooked
-  behind-samples Clean e = behind-angles (firstWild angles) e
-  behind-samples (At i) e = absurd (never e)
-
-  -- demand 2: whatever is answered is the Rust's fit, step by step, with its own counts
-  pub answered-is-the-fit : checkedRing samples angles ≡ Fitted r known → r ≡ fitRing 16 samples angles
-  unfolding checkedRing
-  answered-is-the-fit e = go (eqb (length samples) 16) (eqb (length angles) 16) e
+  pub ring-cases : RingCase answer
+  unfolding checkedRing C.ringLooked
+  ring-cases = go (eqb (length samples) 16) (eqb (length angles) 16) refl refl (firstWild inputs) refl
     where
-      go : (a b : Bool) → cond a (cond b (samplesLooked samples angles (firstWild samples)) (Refused 1 0)) (Refused 1 0) ≡ Fitted r known → r ≡ fitRing 16 samples angles
-      go true true e = behind-samples (firstWild samples) e
-      go true false e = absurd (never e)
-      go false b e = absurd (never e)
+      sixteen : (l : List Float) → eqb (length l) 16 ≡ true → length l ≡ 16
+      sixteen l p = eqb→eq (length l) 16 (as-true p)
 
-  sound : checkedRing samples angles ≡ Fitted r known → SoundRing r
-  sound e = subst SoundRing (sym (answered-is-the-fit e)) (ring-sound 16 samples angles)
+      total : eqb (length samples) 16 ≡ true → eqb (length angles) 16 ≡ true → length inputs ≡ 32
+      total p q = length-append samples angles ∙ omega (arith, sixteen samples p, sixteen angles q)
 
-  -- demand 3, the bill: one or two starts, each of at most six updates; a second start's updates are 0 where there is none
-  pub ring-bill : checkedRing samples angles ≡ Fitted r known → Billed r
-  ring-bill e = sound e .bill
+      go : (x y : Bool) → eqb (length samples) 16 ≡ x → eqb (length angles) 16 ≡ y → (w : Wild) → firstWild inputs ≡ w → RingCase (cond (x && y) (C.ringLooked samples angles w) (Refused 1 0))
+      go true true p q Clean e = answered (sixteen samples p) (total p q) (clean-finite inputs e) refl
+      go true true p q (At i) e = let f = wild-first inputs i e in wrong-value i (omega (arith, f .inside, total p q)) f refl
+      go true false p q w e = wrong-length (rw (p, q) refl) refl
+      go false y p q w e = wrong-length (rw p refl) refl
 
-  -- 0 ≤ theta1 < PI and theta1 ≤ theta2 < TAU
-  pub ring-axes : checkedRing samples angles ≡ Fitted r known → T (le nought (r .fit .theta1)) × T (lt (r .fit .theta1) pi) × T (le (r .fit .theta1) (r .fit .theta2)) × T (lt (r .fit .theta2) tau)
-  ring-axes e = let s = sound e .fit in (s .low, s .first, s .order, s .second)
-
-  -- both errors from 0 to PI
-  pub ring-errors : checkedRing samples angles ≡ Fitted r known → T (le nought (r .fit .«fit_std_error_theta1»)) × T (le (r .fit .«fit_std_error_theta1») pi) × T (le nought (r .fit .«fit_std_error_theta2»)) × T (le (r .fit .«fit_std_error_theta2») pi)
-  ring-errors e = let s = sound e .fit in (s .low1, s .high1, s .low2, s .high2)
-
-  -- the amplitude is NaN or not below zero
-  pub ring-amplitude : checkedRing samples angles ≡ Fitted r known → T (isNan (r .fit .amp) || le nought (r .fit .amp))
-  ring-amplitude e = sound e .fit .size
-
-  -- whatever is answered has 16 samples, and none that is not finite
-  answered-clean : checkedRing samples angles ≡ Fitted r known → (length samples ≡ 16) × (firstWild samples ≡ Clean)
-  unfolding checkedRing samplesLooked
-  answered-clean e = go (eqb (length samples) 16) (eqb (length angles) 16) (firstWild samples) (eqb→eq (length samples) 16) refl e
+  -- the numbers are 0, 1 and 3
+  pub ring-numbers : T (eqb (ringNumber answer) 0 || (eqb (ringNumber answer) 1 || eqb (ringNumber answer) 3))
+  unfolding ringNumber C.ringFitted
+  ring-numbers = go ring-cases
     where
-      go : (a b : Bool) (w : Wild) → (T a → length samples ≡ 16) → firstWild samples ≡ w → cond a (cond b (samplesLooked samples angles w) (Refused 1 0)) (Refused 1 0) ≡ Fitted r known → (length samples ≡ 16) × (firstWild samples ≡ Clean)
-      go true true Clean l c e = (l tt, c)
-      go true true (At i) l c e = absurd (never e)
-      go true false w l c e = absurd (never e)
-      go false b w l c e = absurd (never e)
+      go : RingCase answer → T (eqb (ringNumber answer) 0 || (eqb (ringNumber answer) 1 || eqb (ringNumber answer) 3))
+      go (wrong-length l e) = rw e tt
+      go (wrong-value p b f e) = rw e tt
+      go (answered s l c e) = rw e tt
 
-  -- A residual of 0 is never a non-number in disguise: the sum of squares that the rms was made of is a number and at most 2 ^ -146, the largest whose sixteenth rounds to 0.
-  -- `ringSum` goes through the fit's own cases, and `ring-made` of ring_fit's ResidualLaws says of every such ring that the rms is the root of its sixteenth, or, for a start that is refused, of the greater of that and 0.
-  pub ring-zero : checkedRing samples angles ≡ Fitted r known → eq (r .fit .rms) nought ≡ true → T (not (isNan (ringSum 16 samples angles))) × T (le (ringSum 16 samples angles) (lit 0x0000_0008))
-  ring-zero e z =
-      let c = answered-clean e in
-      let w : wildFrom samples 16 0 ≡ Clean = subst (λ (n : ℕ). wildFrom samples n 0 ≡ Clean) (c .0) (unfold firstWild in c .1) in
-      let t = ring-tiny samples angles (λ i l. let z : 0 + i ≡ i = omega arith in rw z at (all-finite samples 16 0 w i l)) (subst (λ (x : RingFit). eq (x .fit .rms) nought ≡ true) (answered-is-the-fit e) z) in
-      (t .number, t .small)
+  -- what number 1 means: a length is not 16, and the place is 0
+  pub ring-wrong-length : ringNumber answer ≡ 1 → ((eqb (length samples) 16 && eqb (length angles) 16) ≡ false) × (ringPlace answer ≡ 0)
+  unfolding ringNumber ringPlace C.ringFitted
+  ring-wrong-length n = go ring-cases
+    where
+      no : {A : Type 0} (m : ℕ) → ringNumber answer ≡ m → (m ≡ 1 → ⊥) → A
+      no m e f = absurd (f (sym e ∙ n))
 
--- ---- the disk
--- what an answer is made of: the search's own fit with its number of trials, and the errors of that fit
-pub record IsTheFit (D : DiskData) (base0 base1 : Float) (m : Measured) : Type 0 where
-  pub fit : bestDiskFit D base0 base1 ≡ Best (m .fit) (m .trials)
-  pub error1 : m .«fit_std_error_theta1» ≡ fitStdErrors (D .n) (D .xs) (D .ys) (D .«vals_centered») (m .fit) .error1
-  pub error2 : m .«fit_std_error_theta2» ≡ fitStdErrors (D .n) (D .xs) (D .ys) (D .«vals_centered») (m .fit) .error2
+      go : RingCase answer → ((eqb (length samples) 16 && eqb (length angles) 16) ≡ false) × (ringPlace answer ≡ 0)
+      go (wrong-length l e) = rw e (l, refl)
+      go (wrong-value p b f e) = no 3 (ap ringNumber e) (λ z. omega arith)
+      go (answered s l c e) = no 0 (ap ringNumber e) (λ z. omega arith)
 
-module _ (D : DiskData) (base0 base1 : Float) where
-  -- what passes the checks is looked at, and what is clean is fitted
-  looked : (a b c : Bool) (w : Wild) (x y z : DiskAnswer) → cond (a || b) x (cond c (diskLooked D base0 base1 w) y) ≡ z → (x ≡ z → ⊥) → (y ≡ z → ⊥) → ((i : ℕ) → Disks.Refused 3 i ≡ z → ⊥) → diskFitted D base0 base1 ≡ z
-  unfolding diskLooked
-  looked true b c w x y z e p q r = absurd (p e)
-  looked false true c w x y z e p q r = absurd (p e)
-  looked false false false w x y z e p q r = absurd (q e)
-  looked false false true (At i) x y z e p q r = absurd (r i e)
-  looked false false true Clean x y z e p q r = e
+  -- what number 3 means: the value at the place is not finite, all before it are, and the place is one of the 32
+  pub ring-wrong-value : ringNumber answer ≡ 3 → IsFirstWild inputs (ringPlace answer) × (ringPlace answer < 32)
+  unfolding ringNumber ringPlace C.ringFitted
+  ring-wrong-value n = go ring-cases
+    where
+      no : {A : Type 0} (m : ℕ) → ringNumber answer ≡ m → (m ≡ 3 → ⊥) → A
+      no m e f = absurd (f (sym e ∙ n))
 
-  module _ (m : Measured) (known : Bool) where
-    other : {number place : ℕ} → Disks.Refused number place ≡ Disks.Fitted m known → ⊥
-    other e = let z : _≡_ {A = ℕ} 0 1 = cc in omega arith
+      go : RingCase answer → IsFirstWild inputs (ringPlace answer) × (ringPlace answer < 32)
+      go (wrong-length l e) = no 1 (ap ringNumber e) (λ z. omega arith)
+      go (wrong-value p b f e) = rw e (f, b)
+      go (answered s l c e) = no 0 (ap ringNumber e) (λ z. omega arith)
 
-    fitted : checkedDisk D base0 base1 ≡ Disks.Fitted m known → diskFitted D base0 base1 ≡ Disks.Fitted m known
-    unfolding checkedDisk
-    fitted e = looked (eqb (D .n) 0) (ltb 320 (D .n)) (sameLengths D) (diskWild (D .«val_energy») base0 base1 (D .xs) (D .ys) (D .«vals_centered») (D .«grad_angles») (D .«grad_weights»)) _ _ _ e other other (λ i q. other q)
+  -- what number 0 means: 32 finite values, and the fit of the Rust with its own counts, value by value
+  pub record RingFitted : Type 0 where
+    pub sixteen : length samples ≡ 16
+    pub length : length inputs ≡ 32
+    pub finite : AllFinite inputs
+    pub answer : checkedRing samples angles ≡ C.ringFitted samples angles
 
-    measured : (r : DiskFit) → bestDiskFit D base0 base1 ≡ r → diskMeasured D r ≡ Disks.Fitted m known → IsTheFit D base0 base1 m
-    unfolding diskMeasured measuredOf
-    measured (Missing t) q e = absurd (other e)
-    measured (Best f t) q e =
-        let x = fitStdErrors (D .n) (D .xs) (D .ys) (D .«vals_centered») f in
-        let h : _≡_ {A = Measured} (record { fit = f; «fit_std_error_theta1» = x .error1; «fit_std_error_theta2» = x .error2; trials = t }) m = cc in
-        subst (IsTheFit D base0 base1) h (record { fit = q; error1 = refl; error2 = refl })
+  module _ (zero-number : ringNumber answer ≡ 0) where
+    pub answered-is-the-fit : RingFitted
+    unfolding ringNumber C.ringFitted
+    answered-is-the-fit = go ring-cases
+      where
+        no : (n : ℕ) → ringNumber answer ≡ n → (n ≡ 0 → ⊥) → ⊥
+        no n e f = f (sym e ∙ zero-number)
 
-    -- demand 2: whatever is answered is the Rust's fit, step by step, with its own number of trials and its own errors
-    pub disk-answered-is-the-fit : checkedDisk D base0 base1 ≡ Disks.Fitted m known → IsTheFit D base0 base1 m
-    unfolding diskFitted
-    disk-answered-is-the-fit e = measured (bestDiskFit D base0 base1) refl (fitted e)
+        go : RingCase answer → RingFitted
+        go (wrong-length l e) = absurd (no 1 (ap ringNumber e) (λ z. omega arith))
+        go (wrong-value p b f e) = absurd (no 3 (ap ringNumber e) (λ z. omega arith))
+        go (answered s l c e) = record { sixteen = s; length = l; finite = c; answer = e }
 
-    -- demand 3, the bill: exactly 4k + 24m trials, k the pairs kept and m the leaders kept by the definition; at most 144
-    pub disk-trials : checkedDisk D base0 base1 ≡ Disks.Fitted m known → (m .trials ≡ 4 * pairsKept D base0 base1 + 24 * leadersKept D base0 base1) × (m .trials ≤ 144)
-    disk-trials e =
-        let q = ap trialsOf (disk-answered-is-the-fit e .fit) in
-        (subst (λ (t : ℕ). t ≡ 4 * pairsKept D base0 base1 + 24 * leadersKept D base0 base1) q (disk-bill D base0 base1), subst (λ (t : ℕ). t ≤ 144) q (disk-bill-most D base0 base1))
+    abbrev theFit : RingFit
+    theFit = fitRing 16 samples angles
 
-    sound-disk : checkedDisk D base0 base1 ≡ Disks.Fitted m known → SoundFit (m .fit)
-    sound-disk e = search-sound D base0 base1 (m .fit) (m .trials) (disk-answered-is-the-fit e .fit)
+    values-are : ringValues answer ≡ C.fitValues (theFit .fit)
+    unfolding ringValues C.ringFitted
+    values-are = rw (answered-is-the-fit .answer)
+
+    counts-are : ringCounts answer ≡ C.fitCounts theFit (C.errorsKnown (theFit .fit .«fit_std_error_theta1») (theFit .fit .«fit_std_error_theta2»))
+    unfolding ringCounts C.ringFitted
+    counts-are = rw (answered-is-the-fit .answer)
+
+    -- amp, theta1, theta2, both errors, rms; and starts, updates of the first and of the second
+    abbrev value : ℕ → Float
+    value k = getD (ringValues answer) k nan
+
+    abbrev counted : ℕ → ℕ
+    counted k = getD (ringCounts answer) k 0
+
+    -- the founding demand: an answered ring has 32 values, and all of them are finite
+    pub answered-finite : (length (ringInputs samples angles) ≡ 32) × AllFinite (ringInputs samples angles)
+    answered-finite = (answered-is-the-fit .length, answered-is-the-fit .finite)
+
+    -- demand 2: the six values and the counts are those of the definition that follows the Rust
+    pub answered-values : (ringValues answer ≡ C.fitValues (theFit .fit)) ×
+        (ringCounts answer ≡ C.fitCounts theFit (C.errorsKnown (theFit .fit .«fit_std_error_theta1») (theFit .fit .«fit_std_error_theta2»)))
+    answered-values = (values-are, counts-are)
+
+    sound : SoundRing theFit
+    sound = ring-sound 16 samples angles
+
+    -- demand 3, the bill: one or two starts, each of at most six updates; a second start's updates are 0 where there is none
+    pub ring-bill : (1 ≤ counted 0) × (counted 0 ≤ 2) × (counted 1 ≤ 6) × (counted 2 ≤ 6) × (counted 0 ≡ 1 → counted 2 ≡ 0)
+    ring-bill = let b = sound .bill in rw counts-are (b .some, b .most, b .first, b .second, b .alone)
 
     -- 0 ≤ theta1 < PI and theta1 ≤ theta2 < TAU
-    pub disk-axes : checkedDisk D base0 base1 ≡ Disks.Fitted m known → T (le nought (m .fit .theta1)) × T (lt (m .fit .theta1) pi) × T (le (m .fit .theta1) (m .fit .theta2)) × T (lt (m .fit .theta2) tau)
-    disk-axes e = let s = sound-disk e in (s .low, s .first, s .order, s .second)
+    pub ring-axes : T (le nought (value 1)) × T (lt (value 1) pi) × T (le (value 1) (value 2)) × T (lt (value 2) tau)
+    ring-axes = let s = sound .fit in rw values-are (s .low, s .first, s .order, s .second)
 
     -- both errors from 0 to PI
-    pub disk-errors : checkedDisk D base0 base1 ≡ Disks.Fitted m known → T (le nought (m .«fit_std_error_theta1»)) × T (le (m .«fit_std_error_theta1») pi) × T (le nought (m .«fit_std_error_theta2»)) × T (le (m .«fit_std_error_theta2») pi)
-    disk-errors e =
-        let a = disk-answered-is-the-fit e in
-        let b = errors-sound (D .n) (D .xs) (D .ys) (D .«vals_centered») (m .fit) in
-        rw (a .error1, a .error2) (b .low1, b .high1, b .low2, b .high2)
+    pub ring-errors : T (le nought (value 3)) × T (le (value 3) pi) × T (le nought (value 4)) × T (le (value 4) pi)
+    ring-errors = let s = sound .fit in rw values-are (s .low1, s .high1, s .low2, s .high2)
 
     -- the amplitude is NaN or not below zero
-    pub disk-amplitude : checkedDisk D base0 base1 ≡ Disks.Fitted m known → T (isNan (m .fit .amp) || le nought (m .fit .amp))
-    disk-amplitude e = sound-disk e .size
+    pub ring-amplitude : T (isNan (value 0) || le nought (value 0))
+    ring-amplitude = rw values-are (sound .fit .size)
+
+    -- A residual of 0 is never a non-number in disguise: the sum of squares that the rms was made of is a number and at most 2 ^ -146, the largest whose sixteenth rounds to 0.
+    -- `ringSum` is that sum, and `ring-made` of robust's ResidualLaws says of every ring that the rms is the root of its sixteenth, or, for a start that is refused, of the greater of that and 0.
+    pub ring-zero : eq (value 5) nought ≡ true → T (not (isNan (ringSum 16 samples angles))) × T (le (ringSum 16 samples angles) (lit 0x0000_0008))
+    ring-zero z =
+        let n = answered-is-the-fit .sixteen in
+        let each : (i : ℕ) → i < 16 → T (finite (getD samples i nan)) =
+        λ i h. as-true (sym (ap finite (List·getD-append samples angles nan i (omega (arith, n)))) ∙ answered-finite .1 i (omega (arith, answered-finite .0))) in
+        let t = ring-tiny samples angles each (rw values-are at z) in
+        (t .number, t .small)
+
+-- ---- the disk
+module _ (D : DiskData) (base0 base1 : Float) where
+  abbrev disk-inputs : List Float
+  disk-inputs = diskInputs D base0 base1
+
+  abbrev disk-answer : DiskAnswer
+  disk-answer = checkedDisk D base0 base1
+
+  -- the number of pixels is 1 to 320
+  abbrev Counted : Type 0
+  Counted = (eqb (D .n) 0 || ltb 320 (D .n)) ≡ false
+
+  -- exactly when each answer is given: 2 for the number of pixels, then 1 for lengths that differ, 3 for a value that is not finite, at the first such place, 4 where the search answers nothing, at the number of its trials; else its fit
+  pub data DiskCase (a : DiskAnswer) : Type 0 where
+    wrong-count : (eqb (D .n) 0 || ltb 320 (D .n)) ≡ true → a ≡ Disks.Refused 2 0 → DiskCase a
+    wrong-lengths : Counted → C.sameLengths D ≡ false → a ≡ Disks.Refused 1 0 → DiskCase a
+    wrong-disk-value : (p : ℕ) → p < 3 + 5 * D .n → Counted → IsFirstWild disk-inputs p → a ≡ Disks.Refused 3 p → DiskCase a
+    no-fit : (t : ℕ) → length disk-inputs ≡ 3 + 5 * D .n → AllFinite disk-inputs → bestDiskFit D base0 base1 ≡ Missing t → a ≡ Disks.Refused 4 t → DiskCase a
+    disk-answered : (f : Fit) (t : ℕ) → length disk-inputs ≡ 3 + 5 * D .n → AllFinite disk-inputs → bestDiskFit D base0 base1 ≡ Best f t →
+        a ≡ C.measuredOf (D .n) (D .xs) (D .ys) (D .«vals_centered») f t → DiskCase a
+
+  -- lengths that do not differ are the number of pixels, and the values are 3 + 5 n
+  same : (x a b c d : Bool) → (x && (a && (b && (c && d)))) ≡ true → T x × T a × T b × T c × T d
+  same true true true true true e = (tt, tt, tt, tt, tt)
+  same true true true true false e = absurd (true≢false (sym e))
+  same true true true false d e = absurd (true≢false (sym e))
+  same true true false c d e = absurd (true≢false (sym e))
+  same true false b c d e = absurd (true≢false (sym e))
+  same false a b c d e = absurd (true≢false (sym e))
+
+  disk-total : C.sameLengths D ≡ true → length disk-inputs ≡ 3 + 5 * D .n
+  unfolding C.sameLengths
+  disk-total e =
+      let at-n : List Float → Bool = λ l. eqb (length l) (D .n) in
+      let s = same (at-n (D .xs)) (at-n (D .ys)) (at-n (D .«vals_centered»)) (at-n (D .«grad_angles»)) (at-n (D .«grad_weights»)) e in
+      let hx = eqb→eq (length (D .xs)) (D .n) (s .0) in
+      let hy = eqb→eq (length (D .ys)) (D .n) (s .1) in
+      let hv = eqb→eq (length (D .«vals_centered»)) (D .n) (s .2) in
+      let hg = eqb→eq (length (D .«grad_angles»)) (D .n) (s .3) in
+      let hw = eqb→eq (length (D .«grad_weights»)) (D .n) (s .4) in
+      simp length-append (omega (arith, hx, hy, hv, hg, hw))
+
+  searched : length disk-inputs ≡ 3 + 5 * D .n → AllFinite disk-inputs → (r : DiskFit) → bestDiskFit D base0 base1 ≡ r → DiskCase (C.diskMeasured D r)
+  unfolding C.diskMeasured
+  searched l c (Missing u) g = no-fit u l c g refl
+  searched l c (Best f u) g = disk-answered f u l c g refl
+
+  pub disk-cases : DiskCase disk-answer
+  unfolding checkedDisk C.diskLooked C.diskFitted
+  disk-cases = go (eqb (D .n) 0 || ltb 320 (D .n)) (C.sameLengths D) refl refl (firstWild disk-inputs) refl
+    where
+      go : (x y : Bool) → (eqb (D .n) 0 || ltb 320 (D .n)) ≡ x → C.sameLengths D ≡ y → (w : Wild) → firstWild disk-inputs ≡ w →
+          DiskCase (cond x (Disks.Refused 2 0) (cond y (C.diskLooked D base0 base1 w) (Disks.Refused 1 0)))
+      go true y p q w e = wrong-count p refl
+      go false false p q w e = wrong-lengths p q refl
+      go false true p q (At i) e = let f = wild-first disk-inputs i e in wrong-disk-value i (omega (arith, f .inside, disk-total q)) p f refl
+      go false true p q Clean e = searched (disk-total q) (clean-finite disk-inputs e) (bestDiskFit D base0 base1) refl
+
+  -- the numbers are 0 to 4
+  pub disk-numbers : diskNumber disk-answer ≤ 4
+  unfolding diskNumber C.measuredOf
+  disk-numbers = go disk-cases
+    where
+      go : DiskCase disk-answer → diskNumber disk-answer ≤ 4
+      go (wrong-count x e) = rw e (omega arith)
+      go (wrong-lengths x y e) = rw e (omega arith)
+      go (wrong-disk-value p b c f e) = rw e (omega arith)
+      go (no-fit u l c g e) = rw e (omega arith)
+      go (disk-answered f u l c g e) = rw e (omega arith)
+
+  -- number 3: the value at the place is not finite, all before it are, and the place is one of the 3 + 5 n
+  pub disk-wrong-value : diskNumber disk-answer ≡ 3 → IsFirstWild disk-inputs (diskPlace disk-answer) × (diskPlace disk-answer < 3 + 5 * D .n)
+  unfolding diskNumber diskPlace C.measuredOf
+  disk-wrong-value n = go disk-cases
+    where
+      no : {A : Type 0} (m : ℕ) → diskNumber disk-answer ≡ m → (m ≡ 3 → ⊥) → A
+      no m e f = absurd (f (sym e ∙ n))
+
+      go : DiskCase disk-answer → IsFirstWild disk-inputs (diskPlace disk-answer) × (diskPlace disk-answer < 3 + 5 * D .n)
+      go (wrong-count x e) = no 2 (ap diskNumber e) (λ z. omega arith)
+      go (wrong-lengths x y e) = no 1 (ap diskNumber e) (λ z. omega arith)
+      go (wrong-disk-value p b c f e) = rw e (f, b)
+      go (no-fit u l c g e) = no 4 (ap diskNumber e) (λ z. omega arith)
+      go (disk-answered f u l c g e) = no 0 (ap diskNumber e) (λ z. omega arith)
+
+  -- number 4: every value is finite, the search answers nothing, its trials are the place, exactly 4 k of them, and no trial had answered
+  pub disk-nothing : diskNumber disk-answer ≡ 4 → AllFinite disk-inputs × (bestDiskFit D base0 base1 ≡ Missing (diskPlace disk-answer)) ×
+      (diskPlace disk-answer ≡ 4 * pairsKept D base0 base1) × (leadersKept D base0 base1 ≡ 0)
+  unfolding diskNumber diskPlace C.measuredOf
+  disk-nothing n = go disk-cases
+    where
+      no : {A : Type 0} (m : ℕ) → diskNumber disk-answer ≡ m → (m ≡ 4 → ⊥) → A
+      no m e f = absurd (f (sym e ∙ n))
+
+      go : DiskCase disk-answer → AllFinite disk-inputs × (bestDiskFit D base0 base1 ≡ Missing (diskPlace disk-answer)) ×
+          (diskPlace disk-answer ≡ 4 * pairsKept D base0 base1) × (leadersKept D base0 base1 ≡ 0)
+      go (wrong-count x e) = no 2 (ap diskNumber e) (λ z. omega arith)
+      go (wrong-lengths x y e) = no 1 (ap diskNumber e) (λ z. omega arith)
+      go (wrong-disk-value p b c f e) = no 3 (ap diskNumber e) (λ z. omega arith)
+      go (no-fit u l c g e) = rw e (c, g, missing-bill D base0 base1 u g, missing-leaders D base0 base1 u g)
+      go (disk-answered f u l c g e) = no 0 (ap diskNumber e) (λ z. omega arith)
+
+  -- what number 0 means: 3 + 5 n finite values, and the search's own fit with its number of trials and the errors of that fit
+  pub record DiskFitted : Type 0 where
+    pub fit : Fit
+    pub trials : ℕ
+    pub length : length disk-inputs ≡ 3 + 5 * D .n
+    pub finite : AllFinite disk-inputs
+    pub found : bestDiskFit D base0 base1 ≡ Best fit trials
+    pub answer : checkedDisk D base0 base1 ≡ C.measuredOf (D .n) (D .xs) (D .ys) (D .«vals_centered») fit trials
+
+  module _ (zero-number : diskNumber disk-answer ≡ 0) where
+    pub disk-answered-is-the-fit : DiskFitted
+    unfolding diskNumber
+    disk-answered-is-the-fit = go disk-cases
+      where
+        no : (m : ℕ) → diskNumber disk-answer ≡ m → (m ≡ 0 → ⊥) → DiskFitted
+        no m e f = absurd (f (sym e ∙ zero-number))
+
+        go : DiskCase disk-answer → DiskFitted
+        go (wrong-count x e) = no 2 (ap diskNumber e) (λ z. omega arith)
+        go (wrong-lengths x y e) = no 1 (ap diskNumber e) (λ z. omega arith)
+        go (wrong-disk-value p b c f e) = no 3 (ap diskNumber e) (λ z. omega arith)
+        go (no-fit u l c g e) = no 4 (ap diskNumber e) (λ z. omega arith)
+        go (disk-answered f u l c g e) = record { fit = f; trials = u; length = l; finite = c; found = g; answer = e }
+
+    abbrev it : DiskFitted
+    it = disk-answered-is-the-fit
+
+    abbrev measured : Measured
+    measured =
+        let e = fitStdErrors (D .n) (D .xs) (D .ys) (D .«vals_centered») (it .fit) in
+        record { fit = it .fit; «fit_std_error_theta1» = e .error1; «fit_std_error_theta2» = e .error2; trials = it .trials }
+
+    disk-values-are : diskValues disk-answer ≡ C.measuredValues measured
+    unfolding diskValues C.measuredOf
+    disk-values-are = rw (it .answer)
+
+    disk-counts-are : diskCounts disk-answer ≡ C.measuredCounts measured (C.errorsKnown (measured .«fit_std_error_theta1») (measured .«fit_std_error_theta2»))
+    unfolding diskCounts C.measuredOf
+    disk-counts-are = rw (it .answer)
+
+    -- theta1, theta2, width, amp, rms, rel_rms, corr, edge_score, objective, both errors; and the trials
+    abbrev disk-value : ℕ → Float
+    disk-value k = getD (diskValues disk-answer) k nan
+
+    abbrev disk-counted : ℕ → ℕ
+    disk-counted k = getD (diskCounts disk-answer) k 0
+
+    -- the founding demand: an answered disk has 3 + 5 n values, and all of them are finite
+    pub disk-answered-finite : (length (diskInputs D base0 base1) ≡ 3 + 5 * D .n) × AllFinite (diskInputs D base0 base1)
+    disk-answered-finite = (it .length, it .finite)
+
+    -- demand 2: the eleven values and the counts are those of the definition that follows the Rust
+    pub disk-answered-values : (diskValues disk-answer ≡ C.measuredValues measured) ×
+        (diskCounts disk-answer ≡ C.measuredCounts measured (C.errorsKnown (measured .«fit_std_error_theta1») (measured .«fit_std_error_theta2»)))
+    disk-answered-values = (disk-values-are, disk-counts-are)
+
+    -- demand 3, the bill: exactly 4 k + 24 m trials, k the pairs kept and m the leaders kept by the definition; at most 144
+    pub disk-trials : (disk-counted 0 ≡ 4 * pairsKept D base0 base1 + 24 * leadersKept D base0 base1) × (disk-counted 0 ≤ 144)
+    disk-trials =
+        let q = ap trialsOf (it .found) in
+        rw disk-counts-are (
+          subst (λ (t : ℕ). t ≡ 4 * pairsKept D base0 base1 + 24 * leadersKept D base0 base1) q (disk-bill D base0 base1),
+          subst (λ (t : ℕ). t ≤ 144) q (disk-bill-most D base0 base1),
+        )
+
+    sound-disk : SoundFit (it .fit)
+    sound-disk = search-sound D base0 base1 (it .fit) (it .trials) (it .found)
+
+    -- 0 ≤ theta1 < PI and theta1 ≤ theta2 < TAU
+    pub disk-axes : T (le nought (disk-value 0)) × T (lt (disk-value 0) pi) × T (le (disk-value 0) (disk-value 1)) × T (lt (disk-value 1) tau)
+    disk-axes = let s = sound-disk in rw disk-values-are (s .low, s .first, s .order, s .second)
+
+    -- both errors from 0 to PI
+    pub disk-errors : T (le nought (disk-value 9)) × T (le (disk-value 9) pi) × T (le nought (disk-value 10)) × T (le (disk-value 10) pi)
+    disk-errors =
+        let b = errors-sound (D .n) (D .xs) (D .ys) (D .«vals_centered») (it .fit) in
+        rw disk-values-are (b .low1, b .high1, b .low2, b .high2)
+
+    -- the amplitude is NaN or not below zero
+    pub disk-amplitude : T (isNan (disk-value 3) || le nought (disk-value 3))
+    disk-amplitude = rw disk-values-are (sound-disk .size)
 
     -- the width is one of the four
-    pub disk-width : checkedDisk D base0 base1 ≡ Disks.Fitted m known → (w : ℕ) × (w < 4) × (m .fit .width ≡ widthAt w)
-    disk-width e = width-known D base0 base1 (m .fit) (m .trials) (disk-answered-is-the-fit e .fit)
-
-  -- number 4: the search answers nothing, its trials are the place, and no trial had answered
-  module _ (place : ℕ) where
-    answer : {m : Measured} {known : Bool} → Disks.Fitted m known ≡ Disks.Refused 4 place → ⊥
-    answer e = let z : _≡_ {A = ℕ} 0 1 = cc in omega arith
-
-    another : (number p : ℕ) → Disks.Refused number p ≡ Disks.Refused 4 place → number ≡ 4
-    another number p e = cc
-
-    nothing : (r : DiskFit) → bestDiskFit D base0 base1 ≡ r → diskMeasured D r ≡ Disks.Refused 4 place → bestDiskFit D base0 base1 ≡ Missing place
-    unfolding diskMeasured measuredOf
-    nothing (Best f t) q e = absurd (answer e)
-    nothing (Missing t) q e = let h : t ≡ place = cc in q ∙ ap Missing h
-
-    pub disk-nothing : checkedDisk D base0 base1 ≡ Disks.Refused 4 place → (bestDiskFit D base0 base1 ≡ Missing place) × (place ≡ 4 * pairsKept D base0 base1) × (leadersKept D base0 base1 ≡ 0)
-    unfolding checkedDisk diskFitted
-    disk-nothing e =
-        let f = looked (eqb (D .n) 0) (ltb 320 (D .n)) (sameLengths D) (diskWild (D .«val_energy») base0 base1 (D .xs) (D .ys) (D .«vals_centered») (D .«grad_angles») (D .«grad_weights»)) _ _ _ e (λ q. two (another 2 0 q)) (λ q. one (another 1 0 q)) (λ i q. three (another 3 i q)) in
-        let g = nothing (bestDiskFit D base0 base1) refl f in
-        (g, missing-bill D base0 base1 place g, missing-leaders D base0 base1 place g)
-      where
-        one : _≡_ {A = ℕ} 1 4 → ⊥
-        one q = omega arith
-
-        two : _≡_ {A = ℕ} 2 4 → ⊥
-        two q = omega arith
-
-        three : _≡_ {A = ℕ} 3 4 → ⊥
-        three q = omega arith
+    pub disk-width : (w : ℕ) × (w < 4) × (disk-value 2 ≡ widthAt w)
+    disk-width = rw disk-values-are (width-known D base0 base1 (it .fit) (it .trials) (it .found))
 
 -- m is the lesser of 2 and the number of trials that answered
 pub disk-leaders : (D : DiskData) (base0 base1 : Float) → leadersKept D base0 base1 ≡ min 2 (answeredTrials D base0 base1)
 disk-leaders D base0 base1 = leaders-are D base0 base1
 
--- any two answers that the contract permits are equal: of a value, and of a record with its buffers alike
-pub answers-equal : {A : Type 0} (a b d : A) → a ≡ d → b ≡ d → a ≡ b
-answers-equal a b d e g = e ∙ sym g
+-- any two answers that a contract permits are equal, of each entry
+pub ring-answers-equal : (samples angles : List Float) (a b : RingAnswer) → a ≡ checkedRing samples angles → b ≡ checkedRing samples angles → a ≡ b
+ring-answers-equal samples angles a b e g = e ∙ sym g
+
+pub disk-answers-equal : (D : DiskData) (base0 base1 : Float) (a b : DiskAnswer) → a ≡ checkedDisk D base0 base1 → b ≡ checkedDisk D base0 base1 → a ≡ b
+disk-answers-equal D base0 base1 a b e g = e ∙ sym g

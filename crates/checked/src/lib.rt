@@ -11,7 +11,7 @@ ghost use lib.ListN.{length};
 ghost use Rattle.robust.specs.Robust.{fitRing};
 ghost use Rattle.data.specs.Data.{diskOf};
 ghost use Rattle.checked.specs.Checked as C;
-ghost use Rattle.checked.specs.CheckedLaws.{Below};
+ghost use Rattle.checked.specs.CheckedLaws.{Below, shiftedBy, loneAt};
 
 // Where the first value stands that is not finite.
 pub enum Wild {
@@ -39,13 +39,32 @@ pub fn first_wild(xs: &[f32]) -> Wild
     Wild::Clean
 }
 
-pub fn errors_known(f: TwoAxisFit) -> bool
-    ensures { λ r. ⌜ r ≡ C.errorsKnown f ⌝ }
+// The place of a value that is not finite among all values, or what comes later.
+fn shifted(w: Wild, off: u16, next: Wild) -> Wild
+    requires { ⌜ Below 320 w × (off ≤ 4096) ⌝ }
+    ensures { λ r. ⌜ r ≡ shiftedBy w off next ⌝ }
 {
-    if f.fit_std_error_theta1 == floats::PI {
-        if f.fit_std_error_theta2 == floats::PI {
-            return false;
-        }
+    let Wild::At(i) = w else {
+        return next;
+    };
+    Wild::At(off + i)
+}
+
+fn lone(x: f32, place: u16, next: Wild) -> Wild
+    ensures { λ r. ⌜ r ≡ loneAt x place next ⌝ }
+{
+    if floats::is_finite(x) {
+        return next;
+    }
+    Wild::At(place)
+}
+
+// The errors of a fit are known unless both equal PI.
+fn errors_known(e1: f32, e2: f32) -> bool
+    ensures { λ r. ⌜ r ≡ C.errorsKnown e1 e2 ⌝ }
+{
+    if e1 == floats::PI && e2 == floats::PI {
+        return false;
     }
     true
 }
@@ -80,28 +99,26 @@ fn ring_fitted(samples: &[f32], angles: &[f32]) -> RingAnswer
     ensures { λ r. ⌜ r ≡ C.ringFitted (now (samples .entry)) (now (angles .entry)) ⌝ }
 {
     let r = fit_16(samples, angles);
-    let known = errors_known(r.fit);
+    let f = r.fit;
+    let known = errors_known(f.fit_std_error_theta1, f.fit_std_error_theta2);
     RingAnswer::Fitted(r, known)
 }
 
-fn angles_looked(samples: &[f32], angles: &[f32]) -> RingAnswer
+fn ring_wild(samples: &[f32], angles: &[f32]) -> Wild
     requires { ⌜ (length (now samples) ≡ 16) × (length (now angles) ≡ 16) ⌝ }
-    ensures { λ r. ⌜ r ≡ C.anglesLooked (now (samples .entry)) (now (angles .entry)) (C.firstWild (now (angles .entry))) ⌝ }
+    ensures { λ r. ⌜ r ≡ C.firstWild (C.ringInputs (now (samples .entry)) (now (angles .entry))) ⌝ }
 {
-    let wild = first_wild(angles);
-    let Wild::At(i) = wild else {
-        return ring_fitted(samples, angles);
-    };
-    RingAnswer::Refused(3, 16 + i)
+    let b = shifted(first_wild(angles), 16, Wild::Clean);
+    shifted(first_wild(samples), 0, b)
 }
 
-fn samples_looked(samples: &[f32], angles: &[f32]) -> RingAnswer
+fn ring_looked(samples: &[f32], angles: &[f32]) -> RingAnswer
     requires { ⌜ (length (now samples) ≡ 16) × (length (now angles) ≡ 16) ⌝ }
-    ensures { λ r. ⌜ r ≡ C.samplesLooked (now (samples .entry)) (now (angles .entry)) (C.firstWild (now (samples .entry))) ⌝ }
+    ensures { λ r. ⌜ r ≡ C.ringLooked (now (samples .entry)) (now (angles .entry)) (C.firstWild (C.ringInputs (now (samples .entry)) (now (angles .entry)))) ⌝ }
 {
-    let wild = first_wild(samples);
+    let wild = ring_wild(samples, angles);
     let Wild::At(i) = wild else {
-        return angles_looked(samples, angles);
+        return ring_fitted(samples, angles);
     };
     RingAnswer::Refused(3, i)
 }
@@ -112,9 +129,8 @@ pub fn fit_ring(samples: &[f32], angles: &[f32]) -> RingAnswer
 {
     if samples.len() == 16 {
         if angles.len() == 16 {
-            return samples_looked(samples, angles);
+            return ring_looked(samples, angles);
         }
-        return RingAnswer::Refused(1, 0);
     }
     RingAnswer::Refused(1, 0)
 }
@@ -133,65 +149,34 @@ pub enum DiskAnswer {
     Refused(u8, u16),
 }
 
-// The place of a value that is not finite among all values, or what comes later.
-fn shifted(w: Wild, off: u16, next: Wild) -> Wild
-    requires { ⌜ Below 320 w × (off ≤ 4096) ⌝ }
-    ensures { λ r. ⌜ r ≡ C.shifted w off next ⌝ }
-{
-    let Wild::At(i) = w else {
-        return next;
-    };
-    Wild::At(off + i)
-}
-
-fn lone(x: f32, place: u16, next: Wild) -> Wild
-    ensures { λ r. ⌜ r ≡ C.lone x place next ⌝ }
-{
-    if floats::is_finite(x) {
-        return next;
-    }
-    Wild::At(place)
-}
-
 fn disk_wild(
-    energy: f32,
+    val_energy: f32,
     base0: f32,
     base1: f32,
     xs: &[f32],
     ys: &[f32],
-    vals: &[f32],
-    angles: &[f32],
-    weights: &[f32],
+    vals_centered: &[f32],
+    grad_angles: &[f32],
+    grad_weights: &[f32],
 ) -> Wild
-    requires { ⌜ (length (now xs) ≤ 320) × (length (now ys) ≡ length (now xs)) × (length (now vals) ≡ length (now xs)) × (length (now angles) ≡ length (now xs)) × (length (now weights) ≡ length (now xs)) ⌝ }
-    ensures { λ r. ⌜ r ≡ C.diskWild energy base0 base1 (now (xs .entry)) (now (ys .entry)) (now (vals .entry)) (now (angles .entry)) (now (weights .entry)) ⌝ }
+    requires { ⌜ (length (now xs) ≤ 320) × (length (now ys) ≡ length (now xs)) × (length (now «vals_centered») ≡ length (now xs)) × (length (now «grad_angles») ≡ length (now xs)) × (length (now «grad_weights») ≡ length (now xs)) ⌝ }
+    ensures { λ r. ⌜ r ≡ C.firstWild (C.diskInputs (diskOf «val_energy» (now (xs .entry)) (now (ys .entry)) (now («vals_centered» .entry)) (now («grad_angles» .entry)) (now («grad_weights» .entry))) base0 base1) ⌝ }
 {
     let n = xs.len() as u16;
-    let e = shifted(first_wild(weights), 3 + 4 * n, Wild::Clean);
-    let d = shifted(first_wild(angles), 3 + 3 * n, e);
-    let c = shifted(first_wild(vals), 3 + 2 * n, d);
+    let e = shifted(first_wild(grad_weights), 3 + 4 * n, Wild::Clean);
+    let d = shifted(first_wild(grad_angles), 3 + 3 * n, e);
+    let c = shifted(first_wild(vals_centered), 3 + 2 * n, d);
     let b = shifted(first_wild(ys), 3 + n, c);
     let a = shifted(first_wild(xs), 3, b);
-    lone(energy, 0, lone(base0, 1, lone(base1, 2, a)))
+    lone(val_energy, 0, lone(base0, 1, lone(base1, 2, a)))
 }
 
-fn both_known(e: Errors) -> bool
-    ensures { λ r. ⌜ r ≡ C.bothKnown e ⌝ }
+fn with_errors(xs: &[f32], ys: &[f32], vals_centered: &[f32], f: Fit, trials: usize) -> DiskAnswer
+    requires { ⌜ (length (now xs) ≤ 320) × (length (now ys) ≡ length (now xs)) × (length (now «vals_centered») ≡ length (now xs)) ⌝ }
+    ensures { λ r. ⌜ r ≡ C.measuredOf (length (now (xs .entry))) (now (xs .entry)) (now (ys .entry)) (now («vals_centered» .entry)) f trials ⌝ }
 {
-    if e.error1 == floats::PI {
-        if e.error2 == floats::PI {
-            return false;
-        }
-    }
-    true
-}
-
-fn with_errors(xs: &[f32], ys: &[f32], vals: &[f32], f: Fit, trials: usize) -> DiskAnswer
-    requires { ⌜ (length (now xs) ≤ 320) × (length (now ys) ≡ length (now xs)) × (length (now vals) ≡ length (now xs)) ⌝ }
-    ensures { λ r. ⌜ r ≡ C.measuredOf (length (now (xs .entry))) (now (xs .entry)) (now (ys .entry)) (now (vals .entry)) f trials ⌝ }
-{
-    let e = score::fit_std_errors(xs, ys, vals, f);
-    let known = both_known(e);
+    let e = score::fit_std_errors(xs, ys, vals_centered, f);
+    let known = errors_known(e.error1, e.error2);
     let m = Measured {
         fit: f,
         fit_std_error_theta1: e.error1,
@@ -202,70 +187,106 @@ fn with_errors(xs: &[f32], ys: &[f32], vals: &[f32], f: Fit, trials: usize) -> D
 }
 
 fn disk_fitted(
-    energy: f32,
+    val_energy: f32,
     base0: f32,
     base1: f32,
     xs: &[f32],
     ys: &[f32],
-    vals: &[f32],
-    angles: &[f32],
-    weights: &[f32],
+    vals_centered: &[f32],
+    grad_angles: &[f32],
+    grad_weights: &[f32],
 ) -> DiskAnswer
-    requires { ⌜ (length (now xs) ≤ 320) × (length (now ys) ≡ length (now xs)) × (length (now vals) ≡ length (now xs)) × (length (now angles) ≡ length (now xs)) × (length (now weights) ≡ length (now xs)) ⌝ }
-    ensures { λ r. ⌜ r ≡ C.diskFitted (diskOf energy (now (xs .entry)) (now (ys .entry)) (now (vals .entry)) (now (angles .entry)) (now (weights .entry))) base0 base1 ⌝ }
+    requires { ⌜ (length (now xs) ≤ 320) × (length (now ys) ≡ length (now xs)) × (length (now «vals_centered») ≡ length (now xs)) × (length (now «grad_angles») ≡ length (now xs)) × (length (now «grad_weights») ≡ length (now xs)) ⌝ }
+    ensures { λ r. ⌜ r ≡ C.diskFitted (diskOf «val_energy» (now (xs .entry)) (now (ys .entry)) (now («vals_centered» .entry)) (now («grad_angles» .entry)) (now («grad_weights» .entry))) base0 base1 ⌝ }
 {
-    let found = search::best_disk_fit(energy, base0, base1, xs, ys, vals, angles, weights);
+    let found = search::best_disk_fit(
+        val_energy,
+        base0,
+        base1,
+        xs,
+        ys,
+        vals_centered,
+        grad_angles,
+        grad_weights,
+    );
     match found {
-        DiskFit::Best(f, trials) => with_errors(xs, ys, vals, f, trials),
+        DiskFit::Best(f, trials) => with_errors(xs, ys, vals_centered, f, trials),
         DiskFit::Missing(trials) => DiskAnswer::Refused(4, (trials % 65536) as u16),
     }
 }
 
 fn disk_looked(
-    energy: f32,
+    val_energy: f32,
     base0: f32,
     base1: f32,
     xs: &[f32],
     ys: &[f32],
-    vals: &[f32],
-    angles: &[f32],
-    weights: &[f32],
+    vals_centered: &[f32],
+    grad_angles: &[f32],
+    grad_weights: &[f32],
 ) -> DiskAnswer
-    requires { ⌜ (length (now xs) ≤ 320) × (length (now ys) ≡ length (now xs)) × (length (now vals) ≡ length (now xs)) × (length (now angles) ≡ length (now xs)) × (length (now weights) ≡ length (now xs)) ⌝ }
-    ensures { λ r. ⌜ r ≡ C.diskLooked (diskOf energy (now (xs .entry)) (now (ys .entry)) (now (vals .entry)) (now (angles .entry)) (now (weights .entry))) base0 base1 (C.diskWild energy base0 base1 (now (xs .entry)) (now (ys .entry)) (now (vals .entry)) (now (angles .entry)) (now (weights .entry))) ⌝ }
+    requires { ⌜ (length (now xs) ≤ 320) × (length (now ys) ≡ length (now xs)) × (length (now «vals_centered») ≡ length (now xs)) × (length (now «grad_angles») ≡ length (now xs)) × (length (now «grad_weights») ≡ length (now xs)) ⌝ }
+    ensures { λ r. ⌜ r ≡ C.diskLooked (diskOf «val_energy» (now (xs .entry)) (now (ys .entry)) (now («vals_centered» .entry)) (now («grad_angles» .entry)) (now («grad_weights» .entry))) base0 base1 (C.firstWild (C.diskInputs (diskOf «val_energy» (now (xs .entry)) (now (ys .entry)) (now («vals_centered» .entry)) (now («grad_angles» .entry)) (now («grad_weights» .entry))) base0 base1)) ⌝ }
 {
-    let wild = disk_wild(energy, base0, base1, xs, ys, vals, angles, weights);
+    let wild = disk_wild(
+        val_energy,
+        base0,
+        base1,
+        xs,
+        ys,
+        vals_centered,
+        grad_angles,
+        grad_weights,
+    );
     let Wild::At(i) = wild else {
-        return disk_fitted(energy, base0, base1, xs, ys, vals, angles, weights);
+        return disk_fitted(
+            val_energy,
+            base0,
+            base1,
+            xs,
+            ys,
+            vals_centered,
+            grad_angles,
+            grad_weights,
+        );
     };
     DiskAnswer::Refused(3, i)
 }
 
 // The disk entry: any five slices.
 pub fn fit_disk(
-    energy: f32,
+    val_energy: f32,
     base0: f32,
     base1: f32,
     xs: &[f32],
     ys: &[f32],
-    vals: &[f32],
-    angles: &[f32],
-    weights: &[f32],
+    vals_centered: &[f32],
+    grad_angles: &[f32],
+    grad_weights: &[f32],
 ) -> DiskAnswer
-    ensures { λ r. ⌜ r ≡ C.checkedDisk (diskOf energy (now (xs .entry)) (now (ys .entry)) (now (vals .entry)) (now (angles .entry)) (now (weights .entry))) base0 base1 ⌝ }
+    ensures { λ r. ⌜ r ≡ C.checkedDisk (diskOf «val_energy» (now (xs .entry)) (now (ys .entry)) (now («vals_centered» .entry)) (now («grad_angles» .entry)) (now («grad_weights» .entry))) base0 base1 ⌝ }
 {
     let n = xs.len();
     if n == 0 {
         return DiskAnswer::Refused(2, 0);
     }
-    if n > 320 {
+    if n > data::MAX_TANH_PIXELS {
         return DiskAnswer::Refused(2, 0);
     }
     if ys.len() == n {
-        if vals.len() == n {
-            if angles.len() == n {
-                if weights.len() == n {
-                    return disk_looked(energy, base0, base1, xs, ys, vals, angles, weights);
+        if vals_centered.len() == n {
+            if grad_angles.len() == n {
+                if grad_weights.len() == n {
+                    return disk_looked(
+                        val_energy,
+                        base0,
+                        base1,
+                        xs,
+                        ys,
+                        vals_centered,
+                        grad_angles,
+                        grad_weights,
+                    );
                 }
             }
         }

@@ -1,6 +1,6 @@
 pub mod Ops
-pub mod Library
 pub mod Rows
+pub mod Library
 pub mod UnitLaws
 pub mod RoundingLaws
 pub mod NonNegLaws

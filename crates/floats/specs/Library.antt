@@ -1,11 +1,12 @@
 -- What Rust's library does on f32 and f64, for every value: NaN, infinities, both zeros and subnormals. Definitions only.
--- Document 01, "Float meaning", decides what Rust leaves open: a NaN counts as 7fc00000, and `max` and `min` take +0 as greater than -0.
+-- What Rust leaves open docs/RULES.md, Floats, decides: a NaN counts as 7fc00000, and `max` and `min` take +0 as greater than -0.
 use mathlib.Core.Bool.{Bool, true, false, not, _&&_, _||_, cond}
 use Prim.Native.Nat.{ℕ, zero, suc, _+_, _-_, _*_, _/_, _%_, _^_}
 use lib.IntN.{pos, negsuc}
 use lib.Dec.{leb, ltb}
-use lib.Ieee.{Float, nan, inf, fin, Format, binary32, prec, emax, low, up, down, size, units, round, add, rem, neg, lt, eq, isNan, ofInt, toUnsigned, toBits}
+use lib.Ieee.{Float, nan, inf, fin, Format, binary32, prec, emax, low, up, down, size, units, round, add, rem, neg, lt, eq, isNan, toUnsigned, toBits}
 use Rattle.floats.specs.Ops.{_⊗_, _⊘_, lit, nought, one, pi}
+use Rattle.floats.specs.Rows.{count}
 
 -- whether the sign is set, that of a zero or an infinity too
 unfoldable pub negative : Float → Bool
@@ -105,4 +106,4 @@ abbrev pub histBins : ℕ
 histBins = 72
 
 unfoldable pub bin : Float → ℕ
-bin a = toIndex (floor binary32 (a ⊘ pi ⊗ ofInt binary32 (pos histBins))) % histBins
+bin a = toIndex (floor binary32 (a ⊘ pi ⊗ count histBins)) % histBins

@@ -8,6 +8,7 @@ ghost use lib.Ieee.{binary32, binary64, eq, toBits, ofBits, ofInt};
 ghost use lib.Ieee.Scale.{finite};
 ghost use Rattle.floats.specs.Library as L;
 
+// The constants are those of specs/Ops.antt, where each is its bit pattern.
 pub const PI: f32 = 3.14159274;
 
 pub const TAU: f32 = 6.2831855;
@@ -19,7 +20,6 @@ pub const QUARTER_PI: f32 = 0.785398185;
 // The bins of a histogram of line angles, from 0 to PI.
 pub const HIST_BINS: usize = 72;
 
-// The constants are those of specs/Ops.antt: each is compared there by its bit pattern.
 pub fn abs(x: f32) -> f32
     ensures { λ r. ⌜ r ≡ L.abs x ⌝ }
 {

@@ -1,14 +1,17 @@
--- What a frame line is answered (document 01, "Frame lines"), in the order of the refusals. Definitions only.
-use mathlib.Core.Bool.{Bool, true, false, cond, _||_}
-use mathlib.Core.List.{List, [], _∷_, _++_}
-use Prim.Native.Nat.{ℕ, _+_, _*_, _%_}
+-- What a frame line is answered (docs/RULES.md, Frame lines), in the order of the refusals. Definitions only.
+use mathlib.Core.Bool.{Bool, cond}
+use mathlib.Core.List.{List, [], _∷_, _++_, map}
+use Prim.Native.Nat.{ℕ, _+_, _*_, _%_, _^_}
 use lib.ListN.{length}
-use lib.Dec.{ltb, eqb}
-use lib.Ieee.{Float, binary32, toBits, ofBits}
-use Rattle.hex.specs.Hex.{allHex, byteOf, wordOf, valuesOf, byteText, countText, wordsText, put}
+use lib.Dec.{ltb}
+use lib.Ieee.{Float, binary32, toBits}
+use Rattle.hex.specs.Hex.{valueOf, valuesOf, byteText, countText, wordsText, put}
+use Rattle.shapes.specs.Shapes.{shapeOf}
+use Rattle.shapes.specs.declared.Shape.{Shape}
+use Rattle.shapes.specs.declared.Shape.the-variants as Shapes
 use Rattle.robust.specs.declared.RingFit.{RingFit}
 use Rattle.data.specs.Data.{DiskData}
-use Rattle.checked.specs.Checked.{checkedRing, checkedDisk, flag}
+use Rattle.checked.specs.Checked.{checkedRing, checkedDisk, flag, fitValues, fitCounts, measuredValues}
 use Rattle.checked.specs.declared.RingAnswer.{RingAnswer}
 use Rattle.checked.specs.declared.RingAnswer.the-variants as Rings
 use Rattle.checked.specs.declared.DiskAnswer.{DiskAnswer}
@@ -27,21 +30,15 @@ abbrev pub ringAnswered : RingAnswer → Answer
 ringAnswered (Rings.Fitted r known) = Ring r known
 ringAnswered (Rings.Refused number place) = Refused 0x81 number place
 
--- 16 words of samples behind the type, and 16 of angles
-unfoldable pub ringLine : List ℕ → Answer
-ringLine l = cond (eqb (length l) 258) (ringAnswered (checkedRing (valuesOf l 2 16) (valuesOf l 130 16))) malformed
+-- a ring's line has 16 words of samples behind the type, and 16 of angles
+abbrev pub ringAnswer : List ℕ → Answer
+ringAnswer l = ringAnswered (checkedRing (valuesOf l 2 16) (valuesOf l 130 16))
 
 abbrev pub diskAnswered : DiskAnswer → Answer
 diskAnswered (Disks.Fitted m known) = Sector m known
 diskAnswered (Disks.Refused number place) = Refused 0x82 number place
 
--- the count of four digits, three values and five runs of n values behind the type
-abbrev pub valueOf : List ℕ → ℕ → Float
-valueOf l p = ofBits binary32 (wordOf l p)
-
-abbrev pub pixelsOf : List ℕ → ℕ
-pixelsOf l = byteOf l 2 * 256 + byteOf l 4
-
+-- a disk's has the count of four digits, three values and five runs of n values behind the type
 unfoldable pub diskOfLine : List ℕ → ℕ → DiskData
 diskOfLine l n =
     record {
@@ -54,46 +51,38 @@ diskOfLine l n =
       «val_energy» = valueOf l 6;
     }
 
--- a count of 0 or above 320 is refused before the length is looked at
-unfoldable pub countedLine : List ℕ → ℕ → Answer
-countedLine l n =
-    cond (eqb n 0 || ltb 320 n) (Refused 0x82 2 0)
-    (cond (eqb (length l) (30 + 40 * n)) (diskAnswered (checkedDisk (diskOfLine l n) (valueOf l 14) (valueOf l 22))) malformed)
+abbrev pub diskAnswer : List ℕ → ℕ → Answer
+diskAnswer l n = diskAnswered (checkedDisk (diskOfLine l n) (valueOf l 14) (valueOf l 22))
 
-unfoldable pub diskLine : List ℕ → Answer
-diskLine l = cond (ltb (length l) 30) malformed (countedLine l (pixelsOf l))
+-- by the line's shape, which says what comes before the values: number 5, number 2, number 5 again
+abbrev pub shapedAnswer : List ℕ → Shape → Answer
+shapedAnswer l Shapes.Ring = ringAnswer l
+shapedAnswer l (Shapes.Disk n) = diskAnswer l n
+shapedAnswer l (Shapes.BadCount n) = Refused 0x82 2 0
+shapedAnswer l (Shapes.Malformed fault) = malformed
 
-unfoldable pub typedLine : List ℕ → Answer
-typedLine l = cond (eqb (byteOf l 0) 1) (ringLine l) (cond (eqb (byteOf l 0) 2) (diskLine l) malformed)
-
--- too long; a foreign character; under 2 characters; another type; and then by the type
 unfoldable pub answerOf : List ℕ → Answer
-answerOf l =
-    cond (ltb 12830 (length l)) malformed
-    (cond (allHex l (length l))
-    (cond (ltb (length l) 2) malformed (typedLine l))
-    malformed)
+answerOf l = shapedAnswer l (shapeOf l)
 
 -- ---- the text of an answer
--- starts, updates of the first and of the second start and known, a byte each
-abbrev pub countsWord : RingFit → Bool → ℕ
-countsWord r known = r .starts % 256 * 16777216 + r .first % 256 * 65536 + r .second % 256 * 256 + flag known
+-- counts, a byte each
+abbrev pub countsWord : List ℕ → ℕ
+countsWord [] = 0
+countsWord (n ∷ ns) = n % 256 * 256 ^ length ns + countsWord ns
 
+abbrev pub valueWords : List Float → List ℕ
+valueWords = map (toBits binary32)
+
+-- the six values, and a word of the four counts
 abbrev pub ringWords : RingFit → Bool → List ℕ
-ringWords r known =
-    toBits binary32 (r .fit .amp) ∷ toBits binary32 (r .fit .theta1) ∷ toBits binary32 (r .fit .theta2) ∷ toBits binary32 (r .fit .«fit_std_error_theta1») ∷
-    toBits binary32 (r .fit .«fit_std_error_theta2») ∷ toBits binary32 (r .fit .rms) ∷ countsWord r known ∷ []
+ringWords r known = valueWords (fitValues (r .fit)) ++ (countsWord (fitCounts r known) ∷ [])
 
 -- 8100, then seven words: 60 characters
 unfoldable pub ringText : RingFit → Bool → List ℕ
 ringText r known = countText 0x8100 ++ wordsText (ringWords r known) 7
 
--- theta1, theta2, width, amp, rms, rel_rms, corr, edge_score, objective, both errors
 abbrev pub diskWords : Measured → List ℕ
-diskWords m =
-    toBits binary32 (m .fit .theta1) ∷ toBits binary32 (m .fit .theta2) ∷ toBits binary32 (m .fit .width) ∷ toBits binary32 (m .fit .amp) ∷
-    toBits binary32 (m .fit .rms) ∷ toBits binary32 (m .fit .«rel_rms») ∷ toBits binary32 (m .fit .corr) ∷ toBits binary32 (m .fit .«edge_score») ∷
-    toBits binary32 (m .fit .objective) ∷ toBits binary32 (m .«fit_std_error_theta1») ∷ toBits binary32 (m .«fit_std_error_theta2») ∷ []
+diskWords m = valueWords (measuredValues m)
 
 -- 8200, then eleven words, the trials in four digits and known: 98 characters
 unfoldable pub diskText : Measured → Bool → List ℕ

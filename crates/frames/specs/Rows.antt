@@ -1,4 +1,4 @@
--- The rows that document 01 marks to be proved: the definitions are run at the given bits, by the checker's own computation. Assumes nothing.
+-- The rows of docs/RULES.md, Rows to prove: the definitions are run at the given bits, by the checker's own computation. Assumes nothing.
 use mathlib.Core.Path.{_≡_, refl}
 use mathlib.Core.Bool.{Bool, true, false, cond, not, _&&_, _||_}
 use mathlib.Core.List.{List, [], _∷_, _++_, map}
@@ -8,7 +8,7 @@ use lib.Dec.{ltb, eqb}
 use lib.Ieee.{Float, nan, inf, binary32, add, sub, mul, div, rem, neg, lt, le, eq, isNan, ofBits, toBits, ofInt, toUnsigned, round, size}
 use lib.Ieee.Scale.{finite}
 use Rattle.floats.specs.Ops.{lit, nought, one, pi, halfPi, quarterPi}
-use Rattle.floats.specs.Library.{negative, before, abs, max, min, remEuclid, sqrt, rootUnits, wholeRoot, floor, bin}
+use Rattle.floats.specs.Library.{negative, before, abs, max, min, toRadians, remEuclid, sqrt, rootUnits, wholeRoot, floor, bin}
 use Rattle.loops.specs.Loops.{iter, range, tab}
 use Rattle.elementary.specs.Elementary.{whole, sinRest, cosRest, quadrant, sinCosNear, turn, sinCos}
 use Rattle.geometry.specs.Geometry.{signedLineDelta, lineDelta, lineSeparation, validPair}
@@ -21,10 +21,11 @@ use Rattle.solver_elimination.specs.declared.Errors.{Errors}
 use Rattle.solver.specs.Solver.{degenerateFit, degenerate, fitWithSeed}
 use Rattle.seed.specs.Seed.{wavedBy, waves, harmonic, secondHarmonic}
 use Rattle.robust.specs.Robust.{total, deviations, fitIsSuspicious, fitRing, gridAngle}
-use Rattle.checked.specs.Checked.{wildFrom, firstWild, errorsKnown, ringFitted, anglesLooked, samplesLooked, checkedRing}
+use Rattle.checked.specs.Checked.{wildFrom, firstWild, errorsKnown, ringFitted, ringLooked, checkedRing}
 use Rattle.candidates.specs.Candidates.{combineEdgePair}
 use Rattle.hex.specs.Hex.{isHex, allHex, byteOf, wordOf, valuesOf, byteText, countText, wordText, wordsText}
-use Rattle.frames.specs.Frames.{answerOf, typedLine, ringLine, ringText, diskLine, countedLine, refusalText, textOf}
+use Rattle.shapes.specs.Shapes.{shapeOf, typedShape, ringShape, diskShape, countedShape}
+use Rattle.frames.specs.Frames.{answerOf, ringText, refusalText, textOf}
 
 abbrev bits : Float → ℕ
 bits = toBits binary32
@@ -92,20 +93,20 @@ pub rows-to-prove : (
     ∷ (56 ∷ 49 ∷ 48 ∷ 48 ∷ 48 ∷ 48 ∷ 48 ∷ 48 ∷ 48 ∷ 48 ∷ 48 ∷ 48 ∷ 48 ∷ 48 ∷ 48 ∷ 48 ∷ 48 ∷ 48 ∷ 48 ∷ 48 ∷ 51 ∷ 102 ∷ 99 ∷ 57 ∷ 48 ∷ 102 ∷ 100 ∷ 98 ∷ 52 ∷ 48 ∷ 52 ∷ 57 ∷ 48 ∷ 102 ∷ 100 ∷ 98 ∷ 52 ∷ 48 ∷ 52 ∷ 57 ∷ 48 ∷ 102 ∷ 100 ∷ 98 ∷ 48 ∷ 48 ∷ 48 ∷ 48 ∷ 48 ∷ 48 ∷ 48 ∷ 48 ∷ 48 ∷ 49 ∷ 48 ∷ 48 ∷ 48 ∷ 48 ∷ 48 ∷ 48 ∷ [])
     ∷ []
     )
-unfolding combineEdgePair canonicalizeTrackingSwap settled placed wrapToTau arc remEuclid validPair lineSeparation lineDelta signedLineDelta abs negative before max min sqrt rootUnits wholeRoot degenerateFit iter range solve4x4 augmented larger pivotRow unusable reduced cleared clear topRow columned stopped axisError bothErrors axisStdErrors floor bin tab whole sinRest cosRest quadrant sinCosNear turn sinCos degenerate fitWithSeed wavedBy waves harmonic secondHarmonic total deviations fitIsSuspicious fitRing wildFrom firstWild errorsKnown ringFitted anglesLooked samplesLooked checkedRing isHex allHex byteOf wordOf valuesOf byteText countText wordText wordsText answerOf typedLine ringLine ringText finite ltb eqb toUnsigned ofBits toBits ofInt add sub mul div rem neg lt le eq isNan round size
+unfolding combineEdgePair canonicalizeTrackingSwap settled placed wrapToTau arc remEuclid validPair lineSeparation lineDelta signedLineDelta abs negative before max min sqrt rootUnits wholeRoot degenerateFit iter range solve4x4 augmented larger pivotRow unusable reduced cleared clear topRow columned stopped axisError bothErrors axisStdErrors floor bin tab whole sinRest cosRest quadrant sinCosNear turn sinCos degenerate fitWithSeed wavedBy waves harmonic secondHarmonic total deviations fitIsSuspicious fitRing wildFrom firstWild errorsKnown ringFitted checkedRing isHex allHex byteOf wordOf valuesOf byteText countText wordText wordsText answerOf shapeOf typedShape ringShape ringText finite ltb eqb toUnsigned ofBits toBits ofInt add sub mul div rem neg lt le eq isNan round size toRadians ringLooked
 rows-to-prove = refl
 
 -- the two pairs of the grid that stand at 12 degrees: both are allowed
 pub grid-edges : (flag (validPair (gridAngle 0) (gridAngle 21)) ∷ flag (validPair (gridAngle 1) (gridAngle 22)) ∷ []) ≡ (1 ∷ 1 ∷ [])
-unfolding remEuclid validPair lineSeparation lineDelta signedLineDelta abs negative before max min add sub mul div rem neg lt le eq isNan ofBits ofInt round size
+unfolding toRadians remEuclid validPair lineSeparation lineDelta signedLineDelta abs negative before max min add sub mul div rem neg lt le eq isNan ofBits ofInt round size
 grid-edges = refl
 
--- document 01's line with 321 pixels: 020141 and 24 zeros, answered 82020000
+-- the line with 321 pixels of docs/RULES.md, Frame lines: 020141 and 24 zeros, answered 82020000
 pub pixels-321 : textOf (answerOf (48 ∷ 50 ∷ 48 ∷ 49 ∷ 52 ∷ 49 ∷ replicate 24 48)) ≡ (56 ∷ 50 ∷ 48 ∷ 50 ∷ 48 ∷ 48 ∷ 48 ∷ 48 ∷ [])
-unfolding answerOf typedLine diskLine countedLine refusalText isHex allHex byteOf byteText countText iter ltb eqb
+unfolding answerOf shapeOf typedShape diskShape countedShape refusalText isHex allHex byteOf byteText countText iter ltb eqb
 pixels-321 = refl
 
 -- an empty line, answered ff050000
 pub empty-line : textOf (answerOf []) ≡ (102 ∷ 102 ∷ 48 ∷ 53 ∷ 48 ∷ 48 ∷ 48 ∷ 48 ∷ [])
-unfolding answerOf refusalText isHex allHex byteText countText iter ltb eqb
+unfolding answerOf shapeOf refusalText isHex allHex byteText countText iter ltb eqb
 empty-line = refl

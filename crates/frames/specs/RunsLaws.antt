@@ -8,9 +8,9 @@ use lib.Seq.{take-length, drop-length, take-append-le, drop-append-le}
 use lib.Ieee.{Float}
 use Rattle.loops.specs.Loops.{tab}
 use Rattle.loops.specs.TabLaws.{tab-length, tab-same}
-use Rattle.hex.specs.Hex.{valuesOf}
+use Rattle.hex.specs.Hex.{valueOf, valuesOf}
 use Rattle.data.specs.Data.{DiskData, diskOf}
-use Rattle.frames.specs.Frames.{valueOf, diskOfLine}
+use Rattle.frames.specs.Frames.{diskOfLine}
 
 module _ {A : Type 0} where
   drop-tab : (f : ℕ → A) (k m : ℕ) → drop k (tab f (k + m)) ≡ tab (λ i. f (k + i)) m

@@ -3,6 +3,7 @@ use checked::DiskAnswer;
 use checked::Measured;
 use checked::RingAnswer;
 use robust::RingFit;
+use shapes::Shape;
 ghost use mathlib.Core.Path.{_≡_};
 ghost use Prim.Native.Nat.{_+_, _*_, _≤_, _<_};
 ghost use lib.ListN.{length};
@@ -34,17 +35,16 @@ fn ring_answered(a: RingAnswer) -> Answer
     }
 }
 
+// The samples and the angles of a ring, behind the type.
 fn ring_line(line: &[u8]) -> Answer
-    ensures { λ r. ⌜ r ≡ F.ringLine (now (line .entry)) ⌝ }
+    requires { ⌜ length (now line) ≡ 258 ⌝ }
+    ensures { λ r. ⌜ r ≡ F.ringAnswer (now (line .entry)) ⌝ }
 {
-    if line.len() == 258 {
-        let mut samples = [0.0f32; 16];
-        let mut angles = [0.0f32; 16];
-        hex::values(line, 2, &mut samples);
-        hex::values(line, 130, &mut angles);
-        return ring_answered(checked::fit_ring(&samples, &angles));
-    }
-    malformed()
+    let mut samples = [0.0f32; 16];
+    let mut angles = [0.0f32; 16];
+    hex::values(line, 2, &mut samples);
+    hex::values(line, 130, &mut angles);
+    ring_answered(checked::fit_ring(&samples, &angles))
 }
 
 fn disk_answered(a: DiskAnswer) -> Answer
@@ -54,13 +54,6 @@ fn disk_answered(a: DiskAnswer) -> Answer
         DiskAnswer::Fitted(m, known) => Answer::Sector(m, known),
         DiskAnswer::Refused(number, place) => Answer::Refused(130, number, place),
     }
-}
-
-fn value_at(line: &[u8], at: usize) -> f32
-    requires { ⌜ at + 8 ≤ length (now line) ⌝ }
-    ensures { λ r. ⌜ r ≡ F.valueOf (now (line .entry)) at ⌝ }
-{
-    floats::from_bits(hex::word_at(line, at))
 }
 
 // The answer to a disk's values: five runs of n in one slice.
@@ -89,19 +82,19 @@ fn runs_answered(energy: f32, base0: f32, base1: f32, vs: &[f32], n: usize) -> A
 // The values of a disk whose line has the right length, read into a lent row of 5 n places.
 fn runs_line(line: &[u8], n: usize, vs: &mut [f32]) -> Answer
     requires { ⌜ (n ≤ 320) × (length (now line) ≡ 30 + 40 * n) × (length (now vs) ≡ 5 * n) ⌝ }
-    ensures { λ r. ⌜ r ≡ F.diskAnswered (checkedDisk (F.diskOfLine (now (line .entry)) n) (F.valueOf (now (line .entry)) 14) (F.valueOf (now (line .entry)) 22)) ⌝ }
+    ensures { λ r. ⌜ r ≡ F.diskAnswer (now (line .entry)) n ⌝ }
 {
-    let energy = value_at(line, 6);
-    let base0 = value_at(line, 14);
-    let base1 = value_at(line, 22);
+    let energy = hex::value_at(line, 6);
+    let base0 = hex::value_at(line, 14);
+    let base1 = hex::value_at(line, 22);
     hex::values(line, 30, vs);
     runs_answered(energy, base0, base1, vs, n)
 }
 
 // The same, with the row on this call's stack.
-fn pixels_line(line: &[u8], n: usize) -> Answer
+fn disk_line(line: &[u8], n: usize) -> Answer
     requires { ⌜ (n ≤ 320) × (length (now line) ≡ 30 + 40 * n) ⌝ }
-    ensures { λ r. ⌜ r ≡ F.diskAnswered (checkedDisk (F.diskOfLine (now (line .entry)) n) (F.valueOf (now (line .entry)) 14) (F.valueOf (now (line .entry)) 22)) ⌝ }
+    ensures { λ r. ⌜ r ≡ F.diskAnswer (now (line .entry)) n ⌝ }
 {
     let mut vs = [0.0f32; 1600];
     let from = 0usize;
@@ -109,61 +102,16 @@ fn pixels_line(line: &[u8], n: usize) -> Answer
     runs_line(line, n, &mut vs[from..m])
 }
 
-fn counted_line(line: &[u8], n: usize) -> Answer
-    requires { ⌜ (30 ≤ length (now line)) × (n < 65536) ⌝ }
-    ensures { λ r. ⌜ r ≡ F.countedLine (now (line .entry)) n ⌝ }
-{
-    if n == 0 {
-        return Answer::Refused(130, 2, 0);
-    }
-    if n > 320 {
-        return Answer::Refused(130, 2, 0);
-    }
-    if line.len() == 30 + 40 * n {
-        return pixels_line(line, n);
-    }
-    malformed()
-}
-
-fn disk_line(line: &[u8]) -> Answer
-    requires { ⌜ 2 ≤ length (now line) ⌝ }
-    ensures { λ r. ⌜ r ≡ F.diskLine (now (line .entry)) ⌝ }
-{
-    if line.len() < 30 {
-        return malformed();
-    }
-    let n = hex::byte_at(line, 2) * 256 + hex::byte_at(line, 4);
-    counted_line(line, n as usize)
-}
-
-fn typed_line(line: &[u8]) -> Answer
-    requires { ⌜ 2 ≤ length (now line) ⌝ }
-    ensures { λ r. ⌜ r ≡ F.typedLine (now (line .entry)) ⌝ }
-{
-    let kind = hex::byte_at(line, 0);
-    if kind == 1 {
-        return ring_line(line);
-    }
-    if kind == 2 {
-        return disk_line(line);
-    }
-    malformed()
-}
-
 pub fn answer_to(line: &[u8]) -> Answer
     ensures { λ r. ⌜ r ≡ F.answerOf (now (line .entry)) ⌝ }
 {
-    let n = line.len();
-    if n > 12830 {
-        return malformed();
+    let shape = shapes::shape_of(line);
+    match shape {
+        Shape::Ring => ring_line(line),
+        Shape::Disk(n) => disk_line(line, n as usize),
+        Shape::BadCount(_) => Answer::Refused(130, 2, 0),
+        Shape::Malformed(_) => malformed(),
     }
-    if hex::all_hex(line) {
-        if n < 2 {
-            return malformed();
-        }
-        return typed_line(line);
-    }
-    malformed()
 }
 
 fn as_number(b: bool) -> u32

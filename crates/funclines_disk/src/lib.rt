@@ -1,338 +1,487 @@
-// Function lines 70 to 95: the disk search. The answer is the number of words stored in `out`, 0
-// where the line is not of its function's form or its counts leave the domain.
-//
-// Those without a disk are in pairlines. Here the five rows of a disk stand behind one another in
-// `d`, n values each, and what follows the disk in the line is `w`.
+// The test instrument's half of the disk: libfunclines_disk.a, one export for each function that a
+// function line 70 to 95 calls; crates/funclines has the other half, and says what both are for.
+use candidates::CandidateSet;
+use candidates::Closest;
+use candidates::Forced;
+use candidates::PairScore;
+use candidates::Pool;
 use score::Fit;
 use score::Scored;
 use search::DiskFit;
+use search::Top;
+use search_ranking::Ranked;
 ghost use mathlib.Core.Path.{_≡_};
-ghost use Prim.Native.Nat.{_+_, _*_, _≤_, _<_};
+ghost use Prim.Native.Nat.{_≤_};
 ghost use lib.ListN.{length};
+ghost use Rattle.data.specs.Data.{Sized};
+ghost use Rattle.search_rows.specs.Rows.{Outlined};
 
-fn histogram_line(n: usize, d: &[f32], w: &[u32], out: &mut [u32]) -> usize
-    requires { ⌜ (n ≤ 320) × (length (now d) ≡ 5 * n) × (length (now out) ≡ 1105) ⌝ }
-    ensures { λ r. ⌜ r ≤ 1105 ⌝ }
-{
-    if w.len() != 2 {
-        return 0;
-    }
-    let base0 = funclines_wire::value(w, 0);
-    let base1 = funclines_wire::value(w, 1);
-    let a = 3 * n;
-    let b = 4 * n;
-    let e = 5 * n;
-    funclines_records::put_set(
-        out,
-        candidates::histogram_candidates(&d[a..b], &d[b..e], base0, base1),
-    )
+// ---- what crosses to C, under the names of tests/funclines.h; `some` is false where there is nothing
+
+#[repr(C)]
+pub struct Two {
+    pub values: [f32; 2],
 }
 
-// Four words, then the rows of two axes, which `h` has room for.
-fn scored(energy: f32, n: usize, d: &[f32], w: &[u32], h: &mut [f32]) -> Scored
-    requires { ⌜ (n ≤ 320) × (length (now d) ≡ 5 * n) × (length (now w) ≡ 2 * n + 4) × (length (now h) ≡ 640) ⌝ }
+#[repr(C)]
+pub struct Set {
+    pub n: usize,
+    pub angles: [f32; 64],
+}
+
+#[repr(C)]
+pub struct Index {
+    pub some: bool,
+    pub i: usize,
+}
+
+#[repr(C)]
+pub struct Pair {
+    pub some: bool,
+    pub i: usize,
+    pub j: usize,
+}
+
+#[repr(C)]
+pub struct Ranking {
+    pub i: u16,
+    pub j: u16,
+    pub edge_score: f32,
+    pub forced: bool,
+}
+
+#[repr(C)]
+pub struct Pairs {
+    pub n: usize,
+    pub pairs: [Ranking; 276],
+}
+
+#[repr(C)]
+pub struct Fit9 {
+    pub some: bool,
+    pub values: [f32; 9],
+}
+
+#[repr(C)]
+pub struct Leaders {
+    pub first: Fit9,
+    pub second: Fit9,
+}
+
+#[repr(C)]
+pub struct Best {
+    pub fit: Fit9,
+    pub trials: usize,
+}
+
+#[repr(C)]
+pub struct Sums {
+    pub total: f32,
+    pub sums: [f32; 64],
+}
+
+// Three rows, 320 places apart, and what else their maker had room for.
+#[repr(C)]
+pub struct Rows {
+    pub sums: [f32; 3],
+    pub rows: [f32; 2240],
+}
+
+fn candidates_of(s: Set) -> CandidateSet
+    ensures { λ r. ⌜ r .n ≡ s .n ⌝ }
 {
-    let from = 0usize;
-    let a = 2 * n;
-    let e = 3 * n;
-    funclines_wire::values(w, 4, &mut h[from..a]);
-    let theta0 = funclines_wire::value(w, 0);
-    let theta1 = funclines_wire::value(w, 1);
-    let width = funclines_wire::value(w, 2);
-    let edge_score = funclines_wire::value(w, 3);
-    score::score_pair_cached(
-        energy,
-        &d[a..e],
+    let angles = s.angles;
+    CandidateSet { n: s.n, angles }
+}
+
+fn set_of(s: CandidateSet) -> Set {
+    let angles = s.angles;
+    Set { n: s.n, angles }
+}
+
+fn forced_of(p: Pair) -> Forced {
+    if p.some {
+        return Forced::Pair(p.i, p.j);
+    }
+    Forced::Nothing
+}
+
+fn pair_of(f: Forced) -> Pair {
+    match f {
+        Forced::Pair(i, j) => Pair { some: true, i, j },
+        Forced::Nothing => Pair {
+            some: false,
+            i: 0,
+            j: 0,
+        },
+    }
+}
+
+fn fit_of(x: [f32; 9]) -> Fit {
+    Fit {
+        theta1: x[0],
+        theta2: x[1],
+        width: x[2],
+        amp: x[3],
+        rms: x[4],
+        rel_rms: x[5],
+        corr: x[6],
+        edge_score: x[7],
+        objective: x[8],
+    }
+}
+
+fn values_of(f: Fit) -> Fit9 {
+    Fit9 {
+        some: true,
+        values: [
+            f.theta1,
+            f.theta2,
+            f.width,
+            f.amp,
+            f.rms,
+            f.rel_rms,
+            f.corr,
+            f.edge_score,
+            f.objective,
+        ],
+    }
+}
+
+fn no_values() -> Fit9 {
+    Fit9 {
+        some: false,
+        values: [0.0f32; 9],
+    }
+}
+
+fn scored_of(f: Fit9) -> Scored {
+    if f.some {
+        let x = f.values;
+        return Scored::Found(fit_of(x));
+    }
+    Scored::Nothing
+}
+
+fn optional_of(s: Scored) -> Fit9 {
+    match s {
+        Scored::Found(f) => values_of(f),
+        Scored::Nothing => no_values(),
+    }
+}
+
+fn score_of(p: Ranking) -> PairScore {
+    PairScore {
+        i: p.i,
+        j: p.j,
+        edge_score: p.edge_score,
+        forced: p.forced,
+    }
+}
+
+fn ranking_of(p: PairScore) -> Ranking {
+    Ranking {
+        i: p.i,
+        j: p.j,
+        edge_score: p.edge_score,
+        forced: p.forced,
+    }
+}
+
+fn pool_of(ps: Pairs) -> Pool
+    ensures { λ r. ⌜ r .n ≡ ps .n ⌝ }
+{
+    let first = score_of(ps.pairs[0]);
+    let mut pairs = [first; 276];
+    for k in 0..276usize {
+        pairs[k] = score_of(ps.pairs[k]);
+    }
+    Pool { n: ps.n, pairs }
+}
+
+fn pairs_of(pool: Pool) -> Pairs {
+    let first = ranking_of(pool.pairs[0]);
+    let mut pairs = [first; 276];
+    for k in 0..276usize {
+        pairs[k] = ranking_of(pool.pairs[k]);
+    }
+    Pairs { n: pool.n, pairs }
+}
+
+fn ranked_of(top: Ranked) -> Pairs {
+    let first = ranking_of(top.pairs[0]);
+    let mut pairs = [first; 276];
+    for k in 0..24usize {
+        pairs[k] = ranking_of(top.pairs[k]);
+    }
+    Pairs { n: top.n, pairs }
+}
+
+// ---- 70 to 77: candidate angles and their pairs
+
+#[no_mangle]
+pub extern "C" fn fl_push_unique(set: Set, angle: f32, min_sep: f32) -> Set
+    requires { ⌜ set .n ≤ 64 ⌝ }
+{
+    let s = candidates_of(set);
+    set_of(s.push_unique(angle, min_sep))
+}
+
+#[no_mangle]
+pub extern "C" fn fl_histogram_candidates(
+    grad_angles: &[f32],
+    grad_weights: &[f32],
+    base0: f32,
+    base1: f32,
+) -> Set
+    requires { ⌜ length (now «grad_weights») ≡ length (now «grad_angles») ⌝ }
+{
+    set_of(candidates::histogram_candidates(grad_angles, grad_weights, base0, base1))
+}
+
+#[no_mangle]
+pub extern "C" fn fl_forced_seed_pair(set: Set, base0: f32, base1: f32) -> Pair
+    requires { ⌜ set .n ≤ 64 ⌝ }
+{
+    pair_of(candidates::forced_seed_pair(candidates_of(set), base0, base1))
+}
+
+#[no_mangle]
+pub extern "C" fn fl_forced_histogram_pair(set: Set, edges: &[f32]) -> Pair
+    requires { ⌜ set .n ≤ length (now edges) ⌝ }
+{
+    pair_of(candidates::forced_histogram_pair(candidates_of(set), edges))
+}
+
+#[no_mangle]
+pub extern "C" fn fl_closest_candidate(set: Set, target: f32) -> Index
+    requires { ⌜ set .n ≤ 64 ⌝ }
+{
+    match candidates::closest_candidate(candidates_of(set), target) {
+        Closest::At(i) => Index { some: true, i },
+        Closest::Nobody => Index { some: false, i: 0 },
+    }
+}
+
+#[no_mangle]
+pub extern "C" fn fl_matches_pair(forced: Pair, i: usize, j: usize) -> bool {
+    candidates::matches_pair(forced_of(forced), i, j)
+}
+
+#[no_mangle]
+pub extern "C" fn fl_build_pair_pool(
+    set: Set,
+    edges: &[f32],
+    total: f32,
+    seed: Pair,
+    histogram: Pair,
+) -> Pairs
+    requires { ⌜ set .n ≤ 24 ⌝ }
+    requires { ⌜ set .n ≤ length (now edges) ⌝ }
+{
+    pairs_of(candidates::build_pair_pool(
+        candidates_of(set),
+        edges,
+        total,
+        forced_of(seed),
+        forced_of(histogram),
+    ))
+}
+
+#[no_mangle]
+pub extern "C" fn fl_combine_edge_pair(a: f32, b: f32, total: f32) -> f32 {
+    candidates::combine_edge_pair(a, b, total)
+}
+
+// ---- 80 to 83: the score of a pair
+
+#[no_mangle]
+pub extern "C" fn fl_score_pair_cached(
+    val_energy: f32,
+    vals_centered: &[f32],
+    theta0: f32,
+    theta1: f32,
+    width: f32,
+    edge_score: f32,
+    h0: &[f32],
+    h1: &[f32],
+) -> Fit9
+    requires { ⌜ length (now h0) ≡ length (now «vals_centered») ⌝ }
+    requires { ⌜ length (now h1) ≡ length (now «vals_centered») ⌝ }
+    requires { ⌜ length (now «vals_centered») ≤ 320 ⌝ }
+{
+    optional_of(score::score_pair_cached(
+        val_energy,
+        vals_centered,
         theta0,
         theta1,
         width,
         edge_score,
-        &h[from..n],
-        &h[n..a],
-    )
+        h0,
+        h1,
+    ))
 }
 
-fn score_line(energy: f32, n: usize, d: &[f32], w: &[u32], out: &mut [u32]) -> usize
-    requires { ⌜ (n ≤ 320) × (length (now d) ≡ 5 * n) × (length (now out) ≡ 1105) ⌝ }
-    ensures { λ r. ⌜ r ≤ 1105 ⌝ }
+#[no_mangle]
+pub extern "C" fn fl_precompute_edge_alignments(
+    grad_angles: &[f32],
+    grad_weights: &[f32],
+    set: Set,
+) -> Sums
+    requires { ⌜ length (now «grad_weights») ≡ length (now «grad_angles») ⌝ }
+    requires { ⌜ length (now «grad_angles») ≤ 320 ⌝ }
+    requires { ⌜ set .n ≤ 64 ⌝ }
 {
-    if w.len() != 2 * n + 4 {
-        return 0;
-    }
-    let mut h = [0.0f32; 640];
-    funclines_records::put_scored(out, 0, scored(energy, n, d, w, &mut h))
-}
-
-fn alignments_line(n: usize, d: &[f32], w: &[u32], out: &mut [u32]) -> usize
-    requires { ⌜ (n ≤ 320) × (length (now d) ≡ 5 * n) × (length (now w) ≤ 2304) × (length (now out) ≡ 1105) ⌝ }
-    ensures { λ r. ⌜ r ≤ 1105 ⌝ }
-{
-    if w.len() == 0 {
-        return 0;
-    }
-    let count = w[0];
-    if count > 64 {
-        return 0;
-    }
-    let m = count as usize;
-    if w.len() != m + 1 {
-        return 0;
-    }
-    let set = funclines_records::set_at(w, 1, m);
     let mut terms = [0.0f32; 320];
     let mut sums = [0.0f32; 64];
     let from = 0usize;
-    let a = 3 * n;
-    let b = 4 * n;
-    let e = 5 * n;
+    let n = grad_angles.len();
     let total = score::precompute_edge_alignments(
-        &d[a..b],
-        &d[b..e],
-        set,
+        grad_angles,
+        grad_weights,
+        candidates_of(set),
         &mut terms[from..n],
         &mut sums,
     );
-    funclines_wire::put(out, 0, total);
-    funclines_wire::put_values(out, 1, &sums[from..m]);
-    m + 1
+    Sums { total, sums }
 }
 
-fn errors_line(n: usize, d: &[f32], w: &[u32], out: &mut [u32]) -> usize
-    requires { ⌜ (n ≤ 320) × (length (now d) ≡ 5 * n) × (length (now out) ≡ 1105) ⌝ }
-    ensures { λ r. ⌜ r ≤ 1105 ⌝ }
-{
-    if w.len() != 9 {
-        return 0;
-    }
-    let f = funclines_records::fit_at(w, 0);
-    let from = 0usize;
-    let a = 2 * n;
-    let b = 3 * n;
-    let e = score::fit_std_errors(&d[from..n], &d[n..a], &d[a..b], f);
-    funclines_wire::put(out, 0, e.error1);
-    funclines_wire::put(out, 1, e.error2);
-    2
+#[no_mangle]
+pub extern "C" fn fl_fit_is_better(a: &[f32; 9], b: &[f32; 9]) -> bool {
+    score::fit_is_better(fit_of(*a), fit_of(*b))
 }
 
-fn put_disk_fit(out: &mut [u32], f: DiskFit) -> usize
-    requires { ⌜ length (now out) ≡ 1105 ⌝ }
-    ensures { λ r. ⌜ r ≤ 16 ⌝ }
+#[no_mangle]
+pub extern "C" fn fl_fit_std_errors(
+    xs: &[f32],
+    ys: &[f32],
+    vals_centered: &[f32],
+    fit: &[f32; 9],
+) -> Two
+    requires { ⌜ length (now ys) ≡ length (now xs) ⌝ }
+    requires { ⌜ length (now «vals_centered») ≡ length (now xs) ⌝ }
+    requires { ⌜ length (now xs) ≤ 320 ⌝ }
 {
-    match f {
-        DiskFit::Best(fit, trials) => {
-            funclines_wire::store(out, 0, 1);
-            funclines_records::put_fit(out, 1, fit);
-            funclines_wire::store(out, 10, (trials % 4294967296) as u32);
-            11
-        }
-        DiskFit::Missing(trials) => {
-            funclines_wire::store(out, 0, 0);
-            funclines_wire::store(out, 1, (trials % 4294967296) as u32);
-            2
-        }
+    let e = score::fit_std_errors(xs, ys, vals_centered, fit_of(*fit));
+    Two {
+        values: [e.error1, e.error2],
     }
 }
 
-fn search_line(energy: f32, n: usize, d: &[f32], w: &[u32], out: &mut [u32]) -> usize
-    requires { ⌜ (n ≤ 320) × (length (now d) ≡ 5 * n) × (length (now out) ≡ 1105) ⌝ }
-    ensures { λ r. ⌜ r ≤ 1105 ⌝ }
+// ---- 90 to 95: the search
+
+#[no_mangle]
+pub extern "C" fn fl_best_disk_fit(
+    val_energy: f32,
+    base0: f32,
+    base1: f32,
+    xs: &[f32],
+    ys: &[f32],
+    vals_centered: &[f32],
+    grad_angles: &[f32],
+    grad_weights: &[f32],
+) -> Best
+    requires { ⌜ Sized (now xs) (now ys) (now «vals_centered») (now «grad_angles») (now «grad_weights») ⌝ }
 {
-    if w.len() != 2 {
-        return 0;
-    }
-    let base0 = funclines_wire::value(w, 0);
-    let base1 = funclines_wire::value(w, 1);
-    let from = 0usize;
-    let a = 2 * n;
-    let b = 3 * n;
-    let c = 4 * n;
-    let e = 5 * n;
-    let f = search::best_disk_fit(
-        energy,
+    let found = search::best_disk_fit(
+        val_energy,
         base0,
         base1,
-        &d[from..n],
-        &d[n..a],
-        &d[a..b],
-        &d[b..c],
-        &d[c..e],
+        xs,
+        ys,
+        vals_centered,
+        grad_angles,
+        grad_weights,
     );
-    put_disk_fit(out, f)
+    match found {
+        DiskFit::Best(f, trials) => {
+            let fit = values_of(f);
+            Best { fit, trials }
+        }
+        DiskFit::Missing(trials) => {
+            let fit = no_values();
+            Best { fit, trials }
+        }
+    }
 }
 
-fn refined(seed: Fit, energy: f32, n: usize, d: &[f32], terms: &mut [f32]) -> Fit
-    requires { ⌜ (n ≤ 320) × (length (now d) ≡ 5 * n) × (length (now terms) ≡ n) ⌝ }
+#[no_mangle]
+pub extern "C" fn fl_rank(pool: Pairs) -> Pairs
+    requires { ⌜ pool .n ≤ 276 ⌝ }
 {
-    let mut r1 = [0.0f32; 960];
-    let mut e1 = [0.0f32; 3];
-    let mut r2 = [0.0f32; 960];
-    let mut e2 = [0.0f32; 3];
-    let from = 0usize;
-    let a = 2 * n;
-    let b = 3 * n;
-    let c = 4 * n;
-    let e = 5 * n;
+    ranked_of(search_ranking::rank(pool_of(pool)))
+}
+
+#[no_mangle]
+pub extern "C" fn fl_insert_top(first: Fit9, second: Fit9, fit: &[f32; 9]) -> Leaders {
+    let one = scored_of(first);
+    let two = scored_of(second);
+    let top = Top {
+        first: one,
+        second: two,
+    };
+    let t = search::insert_top(top, fit_of(*fit));
+    let a = t.first;
+    let b = t.second;
+    Leaders {
+        first: optional_of(a),
+        second: optional_of(b),
+    }
+}
+
+#[no_mangle]
+pub extern "C" fn fl_refine_fit_cached(
+    seed: &[f32; 9],
+    val_energy: f32,
+    xs: &[f32],
+    ys: &[f32],
+    vals_centered: &[f32],
+    grad_angles: &[f32],
+    grad_weights: &[f32],
+) -> Fit9
+    requires { ⌜ Sized (now xs) (now ys) (now «vals_centered») (now «grad_angles») (now «grad_weights») ⌝ }
+{
+    let mut rows = [0.0f32; 2240];
     let r = search_refine::refine_fit_cached(
-        seed,
-        energy,
-        &d[from..n],
-        &d[n..a],
-        &d[a..b],
-        &d[b..c],
-        &d[c..e],
-        &mut r1,
-        &mut e1,
-        &mut r2,
-        &mut e2,
-        terms,
+        fit_of(*seed),
+        val_energy,
+        xs,
+        ys,
+        vals_centered,
+        grad_angles,
+        grad_weights,
+        &mut rows,
     );
-    r.best
+    values_of(r.best)
 }
 
-fn refine_line(energy: f32, n: usize, d: &[f32], w: &[u32], out: &mut [u32]) -> usize
-    requires { ⌜ (n ≤ 320) × (length (now d) ≡ 5 * n) × (length (now out) ≡ 1105) ⌝ }
-    ensures { λ r. ⌜ r ≤ 1105 ⌝ }
-{
-    if w.len() != 9 {
-        return 0;
-    }
-    let seed = funclines_records::fit_at(w, 0);
-    let mut terms = [0.0f32; 320];
-    let from = 0usize;
-    let f = refined(seed, energy, n, d, &mut terms[from..n]);
-    funclines_records::put_fit(out, 0, f);
-    9
+#[no_mangle]
+pub extern "C" fn fl_edge_weight_total(grad_weights: &[f32]) -> f32 {
+    score_edges::edge_weight_total(grad_weights)
 }
 
-fn total_line(n: usize, d: &[f32], w: &[u32], out: &mut [u32]) -> usize
-    requires { ⌜ (n ≤ 320) × (length (now d) ≡ 5 * n) × (length (now out) ≡ 1105) ⌝ }
-    ensures { λ r. ⌜ r ≤ 1105 ⌝ }
+#[no_mangle]
+pub extern "C" fn fl_build_axis_rows(
+    xs: &[f32],
+    ys: &[f32],
+    grad_angles: &[f32],
+    grad_weights: &[f32],
+    base: f32,
+    offsets: &[f32; 3],
+    width: f32,
+) -> Rows
+    requires { ⌜ Outlined (now xs) (now ys) (now «grad_angles») (now «grad_weights») ⌝ }
 {
-    if w.len() != 0 {
-        return 0;
-    }
-    let a = 4 * n;
-    let e = 5 * n;
-    funclines_wire::one(out, score_edges::edge_weight_total(&d[a..e]))
-}
-
-// The sums, then the three rows, which are 320 places apart in `rows`.
-fn put_rows(out: &mut [u32], n: usize, sums: &[f32], rows: &[f32]) -> usize
-    requires { ⌜ (n ≤ 320) × (length (now sums) ≡ 3) × (length (now rows) ≡ 960) × (length (now out) ≡ 1105) ⌝ }
-    ensures { λ r. ⌜ r ≤ 1105 ⌝ }
-{
-    let from = 0usize;
-    let e0 = n;
-    let e1 = 320 + n;
-    let e2 = 640 + n;
-    funclines_wire::put_values(out, 0, sums);
-    funclines_wire::put_values(out, 3, &rows[from..e0]);
-    funclines_wire::put_values(out, 3 + n, &rows[320..e1]);
-    funclines_wire::put_values(out, 3 + 2 * n, &rows[640..e2]);
-    3 + 3 * n
-}
-
-fn axis_rows(n: usize, d: &[f32], w: &[u32], rows: &mut [f32], sums: &mut [f32], terms: &mut [f32])
-    requires { ⌜ (n ≤ 320) × (length (now d) ≡ 5 * n) × (length (now w) ≡ 5) × (length (now rows) ≡ 960) × (length (now sums) ≡ 3) × (length (now terms) ≡ n) ⌝ }
-{
-    let base = funclines_wire::value(w, 0);
-    let o0 = funclines_wire::value(w, 1);
-    let o1 = funclines_wire::value(w, 2);
-    let o2 = funclines_wire::value(w, 3);
-    let width = funclines_wire::value(w, 4);
-    let offs = [o0, o1, o2];
-    let from = 0usize;
-    let a = 2 * n;
-    let b = 3 * n;
-    let c = 4 * n;
-    let e = 5 * n;
-    search_refine::build_axis_rows(
-        &d[from..n],
-        &d[n..a],
-        &d[b..c],
-        &d[c..e],
+    let mut rows = [0.0f32; 2240];
+    let sums = search_rows::build_axis_rows(
+        xs,
+        ys,
+        grad_angles,
+        grad_weights,
         base,
-        &offs,
+        offsets,
         width,
-        rows,
-        sums,
-        terms,
+        &mut rows,
     );
-}
-
-fn rows_line(n: usize, d: &[f32], w: &[u32], out: &mut [u32]) -> usize
-    requires { ⌜ (n ≤ 320) × (length (now d) ≡ 5 * n) × (length (now out) ≡ 1105) ⌝ }
-    ensures { λ r. ⌜ r ≤ 1105 ⌝ }
-{
-    if w.len() != 5 {
-        return 0;
-    }
-    let mut rows = [0.0f32; 960];
-    let mut sums = [0.0f32; 3];
-    let mut terms = [0.0f32; 320];
-    let from = 0usize;
-    axis_rows(n, d, w, &mut rows, &mut sums, &mut terms[from..n]);
-    put_rows(out, n, &sums, &rows)
-}
-
-fn of_disk(number: u32, energy: f32, n: usize, d: &[f32], w: &[u32], out: &mut [u32]) -> usize
-    requires { ⌜ (n ≤ 320) × (length (now d) ≡ 5 * n) × (length (now w) ≤ 2304) × (length (now out) ≡ 1105) ⌝ }
-    ensures { λ r. ⌜ r ≤ 1105 ⌝ }
-{
-    match number {
-        0x71 => histogram_line(n, d, w, out),
-        0x80 => score_line(energy, n, d, w, out),
-        0x81 => alignments_line(n, d, w, out),
-        0x83 => errors_line(n, d, w, out),
-        0x90 => search_line(energy, n, d, w, out),
-        0x93 => refine_line(energy, n, d, w, out),
-        0x94 => total_line(n, d, w, out),
-        0x95 => rows_line(n, d, w, out),
-        _ => 0,
-    }
-}
-
-// The disk of n pixels that the line begins with goes into `d`.
-fn read_disk_line(number: u32, n: usize, w: &[u32], d: &mut [f32], out: &mut [u32]) -> usize
-    requires { ⌜ (n ≤ 320) × (5 * n + 2 ≤ length (now w)) × (length (now w) ≤ 2304) × (length (now d) ≡ 1600) × (length (now out) ≡ 1105) ⌝ }
-    ensures { λ r. ⌜ r ≤ 1105 ⌝ }
-{
-    let from = 0usize;
-    let m = 5 * n;
-    let a = m + 2;
-    let e = w.len();
-    funclines_wire::values(w, 2, &mut d[from..m]);
-    let energy = funclines_wire::value(w, 1);
-    of_disk(number, energy, n, &d[from..m], &w[a..e], out)
-}
-
-fn whole_disk_line(number: u32, w: &[u32], out: &mut [u32]) -> usize
-    requires { ⌜ (length (now w) ≤ 2304) × (length (now out) ≡ 1105) ⌝ }
-    ensures { λ r. ⌜ r ≤ 1105 ⌝ }
-{
-    let len = w.len();
-    if len < 2 {
-        return 0;
-    }
-    let count = w[0];
-    if count > 320 {
-        return 0;
-    }
-    let n = count as usize;
-    if len < 5 * n + 2 {
-        return 0;
-    }
-    let mut d = [0.0f32; 1600];
-    read_disk_line(number, n, w, &mut d, out)
-}
-
-// Numbers are compared as the two digits read in hexadecimal, so number 95 is 0x95.
-pub fn disk_line(number: u32, w: &[u32], out: &mut [u32]) -> usize
-    requires { ⌜ (length (now w) ≤ 2304) × (length (now out) ≡ 1105) ⌝ }
-    ensures { λ r. ⌜ r ≤ 1105 ⌝ }
-{
-    match number {
-        0x71 | 0x80 | 0x81 | 0x83 | 0x90 | 0x93 | 0x94 | 0x95 => whole_disk_line(number, w, out),
-        _ => funclines_pairs::pair_line(number, w, out),
-    }
+    Rows { sums, rows }
 }

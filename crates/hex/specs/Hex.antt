@@ -28,8 +28,12 @@ wordOf l at = byteOf l at * 16777216 + byteOf l (at + 2) * 65536 + byteOf l (at 
 unfoldable pub wordListOf : List ℕ → ℕ → ℕ → List ℕ
 wordListOf l at n = tab (λ k. wordOf l (at + 8 * k)) n
 
+-- the value whose bits a word is, and those from a place on
+abbrev pub valueOf : List ℕ → ℕ → Float
+valueOf l at = ofBits binary32 (wordOf l at)
+
 unfoldable pub valuesOf : List ℕ → ℕ → ℕ → List Float
-valuesOf l at n = tab (λ k. ofBits binary32 (wordOf l (at + 8 * k))) n
+valuesOf l at n = tab (λ k. valueOf l (at + 8 * k)) n
 
 -- the character of a digit, and the text of a byte, of four digits, of a word and of words
 abbrev pub hexOf : ℕ → ℕ

@@ -2,7 +2,7 @@
 ghost use mathlib.Core.Path.{_≡_};
 ghost use Prim.Native.Nat.{_+_, _*_, _<_, _≤_};
 ghost use lib.ListN.{length};
-ghost use Rattle.hex.specs.Hex.{isHex, digitOf, byteOf, wordOf, hexOf, byteText, countText, wordText, wordsText, allHex, wordListOf, valuesOf, put};
+ghost use Rattle.hex.specs.Hex.{isHex, digitOf, byteOf, wordOf, hexOf, byteText, countText, wordText, wordsText, allHex, wordListOf, valueOf, valuesOf, put};
 
 pub fn is_hex(b: u8) -> bool
     ensures { λ r. ⌜ r ≡ isHex b ⌝ }
@@ -58,6 +58,14 @@ pub fn word_at(s: &[u8], at: usize) -> u32
     a * 16777216 + b * 65536 + c * 256 + d
 }
 
+// The value whose bits a word is; each pattern of a NaN is the one NaN.
+pub fn value_at(s: &[u8], at: usize) -> f32
+    requires { ⌜ at + 8 ≤ length (now s) ⌝ }
+    ensures { λ r. ⌜ r ≡ valueOf (now (s .entry)) at ⌝ }
+{
+    floats::from_bits(word_at(s, at))
+}
+
 // The words from `at` on, as many as the buffer holds.
 pub fn words(s: &[u8], at: usize, out: &mut [u32])
     requires { ⌜ (length (now out) < 4096) × (at + 8 * length (now out) ≤ length (now s)) ⌝ }
@@ -70,7 +78,7 @@ pub fn words(s: &[u8], at: usize, out: &mut [u32])
     }
 }
 
-// The values whose bits those words are; each pattern of a NaN is the one NaN.
+// The values of those words.
 pub fn values(s: &[u8], at: usize, out: &mut [f32])
     requires { ⌜ (length (now out) < 4096) × (at + 8 * length (now out) ≤ length (now s)) ⌝ }
     ensures { λ _. ⌜ now (out .exit) ≡ valuesOf (now (s .entry)) at (length (now (out .entry))) ⌝ }
@@ -78,7 +86,7 @@ pub fn values(s: &[u8], at: usize, out: &mut [f32])
     let n = out.len();
     for k in 0..n {
         let p = at + 8 * k;
-        out[k] = floats::from_bits(word_at(s, p));
+        out[k] = value_at(s, p);
     }
 }
 

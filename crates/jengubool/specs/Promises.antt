@@ -1,18 +1,23 @@
--- What the value calls leave of a caller's buffers where they refuse: each case of the definitions gives them back as they came. Assumes nothing.
+-- What the value calls return and leave in a caller's buffers: 0 with the answer's values and true counts in front, or number and place with both buffers as they came. Assumes nothing.
 use mathlib.Core.Path.{_≡_, refl}
 use mathlib.Core.Bool.{Bool, true, false, cond}
 use mathlib.Core.List.{List}
-use Prim.Native.Nat.{ℕ}
+use Prim.Native.Nat.{ℕ, _+_, _*_, _≤_}
+use native.Mathlib.Omega.{arith}
+use borrow.Author.Tests.{le-ltb}
 use lib.ListN.{length}
 use lib.Dec.{ltb}
 use lib.Ieee.{Float}
 use Rattle.data.specs.Data.{DiskData}
-use Rattle.checked.specs.Checked.{checkedRing, checkedDisk}
+use Rattle.checked.specs.Checked.{checkedRing, checkedDisk, ringFitted, errorsKnown, measuredOf, ringNumber, ringPlace, ringValues, ringCounts, diskNumber, diskPlace, diskValues, diskCounts, flag}
+use Rattle.robust.specs.Robust.{fitRing}
+use Rattle.score.specs.Score.{fitStdErrors}
+use Rattle.checked.specs.Promises.{answered-is-the-fit, answered-values, ring-bill, disk-answered-is-the-fit, disk-answered-values, disk-trials}
 use Rattle.checked.specs.declared.DiskAnswer.{DiskAnswer}
 use Rattle.checked.specs.declared.DiskAnswer.the-variants as Disks
 use Rattle.checked.specs.declared.RingAnswer.{RingAnswer}
 use Rattle.checked.specs.declared.RingAnswer.the-variants.{Fitted, Refused}
-use Rattle.jengubool.specs.Calls.{Stored, ringStored, ringCall, diskStored, diskCall}
+use Rattle.jengubool.specs.Calls.{Stored, stored, wide, ringStored, ringCall, diskStored, diskCall}
 
 module _ (fit : List Float) (counts : List ℕ) where
   -- the code c, and every float and every count as it was
@@ -43,3 +48,76 @@ module _ (fit : List Float) (counts : List ℕ) where
   pub disk-refused-keeps : (D : DiskData) (base0 base1 : Float) → let s = diskCall D base0 base1 fit counts in (s .code ≡ 0 → ⊥) → s ≡ refusal (s .code)
   unfolding diskCall
   disk-refused-keeps D base0 base1 = short-keeps (ltb (length fit) 11) (ltb (length counts) 2) _ (disk-stored-keeps (checkedDisk D base0 base1))
+
+  -- ---- what is returned, and what is written with 0
+  ring-stored-code : (a : RingAnswer) → ringStored a fit counts .code ≡ ringNumber a * 65536 + ringPlace a
+  unfolding ringStored ringNumber ringPlace
+  ring-stored-code (Fitted r known) = refl
+  ring-stored-code (Refused number place) = refl
+
+  disk-stored-code : (a : DiskAnswer) → diskStored a fit counts .code ≡ diskNumber a * 65536 + diskPlace a
+  unfolding diskStored diskNumber diskPlace
+  disk-stored-code (Disks.Fitted m known) = refl
+  disk-stored-code (Disks.Refused number place) = refl
+
+  -- with buffers that are long enough the code is the answer's number and place
+  pub ring-code : (samples angles : List Float) → 6 ≤ length fit → 4 ≤ length counts →
+      ringCall samples angles fit counts .code ≡ ringNumber (checkedRing samples angles) * 65536 + ringPlace (checkedRing samples angles)
+  unfolding ringCall
+  ring-code samples angles f c = rw (le-ltb _ _ f, le-ltb _ _ c) (ring-stored-code (checkedRing samples angles))
+
+  pub disk-code : (D : DiskData) (base0 base1 : Float) → 11 ≤ length fit → 2 ≤ length counts →
+      diskCall D base0 base1 fit counts .code ≡ diskNumber (checkedDisk D base0 base1) * 65536 + diskPlace (checkedDisk D base0 base1)
+  unfolding diskCall
+  disk-code D base0 base1 f c = rw (le-ltb _ _ f, le-ltb _ _ c) (disk-stored-code (checkedDisk D base0 base1))
+
+  -- the counts are small, so that 32 bits hold them as they are
+  small : (n : ℕ) → n ≤ 1000 → wide n ≡ n
+  small n h = omega arith
+
+  flagged : (b : Bool) → flag b ≤ 1
+  flagged true = omega arith
+  flagged false = omega arith
+
+  -- with number 0 the six values and the true counts stand in front, and all behind them is as it was
+  module _ (samples angles : List Float) (zero-number : ringNumber (checkedRing samples angles) ≡ 0) where
+    pub ring-written : 6 ≤ length fit → 4 ≤ length counts →
+        ringCall samples angles fit counts ≡
+        record { code = 0; fit = stored (ringValues (checkedRing samples angles)) 0 fit; counts = stored (ringCounts (checkedRing samples angles)) 0 counts }
+    unfolding ringCall ringStored ringFitted
+    ring-written f c =
+        let r = fitRing 16 samples angles in
+        let v = answered-values samples angles zero-number in
+        let b = rw (v .1) at (ring-bill samples angles zero-number) in
+        let k = errorsKnown (r .fit .«fit_std_error_theta1») (r .fit .«fit_std_error_theta2») in
+        let known : flag k ≤ 1000 = omega (arith, flagged k) in
+        let starts : r .starts ≤ 1000 = omega (arith, b .1) in
+        let first : r .first ≤ 1000 = omega (arith, b .2) in
+        let second : r .second ≤ 1000 = omega (arith, b .3) in
+        rw (
+          le-ltb _ _ f,
+          le-ltb _ _ c,
+          v .0,
+          v .1,
+          answered-is-the-fit samples angles zero-number .answer,
+          small (r .starts) starts,
+          small (r .first) first,
+          small (r .second) second,
+          small (flag k) known,
+        )
+
+  module _ (D : DiskData) (base0 base1 : Float) (zero-number : diskNumber (checkedDisk D base0 base1) ≡ 0) where
+    -- the same of a disk: eleven values, the trials and known
+    pub disk-written : 11 ≤ length fit → 2 ≤ length counts →
+        diskCall D base0 base1 fit counts ≡
+        record { code = 0; fit = stored (diskValues (checkedDisk D base0 base1)) 0 fit; counts = stored (diskCounts (checkedDisk D base0 base1)) 0 counts }
+    unfolding diskCall diskStored measuredOf
+    disk-written f c =
+        let a = disk-answered-is-the-fit D base0 base1 zero-number in
+        let v = disk-answered-values D base0 base1 zero-number in
+        let b = rw (v .1) at (disk-trials D base0 base1 zero-number) in
+        let e = fitStdErrors (D .n) (D .xs) (D .ys) (D .«vals_centered») (a .fit) in
+        let k = errorsKnown (e .error1) (e .error2) in
+        let known : flag k ≤ 1000 = omega (arith, flagged k) in
+        let trials : a .trials ≤ 1000 = omega (arith, b .1) in
+        rw (le-ltb _ _ f, le-ltb _ _ c, v .0, v .1, a .answer, small (a .trials) trials, small (flag k) known)

@@ -7,9 +7,11 @@ use robust::RingFit;
 use solver::TwoAxisFit;
 ghost use mathlib.Core.Path.{_≡_};
 ghost use Prim.Native.Nat.{_≤_};
+ghost use mathlib.Core.List.{map};
 ghost use lib.ListN.{length};
 ghost use lib.Ieee.{binary32};
 ghost use Rattle.data.specs.Data.{diskOf};
+ghost use Rattle.checked.specs.Checked.{fitValues, fitCounts, measuredValues, measuredCounts, flag};
 ghost use Rattle.frames.specs.Frames as F;
 ghost use Rattle.jengubool.specs.Calls as J;
 ghost use Rattle.floats.specs.Library as L;
@@ -75,7 +77,7 @@ pub extern "C" fn jb_answer_line(line: &[u8], out: &mut [u8]) -> u32
 // The six values of a fit, in front of whatever the buffer holds behind them.
 fn put_fit(f: TwoAxisFit, fit: &mut [f32])
     requires { ⌜ 6 ≤ length (now fit) ⌝ }
-    ensures { λ _. ⌜ now (fit .exit) ≡ J.fitStored f (now (fit .entry)) ⌝ }
+    ensures { λ _. ⌜ now (fit .exit) ≡ J.stored (fitValues f) 0 (now (fit .entry)) ⌝ }
 {
     fit[0] = f.amp;
     fit[1] = f.theta1;
@@ -86,7 +88,7 @@ fn put_fit(f: TwoAxisFit, fit: &mut [f32])
 }
 
 fn as_number(b: bool) -> u32
-    ensures { λ r. ⌜ r ≡ J.flag b ⌝ }
+    ensures { λ r. ⌜ r ≡ J.wide (flag b) ⌝ }
 {
     if b {
         return 1;
@@ -96,7 +98,7 @@ fn as_number(b: bool) -> u32
 
 fn put_counts(r: RingFit, known: bool, counts: &mut [u32])
     requires { ⌜ 4 ≤ length (now counts) ⌝ }
-    ensures { λ _. ⌜ now (counts .exit) ≡ J.countsStored r known (now (counts .entry)) ⌝ }
+    ensures { λ _. ⌜ now (counts .exit) ≡ J.stored (map J.wide (fitCounts r known)) 0 (now (counts .entry)) ⌝ }
 {
     let k = as_number(known);
     counts[0] = (r.starts % 4294967296) as u32;
@@ -141,7 +143,7 @@ pub extern "C" fn jb_fit_ring(
 // The eleven values of a disk's fit.
 fn put_disk(m: Measured, fit: &mut [f32])
     requires { ⌜ 11 ≤ length (now fit) ⌝ }
-    ensures { λ _. ⌜ now (fit .exit) ≡ J.diskFitStored m (now (fit .entry)) ⌝ }
+    ensures { λ _. ⌜ now (fit .exit) ≡ J.stored (measuredValues m) 0 (now (fit .entry)) ⌝ }
 {
     let f = m.fit;
     fit[0] = f.theta1;
@@ -159,7 +161,7 @@ fn put_disk(m: Measured, fit: &mut [f32])
 
 fn put_trials(m: Measured, known: bool, counts: &mut [u32])
     requires { ⌜ 2 ≤ length (now counts) ⌝ }
-    ensures { λ _. ⌜ now (counts .exit) ≡ J.diskCountsStored m known (now (counts .entry)) ⌝ }
+    ensures { λ _. ⌜ now (counts .exit) ≡ J.stored (map J.wide (measuredCounts m known)) 0 (now (counts .entry)) ⌝ }
 {
     let k = as_number(known);
     counts[0] = (m.trials % 4294967296) as u32;
@@ -183,18 +185,18 @@ fn disk_stored(a: DiskAnswer, fit: &mut [f32], counts: &mut [u32]) -> u32
 // The value call of the disk: any seven slices.
 #[no_mangle]
 pub extern "C" fn jb_fit_disk(
-    energy: f32,
+    val_energy: f32,
     base0: f32,
     base1: f32,
     xs: &[f32],
     ys: &[f32],
-    vals: &[f32],
-    angles: &[f32],
-    weights: &[f32],
+    vals_centered: &[f32],
+    grad_angles: &[f32],
+    grad_weights: &[f32],
     fit: &mut [f32],
     counts: &mut [u32],
 ) -> u32
-    ensures { λ r. ⌜ _≡_ {A = J.Stored} (record { code = r; fit = now (fit .exit); counts = now (counts .exit) }) (J.diskCall (diskOf energy (now (xs .entry)) (now (ys .entry)) (now (vals .entry)) (now (angles .entry)) (now (weights .entry))) base0 base1 (now (fit .entry)) (now (counts .entry))) ⌝ }
+    ensures { λ r. ⌜ _≡_ {A = J.Stored} (record { code = r; fit = now (fit .exit); counts = now (counts .exit) }) (J.diskCall (diskOf «val_energy» (now (xs .entry)) (now (ys .entry)) (now («vals_centered» .entry)) (now («grad_angles» .entry)) (now («grad_weights» .entry))) base0 base1 (now (fit .entry)) (now (counts .entry))) ⌝ }
 {
     if fit.len() < 11 {
         return 65536;
@@ -203,7 +205,16 @@ pub extern "C" fn jb_fit_disk(
         return 65536;
     }
     disk_stored(
-        checked::fit_disk(energy, base0, base1, xs, ys, vals, angles, weights),
+        checked::fit_disk(
+            val_energy,
+            base0,
+            base1,
+            xs,
+            ys,
+            vals_centered,
+            grad_angles,
+            grad_weights,
+        ),
         fit,
         counts,
     )

@@ -1,12 +1,14 @@
 // Lines out of blocks of input: which bytes are the next line, and the next block behind those that
 // are left. A line longer than the caller's limit is dropped as it comes, in constant memory, and
-// told by `skip`.
+// told by `skip`. The turns of a program that answers line by line are here too, but for the answer:
+// a turn finds a line, asks `room` for its answer's place and calls `answered`, or reads on, or ends.
 use libc::STDIN_FILENO;
 use libc::STDOUT_FILENO;
 ghost use mathlib.Core.Path.{_≡_};
 ghost use Prim.Native.Nat.{_+_, _-_, _≤_, _<_};
 ghost use lib.ListN.{length, take, drop};
 ghost use Rattle.lines.specs.Lines.{Filled, begun, endFrom, foundOf, isGone, keptOf, passed, Within};
+ghost use Rattle.lines.specs.Turns as T;
 
 // What is left of the buffer: the bytes from `from` up to `total`; whether the start of the line
 // there is gone; whether the input has ended.
@@ -152,14 +154,78 @@ pub fn flush(text: &[u8], put: usize)
     io::write_all(STDOUT_FILENO, &text[from..put]);
 }
 
-// Room for `need` more bytes: what stands in the text is written out where it is nearly full.
+// A place with room for `need` more bytes: this one, or, once all that stands in the text has been
+// written out, its start.
 pub fn room(text: &[u8], put: usize, need: usize) -> usize
     requires { ⌜ (put ≤ length (now text)) × (need ≤ length (now text)) × (length (now text) < 1000000) ⌝ }
-    ensures { λ r. ⌜ r + need ≤ length (now (text .entry)) ⌝ }
+    ensures { λ r. ⌜ (r + need ≤ length (now (text .entry))) × (r ≡ T.roomOf put need (length (now (text .entry)))) ⌝ }
 {
     if put + need <= text.len() {
         return put;
     }
     flush(text, put);
     0
+}
+
+// How far a program is: what is left of its input, up to where its text stands, and whether there is
+// more to do.
+pub struct State {
+    pub feed: Feed,
+    pub put: usize,
+    pub more: bool,
+}
+
+pub fn begin() -> State
+    ensures { λ r. ⌜ (r .feed .from ≡ 0) × (r .feed .total ≡ 0) × (r .put ≡ 0) × (r ≡ T.opening) ⌝ }
+{
+    let feed = start();
+    State {
+        feed,
+        put: 0,
+        more: true,
+    }
+}
+
+// A line has been answered: the text stands up to `put`, and the next line starts at `from`.
+pub fn answered(s: State, from: usize, put: usize) -> State
+    requires { ⌜ from ≤ s .feed .total ⌝ }
+    ensures { λ r. ⌜ (r .feed .from ≡ from) × (r .feed .total ≡ s .feed .total) × (r .put ≡ put) × (r ≡ T.answeredOf s from put) ⌝ }
+{
+    let f = s.feed;
+    let feed = past(f, from);
+    State {
+        feed,
+        put,
+        more: true,
+    }
+}
+
+// More input is wanted. What stands in the text is written out before the read, so that whoever waits
+// for an answer has it.
+pub fn read_on(buf: &mut [u8], text: &[u8], s: State, limit: usize) -> State
+    requires { ⌜ (s .feed .from ≤ s .feed .total) × (s .feed .total ≤ length (now buf)) × (limit < length (now buf)) × (s .put ≤ length (now text)) ⌝ }
+    ensures { λ r. ⌜ (r .feed .from ≤ r .feed .total) × (r .feed .total ≤ length (now (buf .entry))) × (r .put ≡ 0) × T.Read s limit (now (buf .entry)) (now (buf .exit)) r ⌝ }
+{
+    let f = s.feed;
+    flush(text, s.put);
+    let feed = fill(buf, f, limit);
+    State {
+        feed,
+        put: 0,
+        more: true,
+    }
+}
+
+// The input has ended, and what stands in the text is written out.
+pub fn finish(text: &[u8], s: State) -> State
+    requires { ⌜ s .put ≤ length (now text) ⌝ }
+    ensures { λ r. ⌜ r ≡ T.finished s ⌝ }
+{
+    let feed = s.feed;
+    flush(text, s.put);
+    State {
+        feed,
+        put: 0,
+        more: false,
+    }
 }

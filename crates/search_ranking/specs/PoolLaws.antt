@@ -1,4 +1,4 @@
--- No two pairs of a pool share i and j: the loops that pair the candidates go up, so that the places 24 i + j rise. Assumes nothing.
+-- No two pairs of a pool share i and j: the loops that pair the candidates go up, so that the places 24 * i + j rise. Assumes nothing.
 use mathlib.Core.Path.{_≡_, refl, sym, ap, _∙_}
 use mathlib.Core.HLevel.{Discrete, hedberg}
 use mathlib.Core.Logic.{inl, inr, ∥∥₁-elim}
@@ -44,8 +44,11 @@ pair-set = hedberg decided
         pair-dec u v (ℕ-discrete (u .i) (v .i)) (ℕ-discrete (u .j) (v .j)) score (Bool-discrete (u .forced) (v .forced))
 
 -- ---- the places of a list's pairs rise, from a on and below k
+abbrev spot : ℕ → ℕ → ℕ
+spot i j = maxPaired * i + j
+
 abbrev place : PairScore → ℕ
-place u = 24 * u .i + u .j
+place u = spot (u .i) (u .j)
 
 abbrev Rising : ℕ → List PairScore → ℕ → Type 0
 Rising a [] k = a ≤ k
@@ -107,7 +110,7 @@ module _ (candidates : CandidateSet) (edgeAlign : Row) (gradTotal : Float) (forc
   abbrev rowHere : ℕ → Pool → Pool
   rowHere = pairsFrom candidates edgeAlign gradTotal forceSeed forceHist
 
-  pair-fresh : (i j c : ℕ) (p : Pool) → c < maxPairs → Fresh c (24 * i + j) p → Fresh (c + 1) (24 * i + (j + 1)) (pairHere i j p)
+  pair-fresh : (i j c : ℕ) (p : Pool) → c < maxPairs → Fresh c (spot i j) p → Fresh (c + 1) (spot i (j + 1)) (pairHere i j p)
   unfolding pairAt pooled pairScore
   pair-fresh i j c p h f = go (validPair (at (candidates .angles) i) (at (candidates .angles) j))
     where
@@ -117,20 +120,20 @@ module _ (candidates : CandidateSet) (edgeAlign : Row) (gradTotal : Float) (forc
       grown : take (p .n + 1) (set (p .pairs) (p .n) x) ≡ take (p .n) (p .pairs) ++ (x ∷ [])
       grown = rw add-one (take-suc-set (p .pairs) (p .n) x (omega (arith, f .most, f .places)))
 
-      more : Rising 0 (take (p .n) (p .pairs) ++ (x ∷ [])) (24 * i + (j + 1))
-      more = rising-more 0 (take (p .n) (p .pairs)) x (24 * i + j) (24 * i + (j + 1)) (f .rising) (omega arith) (omega arith)
+      more : Rising 0 (take (p .n) (p .pairs) ++ (x ∷ [])) (spot i (j + 1))
+      more = rising-more 0 (take (p .n) (p .pairs)) x (spot i j) (spot i (j + 1)) (f .rising) (omega arith) (omega arith)
 
-      go : (t : Bool) → Fresh (c + 1) (24 * i + (j + 1)) (cond t (pooled x p) p)
+      go : (t : Bool) → Fresh (c + 1) (spot i (j + 1)) (cond t (pooled x p) p)
       go true = record {
         places = length-set (p .pairs) (p .n) x ∙ f .places;
         most = omega (arith, f .most);
         rising = rw grown more;
       }
-      go false = fresh-on c (c + 1) (24 * i + j) (24 * i + (j + 1)) p (omega arith) (omega arith) f
+      go false = fresh-on c (c + 1) (spot i j) (spot i (j + 1)) p (omega arith) (omega arith) f
 
   row-fresh :
-      (i c : ℕ) (p : Pool) (d : ℕ) → c + d ≤ maxPairs → Fresh c (24 * i + (i + 1)) p →
-      Fresh (c + d) (24 * i + (i + 1 + d)) (iter (λ e. pairHere i (i + 1 + e)) p d)
+      (i c : ℕ) (p : Pool) (d : ℕ) → c + d ≤ maxPairs → Fresh c (spot i (i + 1)) p →
+      Fresh (c + d) (spot i (i + 1 + d)) (iter (λ e. pairHere i (i + 1 + e)) p d)
   unfolding iter
   row-fresh i c p zero h f =
       let z : c + 0 ≡ c = omega arith in
@@ -141,7 +144,7 @@ module _ (candidates : CandidateSet) (edgeAlign : Row) (gradTotal : Float) (forc
       let y : i + 1 + suc d ≡ i + 1 + d + 1 = omega arith in
       rw (z, y) (pair-fresh i (i + 1 + d) (c + d) _ (omega arith) (row-fresh i c p d (omega arith) f))
 
-  rows-fresh : (i : ℕ) → candidates .n ≤ maxPaired → i ≤ candidates .n → Fresh (rowsBefore (candidates .n) i) (24 * i) (iter rowHere noPairs i)
+  rows-fresh : (i : ℕ) → candidates .n ≤ maxPaired → i ≤ candidates .n → Fresh (rowsBefore (candidates .n) i) (spot i 0) (iter rowHere noPairs i)
   unfolding iter pairsFrom range
   rows-fresh zero h l = record { places = refl; most = omega arith; rising = omega arith }
   rows-fresh (suc i) h l =
@@ -150,9 +153,9 @@ module _ (candidates : CandidateSet) (edgeAlign : Row) (gradTotal : Float) (forc
       let e : rowsBefore n (suc i) ≡ r + (n - (i + 1)) = rw add-one at (rows-next n i) ∙ ap (λ (k : ℕ). r + k) (omega arith) in
       let c = room n i h l in
       let p : Pool = iter rowHere noPairs i in
-      let b = fresh-on r r (24 * i) (24 * i + (i + 1)) p (omega arith) (omega arith) (rows-fresh i h (omega arith)) in
+      let b = fresh-on r r (spot i 0) (spot i (i + 1)) p (omega arith) (omega arith) (rows-fresh i h (omega arith)) in
       let f = row-fresh i r p (n - (i + 1)) (omega arith) b in
-      fresh-on (r + (n - (i + 1))) (rowsBefore n (suc i)) (24 * i + (i + 1 + (n - (i + 1)))) (24 * suc i) (rowHere i p) (rw e (omega arith)) (omega arith) f
+      fresh-on (r + (n - (i + 1))) (rowsBefore n (suc i)) (spot i (i + 1 + (n - (i + 1)))) (spot (suc i) 0) (rowHere i p) (rw e (omega arith)) (omega arith) f
 
   abbrev pool : Pool
   pool = buildPairPool candidates edgeAlign gradTotal forceSeed forceHist
@@ -166,4 +169,4 @@ module _ (candidates : CandidateSet) (edgeAlign : Row) (gradTotal : Float) (forc
 
   pub pool-distinct : candidates .n ≤ maxPaired → Distinct (take (pool .n) (pool .pairs))
   unfolding buildPairPool
-  pool-distinct h = distinct 0 _ (24 * candidates .n) (rows-fresh (candidates .n) h (omega arith) .rising)
+  pool-distinct h = distinct 0 _ (spot (candidates .n) 0) (rows-fresh (candidates .n) h (omega arith) .rising)

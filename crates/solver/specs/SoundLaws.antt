@@ -13,8 +13,8 @@ use Rattle.solver_elimination.specs.SolveLaws.{Bounded, errors-bounded}
 use Rattle.solver_elimination.specs.declared.Solved.{Solved}
 use Rattle.solver_elimination.specs.declared.Solved.the-variants.{Values, Failed}
 use Rattle.solver_elimination.specs.declared.Errors.{Errors}
-use Rattle.solver_axes.specs.Canonical.{canonicalizeTrackingSwap}
-use Rattle.solver_axes.specs.CanonicalLaws.{InRange, canonical-range, canonical-amp}
+use Rattle.solver_axes.specs.Canonical.{canonicalizeTrackingSwap, CanonicalRange}
+use Rattle.solver_axes.specs.CanonicalLaws.{canonical-range}
 use Rattle.solver_axes.specs.declared.Axes.{Axes}
 use Rattle.solver.specs.declared.Params.{Params}
 use Rattle.solver.specs.declared.TwoAxisFit.{TwoAxisFit}
@@ -80,19 +80,19 @@ pub record Sound (f : TwoAxisFit) : Type 0 where
   pub high2 : T (le (f .«fit_std_error_theta2») pi)
   pub size : T (isNan (f .amp) || le nought (f .amp))
 
-assembled-sound : (a : Axes) (e : Errors) (rms : Float) → InRange a → T (isNan (a .amp) || le nought (a .amp)) → Bounded e → Sound (assembled a e rms)
+assembled-sound : (a : Axes) (e : Errors) (rms : Float) → CanonicalRange (a .theta1) (a .theta2) (a .amp) → Bounded e → Sound (assembled a e rms)
 unfolding assembled
-assembled-sound a e rms r s b = go (a .swapped)
+assembled-sound a e rms r b = go (a .swapped)
   where
     go : (w : Bool) → Sound (record { amp = a .amp; theta1 = a .theta1; theta2 = a .theta2; «fit_std_error_theta1» = cond w (e .error2) (e .error1); «fit_std_error_theta2» = cond w (e .error1) (e .error2); rms = rms })
-    go true = record { low = r .low; first = r .first; order = r .order; second = r .second; low1 = b .low2; high1 = b .high2; low2 = b .low1; high2 = b .high1; size = s }
-    go false = record { low = r .low; first = r .first; order = r .order; second = r .second; low1 = b .low1; high1 = b .high1; low2 = b .low2; high2 = b .high2; size = s }
+    go true = record { low = r .low; first = r .first; order = r .order; second = r .second; low1 = b .low2; high1 = b .high2; low2 = b .low1; high2 = b .high1; size = r .size }
+    go false = record { low = r .low; first = r .first; order = r .order; second = r .second; low1 = b .low1; high1 = b .high1; low2 = b .low2; high2 = b .high2; size = r .size }
 
 finished-sound : (n : ℕ) (p : Params) (m : Matrix) (ssr : Float) → Held p → Sound (finished n p m ssr)
 unfolding finished
 finished-sound n p m ssr h =
     assembled-sound (canonicalizeTrackingSwap (p .theta1) (p .theta2) (p .amp)) (axisStdErrors m ssr n) _
-    (canonical-range (p .theta1) (p .theta2) (p .amp) (h .one) (h .two)) (canonical-amp (p .theta1) (p .theta2) (p .amp) (h .amp)) (errors-bounded m ssr n)
+    (canonical-range (p .theta1) (p .theta2) (p .amp) (h .one) (h .two) (h .amp)) (errors-bounded m ssr n)
 
 pub degenerate-sound : (var : Float) → Sound (degenerateFit var)
 unfolding degenerateFit le lt eq isNan ofBits

@@ -207,7 +207,7 @@ amp-all (inf true) p = unfold isNan lt le neg eq ofBits in tt
 amp-all (inf false) p = unfold isNan lt le neg eq ofBits in tt
 amp-all (fin s m e) p = let q = counted binary32 (fin s m e) p tt in amp-counted (fin s m e) (q .sign) (q .count) (q .val) (q .rep)
 
-pub canonical-amp : (t1 t2 a : Float) → T (fits binary32 a) → AmpRange (canonicalizeTrackingSwap t1 t2 a .amp)
+pub canonical-amp : (t1 t2 a : Float) → T (fits binary32 a) → let r = canonicalizeTrackingSwap t1 t2 a in T (isNan (r .amp) || le nought (r .amp))
 unfolding canonicalizeTrackingSwap settled placed
 canonical-amp t1 t2 a p = amp-all a p
 
@@ -251,7 +251,7 @@ module _ (t1 t2 a : Float) (m n : ℕ) (h : NonNeg binary32 t1 m) (M : m ≤ W) 
       go false u v = placed-range t1 (arc t1 t2) a false m (q .c) h (q .here) (le-of-lt (v tt)) z
 
 module _ (t1 t2 a : Float) (p : T (fits binary32 t1)) (q : T (fits binary32 t2)) (r : T (fits binary32 a)) where
-  pub canonical-range : InRange (canonicalizeTrackingSwap t1 t2 a)
+  pub canonical-range : let r = canonicalizeTrackingSwap t1 t2 a in CanonicalRange (r .theta1) (r .theta2) (r .amp)
   unfolding canonicalizeTrackingSwap
   canonical-range = go (lt a nought) (amp-all a r)
     where

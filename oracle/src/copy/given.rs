@@ -1,4 +1,4 @@
-//! What the edited text uses beyond core: the functions of ours.rs, and document 01's choices where Rust leaves the
+//! What the edited text uses beyond core: the functions of ours.rs, and the choices of docs/RULES.md where Rust leaves the
 //! answer open. In the `libm` copy std has the functions and Rust decides all.
 
 #[cfg(functions = "ours")]
@@ -8,7 +8,7 @@ pub use crate::ours::Float;
 #[cfg(functions = "platform")]
 pub trait Float {}
 
-/// Document 01's choices: `max` and `min` drop a NaN and take +0 as greater than -0.
+/// The choices of docs/RULES.md, Floats: `max` and `min` drop a NaN and take +0 as greater than -0.
 pub trait Choice: Copy {
     fn max_given(self, other: Self) -> Self;
     fn min_given(self, other: Self) -> Self;
@@ -84,7 +84,7 @@ fn zeros_or_nan(first_nan: bool, second_nan: bool, zeros: bool) -> Special {
     }
 }
 
-/// Document 01's choice for ranking: a NaN counts as 7fc00000.
+/// The choice of docs/RULES.md, Floats, for ranking: a NaN counts as 7fc00000.
 pub trait Ranked {
     fn ranked(self) -> f32;
 }

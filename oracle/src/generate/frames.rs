@@ -89,7 +89,7 @@ pub fn damaged(random: &mut Random) -> Vec<u8> {
         5 => non_finite(random, text),
         _ => return broken(random, text),
     };
-    // Two faults in one line: document 01's order decides which is named.
+    // Two faults in one line: the order of docs/RULES.md decides which is named.
     if random.percent(25) {
         broken(random, text)
     } else {

@@ -1,22 +1,18 @@
--- Both tests. Assumes nothing.
 use Rattle.checked.specs.Checked as C
+use mathlib.Core.Logic.{⊎-elim}
+use borrow.Author.Needs.{needs}
 use Rattle.checked.proofs.errors_known.Statement.{statement}
 use Rattle.checked.proofs.errors_known.Tie as tie
+use Rattle.checked.proofs.errors_known.Reads as reads
+use Rattle.checked.proofs.errors_known.Lts as lts
 
 returns : tie.Need-returns
 unfolding C.errorsKnown
-returns c = rw (c .before .before .if1 .taken, c .if2 .taken)
+returns c = rw (c .before .if1 .taken, c .if2 .taken)
 
 returns-2 : tie.Need-returns-2
 unfolding C.errorsKnown
-returns-2 c = rw (c .before .before .if1 .taken, c .if2 .left)
-
-returns-3 : tie.Need-returns-3
-unfolding C.errorsKnown
-returns-3 c = rw (c .if1 .left)
+returns-2 c = ⊎-elim (λ w. rw (w .0 .taken, w .1 .left)) (λ w. rw (w .left)) (c .if1 .came)
 
 pub errors-known-spec : {M : Type 1} → statement M
-errors-known-spec =
-    tie.close
-    (tie.spec
-    returns returns-2 returns-3)
+errors-known-spec = tie.close (tie.spec returns returns-2)

@@ -1,9 +1,16 @@
 -- The number of pixels, the lengths, and then the values. Assumes nothing.
 use Rattle.checked.specs.Checked as C
+use mathlib.Core.Path.{_≡_, refl}
+use mathlib.Core.Bool.{true}
+use Prim.Native.Nat.{ℕ}
+use lib.Dec.{eqb}
 use borrow.Author.Tests.{eq-eqb, ne-eqb, lt-ltb, le-ltb}
 use borrow.Author.Needs.{needs}
 use Rattle.checked.proofs.fit_disk.Statement.{statement}
 use Rattle.checked.proofs.fit_disk.Tie as tie
+
+xs-same : (n : ℕ) → eqb n n ≡ true
+xs-same n = eq-eqb n n refl
 
 returns : tie.Need-returns
 unfolding C.checkedDisk
@@ -15,23 +22,23 @@ returns-2 c = rw (ne-eqb _ _ (c .before .if1 .left), lt-ltb _ _ (c .if2 .taken))
 
 returns-3 : tie.Need-returns-3
 unfolding C.checkedDisk C.sameLengths
-returns-3 c = rw (ne-eqb _ _ (c .before .before .before .before .before .before .if1 .left), le-ltb _ _ (c .before .before .before .before .before .if2 .left), eq-eqb _ _ (c .before .before .before .before .if3 .taken), eq-eqb _ _ (c .before .before .before .if4 .taken), eq-eqb _ _ (c .before .before .if5 .taken), eq-eqb _ _ (c .before .if6 .taken)) (c .disk-looked .ensures)
+returns-3 c = rw (ne-eqb _ _ (c .before .before .before .before .before .before .if1 .left), le-ltb _ _ (c .before .before .before .before .before .if2 .left), xs-same _, eq-eqb _ _ (c .before .before .before .before .if3 .taken), eq-eqb _ _ (c .before .before .before .if4 .taken), eq-eqb _ _ (c .before .before .if5 .taken), eq-eqb _ _ (c .before .if6 .taken)) (c .disk-looked .ensures)
 
 returns-4 : tie.Need-returns-4
 unfolding C.checkedDisk C.sameLengths
-returns-4 c = rw (ne-eqb _ _ (c .before .before .before .before .before .if1 .left), le-ltb _ _ (c .before .before .before .before .if2 .left), eq-eqb _ _ (c .before .before .before .if3 .taken), eq-eqb _ _ (c .before .before .if4 .taken), eq-eqb _ _ (c .before .if5 .taken), ne-eqb _ _ (c .if6 .left))
+returns-4 c = rw (ne-eqb _ _ (c .before .before .before .before .before .if1 .left), le-ltb _ _ (c .before .before .before .before .if2 .left), xs-same _, eq-eqb _ _ (c .before .before .before .if3 .taken), eq-eqb _ _ (c .before .before .if4 .taken), eq-eqb _ _ (c .before .if5 .taken), ne-eqb _ _ (c .if6 .left))
 
 returns-5 : tie.Need-returns-5
 unfolding C.checkedDisk C.sameLengths
-returns-5 c = rw (ne-eqb _ _ (c .before .before .before .before .if1 .left), le-ltb _ _ (c .before .before .before .if2 .left), eq-eqb _ _ (c .before .before .if3 .taken), eq-eqb _ _ (c .before .if4 .taken), ne-eqb _ _ (c .if5 .left))
+returns-5 c = rw (ne-eqb _ _ (c .before .before .before .before .if1 .left), le-ltb _ _ (c .before .before .before .if2 .left), xs-same _, eq-eqb _ _ (c .before .before .if3 .taken), eq-eqb _ _ (c .before .if4 .taken), ne-eqb _ _ (c .if5 .left))
 
 returns-6 : tie.Need-returns-6
 unfolding C.checkedDisk C.sameLengths
-returns-6 c = rw (ne-eqb _ _ (c .before .before .before .if1 .left), le-ltb _ _ (c .before .before .if2 .left), eq-eqb _ _ (c .before .if3 .taken), ne-eqb _ _ (c .if4 .left))
+returns-6 c = rw (ne-eqb _ _ (c .before .before .before .if1 .left), le-ltb _ _ (c .before .before .if2 .left), xs-same _, eq-eqb _ _ (c .before .if3 .taken), ne-eqb _ _ (c .if4 .left))
 
 returns-7 : tie.Need-returns-7
 unfolding C.checkedDisk C.sameLengths
-returns-7 c = rw (ne-eqb _ _ (c .before .before .if1 .left), le-ltb _ _ (c .before .if2 .left), ne-eqb _ _ (c .if3 .left))
+returns-7 c = rw (ne-eqb _ _ (c .before .before .if1 .left), le-ltb _ _ (c .before .if2 .left), xs-same _, ne-eqb _ _ (c .if3 .left))
 
 pub fit-disk-spec : {M : Type 1} → statement M
 fit-disk-spec =

@@ -7,7 +7,7 @@ use Rattle.checked.proofs.fit_ring.Tie as tie
 
 returns : tie.Need-returns
 unfolding C.checkedRing
-returns c = rw (eq-eqb _ _ (c .before .before .if1 .taken), eq-eqb _ _ (c .before .if2 .taken)) (c .samples-looked .ensures)
+returns c = rw (eq-eqb _ _ (c .before .before .if1 .taken), eq-eqb _ _ (c .before .if2 .taken)) (c .ring-looked .ensures)
 
 returns-2 : tie.Need-returns-2
 unfolding C.checkedRing

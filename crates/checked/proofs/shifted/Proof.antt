@@ -1,25 +1,26 @@
--- A place is counted on, or what comes later is answered. Assumes nothing.
-use Rattle.checked.specs.CheckedLaws.{Below}
-use Rattle.checked.specs.Checked as C
-use native.Mathlib.Omega.{arith}
 use mathlib.Core.Path.{subst}
+use native.Mathlib.Omega.{arith}
+use Rattle.checked.specs.CheckedLaws.{Below}
 use borrow.Author.Needs.{needs}
 use Rattle.checked.proofs.shifted.Statement.{statement}
 use Rattle.checked.proofs.shifted.Tie as tie
+use Rattle.checked.proofs.shifted.Reads as reads
+use Rattle.checked.proofs.shifted.Lts as lts
+
+enum-known-w : tie.Need-enum-known-w
+enum-known-w c = search needs
+
+enum-told : tie.Need-enum-told
+enum-told c = search needs
 
 returns : tie.Need-returns
-unfolding C.shifted
 returns c = rw (c .enum-told .given .1)
 
 add-t5 : tie.Need-add-t5
 add-t5 c = let b = subst (Below 320) (c .before .w .given .1) (c .before .before .before .pre .0) in omega (arith, c .before .before .before .pre .1)
 
 returns-2 : tie.Need-returns-2
-unfolding C.shifted
 returns-2 c = rw (c .before .w .given .1)
 
 pub shifted-spec : {M : Type 1} → statement M
-shifted-spec =
-    tie.close
-    (tie.spec
-    (λ c. search needs) (λ c. search needs) returns add-t5 returns-2)
+shifted-spec = tie.close (tie.spec enum-known-w enum-told returns add-t5 returns-2)

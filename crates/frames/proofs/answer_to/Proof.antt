@@ -1,29 +1,45 @@
--- The refusals in document 01's order. Assumes nothing.
-use borrow.Author.Tests.{lt-ltb, le-ltb}
+-- Each shape has its answer, and the lengths that the readers ask for are the shape's. Assumes nothing.
 use Rattle.frames.specs.Frames as F
+use Rattle.shapes.specs.Shapes.{Sized}
+use lib.ListN.{length}
+use mathlib.Core.Path.{subst}
 use borrow.Author.Needs.{needs}
 use Rattle.frames.proofs.answer_to.Statement.{statement}
 use Rattle.frames.proofs.answer_to.Tie as tie
 
+ring-line-requires : tie.Need-ring-line-requires
+ring-line-requires c κs =
+    let b4 = c .before .before .before .before in
+    subst (Sized (length (b4 .args .line .now))) (c .enum-told .given .1) (c .before .before .shape-of .ensures .1)
+
+disk-line-requires : tie.Need-disk-line-requires
+disk-line-requires c κs =
+    let b3 = c .before .before .before in
+    let b5 = b3 .before .before in
+    subst (Sized (length (b5 .args .line .now))) (c .before .shape .given .1) (b3 .shape-of .ensures .1)
+
 returns : tie.Need-returns
 unfolding F.answerOf
-returns c = rw (lt-ltb _ _ (c .before .if1 .taken)) (c .malformed .ensures)
+returns c = rw (← c .before .before .before .shape-of .ensures .0, c .before .enum-told .given .1) (c .ring-line .ensures)
 
 returns-2 : tie.Need-returns-2
 unfolding F.answerOf
-returns-2 c = rw (le-ltb _ _ (c .before .before .before .before .if1 .left), ← c .before .before .before .all-hex .ensures, c .before .before .if2 .taken, lt-ltb _ _ (c .before .if3 .taken)) (c .malformed2 .ensures)
+returns-2 c =
+    let b4 = c .before .before .before .before in
+    rw (← b4 .shape-of .ensures .0, c .before .before .shape .given .1) (c .disk-line .ensures)
 
 returns-3 : tie.Need-returns-3
 unfolding F.answerOf
-returns-3 c = rw (le-ltb _ _ (c .before .before .before .before .if1 .left), ← c .before .before .before .all-hex .ensures, c .before .before .if2 .taken, le-ltb _ _ (c .before .if3 .left)) (c .typed-line .ensures)
+returns-3 c = rw (← c .before .before .shape-of .ensures .0, c .enum-told2 .given .1)
 
 returns-4 : tie.Need-returns-4
 unfolding F.answerOf
-returns-4 c = rw (le-ltb _ _ (c .before .before .before .if1 .left), ← c .before .before .all-hex .ensures, c .before .if2 .left) (c .malformed3 .ensures)
+returns-4 c = rw (← c .before .before .before .shape-of .ensures .0, c .before .enum-told3 .given .1) (c .malformed .ensures)
 
 pub answer-to-spec : {M : Type 1} → statement M
 answer-to-spec =
     tie.close
     (tie.spec
-    (λ c κs. search needs) returns (λ c κs. search needs) (λ c κs. search needs) returns-2 (λ c κs. search needs)
-    returns-3 (λ c κs. search needs) returns-4)
+    (λ c κs. search needs) (λ c. search needs) ring-line-requires (λ c. search needs) (λ c. search needs)
+    disk-line-requires (λ c. search needs) (λ c. search needs) (λ c κs. search needs) returns returns-2 returns-3
+    returns-4)

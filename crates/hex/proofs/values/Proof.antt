@@ -2,9 +2,9 @@
 use mathlib.Core.Path.{_≡_, _∙_}
 use Prim.Native.Nat.{_≤_, _+_, _-_, _*_}
 use native.Mathlib.Omega.{arith}
-use lib.Ieee.{nan, ofBits, binary32}
+use lib.Ieee.{nan}
 use lib.ListN.{length, set, length-set}
-use Rattle.hex.specs.Hex.{wordOf, valuesOf}
+use Rattle.hex.specs.Hex.{valueOf, valuesOf}
 use Rattle.loops.specs.TabLaws.{stored-all}
 use Rattle.loops.specs.Loops.{iter}
 use Rattle.loops.specs.IterLaws.{iter-zero, iter-next}
@@ -13,7 +13,7 @@ use Rattle.hex.proofs.values.Statement.{statement}
 use Rattle.hex.proofs.values.Tie as tie
 
 abbrev Inv-loop : tie.InvT-loop
-Inv-loop s at out₀ n k₀ out k = (k ≤ n) × (length out ≡ n) × (out ≡ iter (λ k l. set l k (ofBits binary32 (wordOf s (at + 8 * k)))) out₀ k)
+Inv-loop s at out₀ n k₀ out k = (k ≤ n) × (length out ≡ n) × (out ≡ iter (λ k l. set l k (valueOf s (at + 8 * k))) out₀ k)
 
 abbrev μ-loop : tie.MeasureT-loop
 μ-loop s at out₀ n k₀ out k = n - k
@@ -26,12 +26,14 @@ loop-again c = (search needs, simp length-set (search needs), rw iter-next (cc))
 
 returns : tie.Need-returns Inv-loop μ-loop
 unfolding valuesOf
-returns c = let h : c .before .loop .k ≡ length (c .before .before .before .before .args .out .now) = omega arith in rw h at (c .before .loop .inv .2) ∙ stored-all _ _ nan
+returns c =
+    let h : c .before .loop .k ≡ length (c .before .before .before .before .args .out .now) = omega arith in
+    rw h at (c .before .loop .inv .2) ∙ stored-all _ _ nan
 
 pub values-spec : {M : Type 1} → statement M
 values-spec =
     tie.close
     (tie.spec
-    Inv-loop μ-loop loop-holds (λ c. search needs) (λ c. search needs) (λ c κs. search needs) (λ c κs. search needs)
+    Inv-loop μ-loop loop-holds (λ c. search needs) (λ c. search needs) (λ c κs. search needs)
     (λ c. search needs) (λ c. search needs) (λ c. search needs) (λ c. search needs) loop-again (λ c. search needs)
     returns)

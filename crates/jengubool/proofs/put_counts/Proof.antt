@@ -2,7 +2,6 @@
 use lib.ListN.{length-set}
 use native.Mathlib.Omega.{arith}
 use mathlib.Core.Path.{refl}
-use Rattle.jengubool.specs.Calls as J
 use borrow.Author.Needs.{needs}
 use Rattle.jengubool.proofs.put_counts.Statement.{statement}
 use Rattle.jengubool.proofs.put_counts.Tie as tie
@@ -38,7 +37,6 @@ same-length : tie.Need-same-length
 same-length c = search needs
 
 returns : tie.Need-returns
-unfolding J.countsStored
 returns c = rw (c .before .before .before .as-number .ensures)
 
 pub put-counts-spec : {M : Type 1} → statement M

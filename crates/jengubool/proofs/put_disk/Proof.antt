@@ -1,5 +1,4 @@
 -- Eleven stores in their order. Assumes nothing.
-use Rattle.jengubool.specs.Calls as J
 use lib.ListN.{length-set}
 use native.Mathlib.Omega.{arith}
 use mathlib.Core.Path.{refl}
@@ -38,7 +37,6 @@ slice-write-fit-11 : tie.Need-slice-write-fit-11
 slice-write-fit-11 c = simp length-set (omega arith)
 
 returns : tie.Need-returns
-unfolding J.diskFitStored
 returns c = refl
 
 pub put-disk-spec : {M : Type 1} → statement M

@@ -2,7 +2,6 @@
 use lib.ListN.{length-set}
 use native.Mathlib.Omega.{arith}
 use mathlib.Core.Path.{refl}
-use Rattle.jengubool.specs.Calls as J
 use borrow.Author.Needs.{needs}
 use Rattle.jengubool.proofs.put_fit.Statement.{statement}
 use Rattle.jengubool.proofs.put_fit.Tie as tie
@@ -31,7 +30,6 @@ same-length : tie.Need-same-length
 same-length c = search needs
 
 returns : tie.Need-returns
-unfolding J.fitStored
 returns c = refl
 
 pub put-fit-spec : {M : Type 1} → statement M

@@ -1,11 +1,9 @@
 -- Two stores in their order. Assumes nothing.
-use Rattle.jengubool.specs.Calls as J
 use borrow.Author.Needs.{needs}
 use Rattle.jengubool.proofs.put_trials.Statement.{statement}
 use Rattle.jengubool.proofs.put_trials.Tie as tie
 
 returns : tie.Need-returns
-unfolding J.diskCountsStored
 returns c = rw (c .before .as-number .ensures)
 
 pub put-trials-spec : {M : Type 1} → statement M

@@ -6,11 +6,11 @@ use Rattle.robust.proofs.is_triggered.Tie as tie
 
 returns : tie.Need-returns
 unfolding R.triggered
-returns c = rw (← c .before .before .line-separation .ensures, ← c .before .is-outside .ensures, c .if1 .taken)
+returns c = rw (← c .before .before .line-separation .ensures .0, ← c .before .is-outside .ensures, c .if1 .taken)
 
 returns-2 : tie.Need-returns-2
 unfolding R.triggered
-returns-2 c = rw (← c .before .before .before .line-separation .ensures, ← c .before .before .is-outside .ensures, c .before .if1 .left, ← c .relative-rms .ensures)
+returns-2 c = rw (← c .before .before .before .line-separation .ensures .0, ← c .before .before .is-outside .ensures, c .before .if1 .left, ← c .relative-rms .ensures)
 
 pub is-triggered-spec : {M : Type 1} → statement M
 is-triggered-spec =

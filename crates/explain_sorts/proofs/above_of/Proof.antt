@@ -1,0 +1,18 @@
+-- Each sort has its case. Assumes nothing.
+use borrow.Author.Needs.{needs}
+use Rattle.explain_sorts.proofs.above_of.Statement.{statement}
+use Rattle.explain_sorts.proofs.above_of.Tie as tie
+
+returns-4 : tie.Need-returns-4
+returns-4 c = rw (c .before .enum-told3 .given .1) (c .refused-above .ensures)
+
+returns-5 : tie.Need-returns-5
+returns-5 c = rw (c .before .enum-told4 .given .1) (c .refused-above2 .ensures)
+
+pub above-of-spec : {M : Type 1} → statement M
+above-of-spec =
+    tie.close
+    (tie.spec
+    (λ c. search needs) (λ c. search needs) (λ c κs. search needs) (λ c. search needs) (λ c κs. search needs)
+    (λ c. search needs) (λ c κs. search needs) (λ c. search needs) (λ c κs. search needs) (λ c. search needs)
+    (λ c. search needs) (λ c. search needs) returns-4 returns-5)

@@ -1,0 +1,22 @@
+-- The search for a value that is not finite goes on, or ends here. Assumes nothing.
+use mathlib.Core.Path.{_≡_}
+use mathlib.Core.Bool.{true, false, not}
+use mathlib.Core.List.{List}
+use Prim.Native.Nat.{ℕ, suc, _+_, _-_, _*_, _<_}
+use native.Mathlib.Omega.{arith}
+use lib.Ieee.Scale.{finite}
+use Rattle.hex.specs.Hex.{valueOf}
+use Rattle.explain_sorts.specs.Sorts.{wildFrom}
+
+module _ (l : List ℕ) (at n k : ℕ) where
+  pub wild-on : k < n → not (finite (valueOf l (at + 8 * k))) ≡ false → wildFrom l at (n - (k + 1)) (k + 1) ≡ wildFrom l at (n - k) k
+  unfolding wildFrom
+  wild-on h e = let z : n - k ≡ suc (n - (k + 1)) = omega arith in rw (z, e)
+
+  pub wild-here : k < n → not (finite (valueOf l (at + 8 * k))) ≡ true → k ≡ wildFrom l at (n - k) k
+  unfolding wildFrom
+  wild-here h e = let z : n - k ≡ suc (n - (k + 1)) = omega arith in rw (z, e)
+
+  pub wild-none : n ≡ k → n ≡ wildFrom l at (n - k) k
+  unfolding wildFrom
+  wild-none e = let z : n - k ≡ 0 = omega arith in rw z e

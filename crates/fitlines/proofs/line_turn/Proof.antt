@@ -1,0 +1,20 @@
+-- The answer stands at the place that `room` gave, and its length is added to the place. Assumes nothing.
+use native.Mathlib.Omega.{arith}
+use borrow.Author.Needs.{needs}
+use Rattle.fitlines.proofs.line_turn.Statement.{statement}
+use Rattle.fitlines.proofs.line_turn.Tie as tie
+
+returns : tie.Need-returns
+returns c =
+    let b3 = c .before .before .before in
+    let b6 = b3 .before .before .before in
+    (search needs, search needs, omega arith,
+    record { text = rw (← b6 .room .ensures .1) (b3 .append .ensures .2); state = rw (← b6 .room .ensures .1,
+    ← b3 .append .ensures .1) (c .answered .ensures .3) })
+
+pub line-turn-spec : {M : Type 1} → statement M
+line-turn-spec =
+    tie.close
+    (tie.spec
+    (λ c κs. search needs) (λ c. search needs) (λ c. search needs) (λ c. search needs) (λ c κs. search needs)
+    (λ c κs. search needs) (λ c. search needs) returns)

@@ -1,0 +1,51 @@
+-- A frame's shape (document 01, "Frame lines"): its type, length and characters, in the order of the refusals. Definitions only.
+use mathlib.Core.Bool.{cond, not, _||_}
+use mathlib.Core.List.{List}
+use mathlib.Core.Path.{_≡_}
+use Prim.Native.Nat.{ℕ, _+_, _*_, _≤_}
+use lib.ListN.{length}
+use lib.Dec.{ltb, eqb}
+use Rattle.hex.specs.Hex.{allHex, byteOf}
+use Rattle.shapes.specs.declared.Fault.{Fault}
+use Rattle.shapes.specs.declared.Fault.the-variants.{TooLong, Foreign, Short, OtherType, RingLength, DiskShort, DiskLength}
+use Rattle.shapes.specs.declared.Shape.{Shape}
+use Rattle.shapes.specs.declared.Shape.the-variants.{Ring, Disk, BadCount, Malformed}
+
+-- the type and 2 words for each of n samples; the type, the count, 3 words and 5 words for each of n pixels
+abbrev pub ringLength : ℕ → ℕ
+ringLength n = 2 + 16 * n
+
+abbrev pub diskLength : ℕ → ℕ
+diskLength n = 30 + 40 * n
+
+-- 12,830 characters
+abbrev pub limit : ℕ
+limit = diskLength 320
+
+unfoldable pub ringShape : List ℕ → Shape
+ringShape l = cond (eqb (length l) (ringLength 16)) Ring (Malformed RingLength)
+
+-- a count of 0 or above 320 is refused before the length is looked at
+unfoldable pub countedShape : ℕ → ℕ → Shape
+countedShape size n = cond (eqb n 0 || ltb 320 n) (BadCount n) (cond (eqb size (diskLength n)) (Disk n) (Malformed (DiskLength n)))
+
+-- the count is the four digits behind the type
+unfoldable pub diskShape : List ℕ → Shape
+diskShape l = cond (ltb (length l) 30) (Malformed DiskShort) (countedShape (length l) (byteOf l 2 * 256 + byteOf l 4))
+
+unfoldable pub typedShape : List ℕ → Shape
+typedShape l = cond (eqb (byteOf l 0) 1) (ringShape l) (cond (eqb (byteOf l 0) 2) (diskShape l) (Malformed (OtherType (byteOf l 0))))
+
+-- too long; a foreign character; under 2 characters; another type; and then by the type
+unfoldable pub shapeOf : List ℕ → Shape
+shapeOf l =
+    cond (ltb limit (length l)) (Malformed TooLong)
+    (cond (not (allHex l (length l))) (Malformed Foreign)
+    (cond (ltb (length l) 2) (Malformed Short) (typedShape l)))
+
+-- what a reader of the values relies on
+abbrev pub Sized : ℕ → Shape → Type 0
+Sized size Ring = size ≡ ringLength 16
+Sized size (Disk n) = (n ≤ 320) × (size ≡ diskLength n)
+Sized size (BadCount n) = 0 ≤ size
+Sized size (Malformed f) = 0 ≤ size

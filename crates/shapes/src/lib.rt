@@ -1,0 +1,105 @@
+// A frame's shape: what a line's type, length and characters say of it, before any value is read.
+// The order of the refusals is document 01's ("Frame lines"), and stands in specs/Shapes.antt.
+ghost use mathlib.Core.Path.{_≡_};
+ghost use Prim.Native.Nat.{_+_, _*_, _≤_, _<_};
+ghost use lib.ListN.{length};
+ghost use Rattle.shapes.specs.Shapes as S;
+
+// Samples of a ring, and the most pixels of a disk.
+pub const SAMPLES: usize = 16;
+
+pub const MAX_PIXELS: usize = 320;
+
+// A disk's line before its pixels, and for each pixel, in characters.
+pub const DISK_HEAD: usize = 30;
+
+pub const PIXEL: usize = 40;
+
+// The longest frame line: a disk of the most pixels.
+pub const LIMIT: usize = DISK_HEAD + PIXEL * MAX_PIXELS;
+
+// What makes a line malformed: it is too long; it has a character that is no digit; it is too short for
+// a type; its type; the length that its type, or its count of pixels, asks for.
+pub enum Fault {
+    TooLong,
+    Foreign,
+    Short,
+    OtherType(u32),
+    RingLength,
+    DiskShort,
+    DiskLength(u32),
+}
+
+// A ring, a disk of so many pixels, a disk whose count is refused, or no frame at all.
+pub enum Shape {
+    Ring,
+    Disk(u32),
+    BadCount(u32),
+    Malformed(Fault),
+}
+
+fn ring_shape(line: &[u8]) -> Shape
+    ensures { λ r. ⌜ (r ≡ S.ringShape (now (line .entry))) × S.Sized (length (now (line .entry))) r ⌝ }
+{
+    if line.len() == 2 + 16 * SAMPLES {
+        return Shape::Ring;
+    }
+    Shape::Malformed(Fault::RingLength)
+}
+
+fn counted_shape(line: &[u8], n: u32) -> Shape
+    requires { ⌜ n < 65536 ⌝ }
+    ensures { λ r. ⌜ (r ≡ S.countedShape (length (now (line .entry))) n) × S.Sized (length (now (line .entry))) r ⌝ }
+{
+    let pixels = n as usize;
+    if pixels == 0 {
+        return Shape::BadCount(n);
+    }
+    if pixels > MAX_PIXELS {
+        return Shape::BadCount(n);
+    }
+    if line.len() == DISK_HEAD + PIXEL * pixels {
+        return Shape::Disk(n);
+    }
+    Shape::Malformed(Fault::DiskLength(n))
+}
+
+fn disk_shape(line: &[u8]) -> Shape
+    ensures { λ r. ⌜ (r ≡ S.diskShape (now (line .entry))) × S.Sized (length (now (line .entry))) r ⌝ }
+{
+    if line.len() < DISK_HEAD {
+        return Shape::Malformed(Fault::DiskShort);
+    }
+    let n = hex::byte_at(line, 2) * 256 + hex::byte_at(line, 4);
+    counted_shape(line, n)
+}
+
+fn typed_shape(line: &[u8]) -> Shape
+    requires { ⌜ 2 ≤ length (now line) ⌝ }
+    ensures { λ r. ⌜ (r ≡ S.typedShape (now (line .entry))) × S.Sized (length (now (line .entry))) r ⌝ }
+{
+    let kind = hex::byte_at(line, 0);
+    if kind == 1 {
+        return ring_shape(line);
+    }
+    if kind == 2 {
+        return disk_shape(line);
+    }
+    Shape::Malformed(Fault::OtherType(kind))
+}
+
+pub fn shape_of(line: &[u8]) -> Shape
+    ensures { λ r. ⌜ (r ≡ S.shapeOf (now (line .entry))) × S.Sized (length (now (line .entry))) r ⌝ }
+{
+    let n = line.len();
+    if n > LIMIT {
+        return Shape::Malformed(Fault::TooLong);
+    }
+    if !hex::all_hex(line) {
+        return Shape::Malformed(Fault::Foreign);
+    }
+    if n < 2 {
+        return Shape::Malformed(Fault::Short);
+    }
+    typed_shape(line)
+}
