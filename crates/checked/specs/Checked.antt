@@ -89,14 +89,14 @@ abbrev pub diskInputs : DiskData → Float → Float → List Float
 diskInputs D base0 base1 = D .«val_energy» ∷ base0 ∷ base1 ∷ (D .xs ++ (D .ys ++ (D .«vals_centered» ++ (D .«grad_angles» ++ D .«grad_weights»))))
 
 -- the fit with its errors, or that there is none after so many trials
-unfoldable pub measuredOf : ℕ → List Float → List Float → List Float → Fit → ℕ → DiskAnswer
-measuredOf n xs ys vals f trials =
-    let e = fitStdErrors n xs ys vals f in
+unfoldable pub measuredOf : DiskData → Fit → ℕ → DiskAnswer
+measuredOf D f trials =
+    let e = fitStdErrors D f in
     Disks.Fitted (record { fit = f; «fit_std_error_theta1» = e .error1; «fit_std_error_theta2» = e .error2; trials = trials }) (errorsKnown (e .error1) (e .error2))
 
 unfoldable pub diskMeasured : DiskData → DiskFit → DiskAnswer
 diskMeasured D (Missing trials) = Disks.Refused 4 trials
-diskMeasured D (Best f trials) = measuredOf (D .n) (D .xs) (D .ys) (D .«vals_centered») f trials
+diskMeasured D (Best f trials) = measuredOf D f trials
 
 unfoldable pub diskFitted : DiskData → Float → Float → DiskAnswer
 diskFitted D base0 base1 = diskMeasured D (bestDiskFit D base0 base1)

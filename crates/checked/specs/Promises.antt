@@ -15,11 +15,11 @@ use Rattle.robust.specs.SoundLaws.{SoundRing, ring-sound}
 use Rattle.robust.specs.Residual.{ringSum}
 use Rattle.robust.specs.ResidualLaws.{ring-tiny}
 use Rattle.robust.specs.declared.RingFit.{RingFit}
-use Rattle.score.specs.Score.{fitStdErrors}
+use Rattle.score.specs.Score.{fitStdErrors, widthsPx}
 use Rattle.score.specs.ScoreLaws.{SoundFit, errors-sound}
 use Rattle.score.specs.declared.Fit.{Fit}
 use Rattle.data.specs.Data.{DiskData}
-use Rattle.search.specs.Search.{widthAt, bestDiskFit}
+use Rattle.search.specs.Search.{bestDiskFit}
 use Rattle.search.specs.Bill.{trialsOf, pairsKept, leadersKept, answeredTrials}
 use Rattle.search.specs.BillLaws.{disk-bill, disk-bill-most, leaders-are, missing-bill, missing-leaders}
 use Rattle.search.specs.SoundLaws.{search-sound, width-known}
@@ -204,7 +204,7 @@ module _ (D : DiskData) (base0 base1 : Float) where
     wrong-disk-value : (p : ℕ) → p < 3 + 5 * D .n → Counted → IsFirstWild disk-inputs p → a ≡ Disks.Refused 3 p → DiskCase a
     no-fit : (t : ℕ) → length disk-inputs ≡ 3 + 5 * D .n → AllFinite disk-inputs → bestDiskFit D base0 base1 ≡ Missing t → a ≡ Disks.Refused 4 t → DiskCase a
     disk-answered : (f : Fit) (t : ℕ) → length disk-inputs ≡ 3 + 5 * D .n → AllFinite disk-inputs → bestDiskFit D base0 base1 ≡ Best f t →
-        a ≡ C.measuredOf (D .n) (D .xs) (D .ys) (D .«vals_centered») f t → DiskCase a
+        a ≡ C.measuredOf D f t → DiskCase a
 
   -- lengths that do not differ are the number of pixels, and the values are 3 + 5 n
   same : (x a b c d : Bool) → (x && (a && (b && (c && d)))) ≡ true → T x × T a × T b × T c × T d
@@ -294,7 +294,7 @@ module _ (D : DiskData) (base0 base1 : Float) where
     pub length : length disk-inputs ≡ 3 + 5 * D .n
     pub finite : AllFinite disk-inputs
     pub found : bestDiskFit D base0 base1 ≡ Best fit trials
-    pub answer : checkedDisk D base0 base1 ≡ C.measuredOf (D .n) (D .xs) (D .ys) (D .«vals_centered») fit trials
+    pub answer : checkedDisk D base0 base1 ≡ C.measuredOf D fit trials
 
   module _ (zero-number : diskNumber disk-answer ≡ 0) where
     pub disk-answered-is-the-fit : DiskFitted
@@ -316,7 +316,7 @@ module _ (D : DiskData) (base0 base1 : Float) where
 
     abbrev measured : Measured
     measured =
-        let e = fitStdErrors (D .n) (D .xs) (D .ys) (D .«vals_centered») (it .fit) in
+        let e = fitStdErrors D (it .fit) in
         record { fit = it .fit; «fit_std_error_theta1» = e .error1; «fit_std_error_theta2» = e .error2; trials = it .trials }
 
     disk-values-are : diskValues disk-answer ≡ C.measuredValues measured
@@ -362,7 +362,7 @@ module _ (D : DiskData) (base0 base1 : Float) where
     -- both errors from 0 to PI
     pub disk-errors : T (le nought (disk-value 9)) × T (le (disk-value 9) pi) × T (le nought (disk-value 10)) × T (le (disk-value 10) pi)
     disk-errors =
-        let b = errors-sound (D .n) (D .xs) (D .ys) (D .«vals_centered») (it .fit) in
+        let b = errors-sound D (it .fit) in
         rw disk-values-are (b .low1, b .high1, b .low2, b .high2)
 
     -- the amplitude is NaN or not below zero
@@ -370,7 +370,7 @@ module _ (D : DiskData) (base0 base1 : Float) where
     disk-amplitude = rw disk-values-are (sound-disk .size)
 
     -- the width is one of the four
-    pub disk-width : (w : ℕ) × (w < 4) × (disk-value 2 ≡ widthAt w)
+    pub disk-width : (w : ℕ) × (w < length widthsPx) × (disk-value 2 ≡ getD widthsPx w nan)
     disk-width = rw disk-values-are (width-known D base0 base1 (it .fit) (it .trials) (it .found))
 
 -- m is the lesser of 2 and the number of trials that answered

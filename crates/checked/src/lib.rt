@@ -9,7 +9,8 @@ ghost use mathlib.Core.Path.{_≡_};
 ghost use Prim.Native.Nat.{_<_, _≤_};
 ghost use lib.ListN.{length};
 ghost use Rattle.robust.specs.Robust.{fitRing};
-ghost use Rattle.data.specs.Data.{diskOf};
+ghost use lib.Ieee.{Float};
+ghost use Rattle.data.specs.Data.{diskOf, OfPixels};
 ghost use Rattle.checked.specs.Checked as C;
 ghost use Rattle.checked.specs.CheckedLaws.{Below, shiftedBy, loneAt};
 
@@ -173,7 +174,8 @@ fn disk_wild(
 
 fn with_errors(xs: &[f32], ys: &[f32], vals_centered: &[f32], f: Fit, trials: usize) -> DiskAnswer
     requires { ⌜ (length (now xs) ≤ 320) × (length (now ys) ≡ length (now xs)) × (length (now «vals_centered») ≡ length (now xs)) ⌝ }
-    ensures { λ r. ⌜ r ≡ C.measuredOf (length (now (xs .entry))) (now (xs .entry)) (now (ys .entry)) (now («vals_centered» .entry)) f trials ⌝ }
+    ensures { λ r. ⌜ ((energy : Float) →
+        OfPixels energy (now (xs .entry)) (now (ys .entry)) (now («vals_centered» .entry)) (λ D. r ≡ C.measuredOf D f trials)) ⌝ }
 {
     let e = score::fit_std_errors(xs, ys, vals_centered, f);
     let known = errors_known(e.error1, e.error2);

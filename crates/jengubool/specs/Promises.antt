@@ -116,7 +116,7 @@ module _ (fit : List Float) (counts : List ℕ) where
         let a = disk-answered-is-the-fit D base0 base1 zero-number in
         let v = disk-answered-values D base0 base1 zero-number in
         let b = rw (v .1) at (disk-trials D base0 base1 zero-number) in
-        let e = fitStdErrors (D .n) (D .xs) (D .ys) (D .«vals_centered») (a .fit) in
+        let e = fitStdErrors D (a .fit) in
         let k = errorsKnown (e .error1) (e .error2) in
         let known : flag k ≤ 1000 = omega (arith, flagged k) in
         let trials : a .trials ≤ 1000 = omega (arith, b .1) in

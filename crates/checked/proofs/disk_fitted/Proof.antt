@@ -9,7 +9,10 @@ use Rattle.checked.proofs.disk_fitted.Tie as tie
 
 returns : tie.Need-returns
 unfolding C.diskFitted C.diskMeasured
-returns c = rw (← c .before .before .before .before .best-disk-fit .ensures, c .before .before .found .given .1) (c .with-errors .ensures)
+returns c =
+    let a = c .before .before .before .before .before .before .before .before .before .before .args in
+    rw (← c .before .before .before .before .best-disk-fit .ensures, c .before .before .found .given .1)
+    (c .with-errors .ensures (a .val-energy) (a .grad-angles .now) (a .grad-weights .now))
 
 returns-2 : tie.Need-returns-2
 unfolding C.diskFitted C.diskMeasured

@@ -15,7 +15,7 @@ errors-known-requires c κs = search needs
 
 returns : tie.Need-returns
 unfolding C.measuredOf
-returns c = rw (c .errors-known .ensures, c .before .fit-std-errors .ensures)
+returns c = λ energy angles weights. rw (c .errors-known .ensures, c .before .fit-std-errors .ensures energy angles weights)
 
 pub with-errors-spec : {M : Type 1} → statement M
 with-errors-spec = tie.close (tie.spec fit-std-errors-requires errors-known-requires returns)

@@ -12,8 +12,14 @@ returns-2 : tie.Need-returns-2
 unfolding S.refusalSort
 returns-2 c =
     let b4 = c .before .before .before .before in
-    rw (← b4 .before .byte-at .ensures .1, ← b4 .byte-at2 .ensures .1, ← c .before .before .before .byte-at3 .ensures .1, c .before .before .if1 .left,
-    ← c .before .is-of .ensures, c .if2 .taken)
+    rw (
+      ← b4 .before .byte-at .ensures .1,
+      ← b4 .byte-at2 .ensures .1,
+      ← c .before .before .before .byte-at3 .ensures .1,
+      c .before .before .if1 .left,
+      ← c .before .is-of .ensures,
+      c .if2 .taken,
+    )
 
 returns-3 : tie.Need-returns-3
 unfolding S.refusalSort

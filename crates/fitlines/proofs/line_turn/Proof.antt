@@ -7,10 +7,18 @@ use Rattle.fitlines.proofs.line_turn.Tie as tie
 returns : tie.Need-returns
 returns c =
     let b3 = c .before .before .before in
-    let b6 = b3 .before .before .before in
-    (search needs, search needs, omega arith,
-    record { text = rw (← b6 .room .ensures .1) (b3 .append .ensures .2); state = rw (← b6 .room .ensures .1,
-    ← b3 .append .ensures .1) (c .answered .ensures .3) })
+    let b6 = b3 .before .before .before in (
+      search needs,
+      search needs,
+      omega arith,
+      record {
+        text = rw (← b6 .room .ensures .1) (b3 .append .ensures .2);
+        state = rw (
+          ← b6 .room .ensures .1,
+          ← b3 .append .ensures .1,
+        ) (c .answered .ensures .3);
+      },
+    )
 
 pub line-turn-spec : {M : Type 1} → statement M
 line-turn-spec =

@@ -56,8 +56,18 @@ returns-4 c =
     let b2 = c .before .before in
     let b4 = b2 .before .before in
     let b9 = b4 .before .before .before .before .before in
-    rw (c .finish .ensures) (b9 .pre .0, b9 .pre .1, search needs, record { made = rw (← b4 .find .ensures .0, b2 .enum-told2 .given .1) (refl, refl,
-    refl) })
+    rw (c .finish .ensures) (
+      b9 .pre .0,
+      b9 .pre .1,
+      search needs,
+      record {
+        made = rw (← b4 .find .ensures .0, b2 .enum-told2 .given .1) (
+          refl,
+          refl,
+          refl,
+        );
+      },
+    )
 
 pub turn-spec : {M : Type 1} → statement M
 turn-spec =
