@@ -59,7 +59,7 @@ warningsOf r =
       degenerate = not (r .disk) && degenerateStart r;
     }
 
--- ---- where in a line the words stand (docs/RULES.md, Frame lines)
+-- ---- where in a line the words stand (document 01, "Frame lines")
 abbrev pub ringReading : List ℕ → Reading
 ringReading l =
     record {

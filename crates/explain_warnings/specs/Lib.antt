@@ -1,2 +1,0 @@
-pub mod Warnings
-pub mod WarningsLaws

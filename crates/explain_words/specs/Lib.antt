@@ -1,2 +1,0 @@
-pub mod Tell
-pub mod TellLaws
