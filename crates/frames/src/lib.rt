@@ -8,7 +8,7 @@ ghost use mathlib.Core.Path.{_≡_};
 ghost use Prim.Native.Nat.{_+_, _*_, _≤_, _<_};
 ghost use lib.ListN.{length};
 ghost use Rattle.hex.specs.Hex.{put};
-ghost use Rattle.checked.specs.Checked.{checkedDisk, flag};
+ghost use Rattle.checked.specs.Checked.{checkedDisk, fitCounts, flag};
 ghost use Rattle.frames.specs.Frames as F;
 ghost use Rattle.frames.specs.RunsLaws.{diskOfRuns};
 
@@ -124,7 +124,7 @@ fn as_number(b: bool) -> u32
 }
 
 fn counts_word(r: RingFit, known: bool) -> u32
-    ensures { λ w. ⌜ w ≡ F.countsWord r known ⌝ }
+    ensures { λ w. ⌜ w ≡ F.countsWord (fitCounts r known) ⌝ }
 {
     let starts = (r.starts % 256) as u32;
     let first = (r.first % 256) as u32;
