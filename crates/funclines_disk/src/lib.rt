@@ -333,17 +333,19 @@ pub extern "C" fn fl_precompute_edge_alignments(
     requires { ⌜ set .n ≤ 64 ⌝ }
 {
     let mut terms = [0.0f32; 320];
-    let mut sums = [0.0f32; 64];
     let from = 0usize;
     let n = grad_angles.len();
-    let total = score::precompute_edge_alignments(
+    let aligned = score::precompute_edge_alignments(
         grad_angles,
         grad_weights,
         candidates_of(set),
         &mut terms[from..n],
-        &mut sums,
     );
-    Sums { total, sums }
+    let sums = aligned.out;
+    Sums {
+        total: aligned.total,
+        sums,
+    }
 }
 
 #[no_mangle]

@@ -3,7 +3,7 @@ use mathlib.Core.Bool.{Bool, true, false, cond}
 use mathlib.Core.List.{[], _∷_}
 use Prim.Native.Nat.{ℕ}
 use lib.IntN.{pos}
-use lib.ListN.{set}
+use lib.ListN.{set, replicate}
 use lib.Ieee.{Float, binary32, binary64, neg, lt, le, ofInt}
 use Rattle.floats.specs.Ops.{_⊕_, _⊖_, _⊗_, _⊘_, _⊞_, _⊟_, _⊠_, _⧄_, lit, nought, one}
 use Rattle.floats.specs.Library.{abs, max, sqrt, narrow}
@@ -15,12 +15,14 @@ use Rattle.solver_elimination.specs.Solve.{Matrix, axisStdErrors}
 use Rattle.solver_elimination.specs.declared.Errors.{Errors}
 use Rattle.floats.specs.Rows.{Row, at, count}
 use Rattle.data.specs.Data.{DiskData}
+use Rattle.candidates.specs.Candidates.{maxCandidates}
 use Rattle.candidates.specs.declared.CandidateSet.{CandidateSet}
 use Rattle.score_edges.specs.Edges.{edgeWeightTotal, rankedSum}
 use Rattle.loops.specs.Loops.{iter, tab}
 use Rattle.score.specs.declared.Fit.{Fit}
 use Rattle.score.specs.declared.Scored.{Scored}
 use Rattle.score.specs.declared.Scored.the-variants.{Found, Nothing}
+use Rattle.score.specs.declared.Alignments.{Alignments}
 use Rattle.score.specs.declared.Sums.{Sums}
 use Rattle.score.specs.declared.Slopes.{Slopes}
 use Rattle.score.specs.declared.Moments.{Moments}
@@ -87,14 +89,10 @@ scorePairCached D theta0 theta1 width edgeScore h0 h1 =
     (scoredSums (D .«val_energy») nInv (pairSums (D .n) (D .«vals_centered») h0 h1) theta0 theta1 width edgeScore))
     Nothing
 
--- ---- precompute_edge_alignments: what is returned, and what stands in `out` then
-pub record Alignments : Type 0 where
-  pub total : Float
-  pub out : Row
-
--- a disk without weight leaves the sums as they are, and its total counts as 0
-unfoldable pub precomputeEdgeAlignments : DiskData → CandidateSet → Row → Alignments
-precomputeEdgeAlignments D candidates out =
+-- ---- precompute_edge_alignments, with the caller's `out`, which begins with zeros: a disk without weight leaves them, and its total is 0
+unfoldable pub precomputeEdgeAlignments : DiskData → CandidateSet → Alignments
+precomputeEdgeAlignments D candidates =
+    let out = replicate maxCandidates nought in
     let total = edgeWeightTotal (D .n) (D .«grad_weights») in
     let sum : ℕ → Float = λ c. rankedSum (D .n) (D .«grad_angles») (D .«grad_weights») (at (candidates .angles) c) in
     cond (le total margin) (record { total = nought; out = out })

@@ -7,6 +7,7 @@ use Prim.Native.Nat.{ℕ}
 use lib.Dec.{T}
 use lib.Ieee.{Float, binary32, le, fits}
 use lib.Ieee.Fits.{div-fits}
+use lib.ListN.{replicate}
 use Rattle.floats.specs.Ops.{_⊖_, _⊗_, _⊘_, nought, one}
 use Rattle.floats.specs.Library.{narrow}
 use Rattle.geometry.specs.Geometry.{validPair}
@@ -15,15 +16,17 @@ use Rattle.solver_axes.specs.CanonicalLaws.{canonical-range}
 use Rattle.solver_elimination.specs.SolveLaws.{Bounded, errors-bounded}
 use Rattle.floats.specs.Rows.{Row, at, count}
 use Rattle.data.specs.Data.{DiskData}
+use Rattle.candidates.specs.Candidates.{maxCandidates}
 use Rattle.candidates.specs.declared.CandidateSet.{CandidateSet}
 use Rattle.score_edges.specs.Edges.{edgeWeightTotal, rankedSum}
 use Rattle.loops.specs.TabLaws.{Stores}
 use Rattle.score.specs.declared.Fit.{Fit}
 use Rattle.score.specs.declared.Scored.{Scored}
 use Rattle.score.specs.declared.Scored.the-variants.{Found, Nothing}
+use Rattle.score.specs.declared.Alignments.{Alignments}
 use Rattle.score.specs.declared.Sums.{Sums}
 use Rattle.score.specs.Score as S
-use Rattle.score.specs.Score.{margin, fitOf, pairSums, scoredSums, scorePairCached, Alignments, precomputeEdgeAlignments, fitStdErrors}
+use Rattle.score.specs.Score.{margin, fitOf, pairSums, scoredSums, scorePairCached, precomputeEdgeAlignments, fitStdErrors}
 
 -- ---- what every fit has that a pair's score can answer: P of every fit made of the two axes at the width
 abbrev Every : (Fit → Type 0) → Scored → Type 0
@@ -86,18 +89,21 @@ errors-sound D fit =
 
 -- ---- the edge sums of a disk of n pixels: t is the total of the m weights, which are as many
 module _
-    (D : DiskData) (n m : ℕ) (candidates : CandidateSet) (out : Row) (t : Float)
+    (D : DiskData) (n m : ℕ) (candidates : CandidateSet) (t : Float)
     (e : t ≡ edgeWeightTotal m (D .«grad_weights»)) (l : m ≡ n) (k : D .n ≡ n) where
+  abbrev zeros : Row
+  zeros = replicate maxCandidates nought
+
   total-is : edgeWeightTotal (D .n) (D .«grad_weights») ≡ t
   total-is = rw (k, ← l) (sym e)
 
-  pub aligned-none : le t margin ≡ true → _≡_ {A = Alignments} (record { total = nought; out = out }) (precomputeEdgeAlignments D candidates out)
+  pub aligned-none : le t margin ≡ true → _≡_ {A = Alignments} (record { total = nought; out = zeros }) (precomputeEdgeAlignments D candidates)
   unfolding precomputeEdgeAlignments
   aligned-none h = rw (total-is, h)
 
   pub aligned-all :
       (ys : Row) (c : ℕ) → le t margin ≡ false →
-      Stores (λ c. rankedSum n (D .«grad_angles») (D .«grad_weights») (at (candidates .angles) c)) out ys c → c ≡ candidates .n →
-      _≡_ {A = Alignments} (record { total = t; out = ys }) (precomputeEdgeAlignments D candidates out)
+      Stores (λ c. rankedSum n (D .«grad_angles») (D .«grad_weights») (at (candidates .angles) c)) zeros ys c → c ≡ candidates .n →
+      _≡_ {A = Alignments} (record { total = t; out = ys }) (precomputeEdgeAlignments D candidates)
   unfolding precomputeEdgeAlignments
   aligned-all ys c h g d = rw (total-is, h, k, ← d) (rw (g .is))

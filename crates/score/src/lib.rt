@@ -33,6 +33,12 @@ pub enum Scored {
     Nothing,
 }
 
+// The total of the gradients' weights, and each candidate's edge sum.
+pub struct Alignments {
+    pub total: f32,
+    pub out: [f32; candidates::MAX_CANDIDATES],
+}
+
 // The sums of a pair: of q, of its square, and of its product with the centred values.
 pub struct Sums {
     pub q: f32,
@@ -183,30 +189,29 @@ pub fn score_pair_cached(
     scored_sums(val_energy, n_inv, s, theta0, theta1, width, edge_score)
 }
 
-// Step 1 of best_disk_fit: the candidates' edge sums into `out`, and the weights' total; `terms` is
-// lent as scratch.
+// Step 1 of best_disk_fit: the weights' total and the candidates' edge sums; `terms` is lent as
+// scratch.
 pub fn precompute_edge_alignments(
     grad_angles: &[f32],
     grad_weights: &[f32],
     candidates: CandidateSet,
     terms: &mut [f32],
-    out: &mut [f32],
-) -> f32
+) -> Alignments
     requires { ⌜ (length (now «grad_weights») ≡ length (now «grad_angles»)) × (length (now terms) ≡ length (now «grad_angles»))
-        × (candidates .n ≤ length (now out)) × (length (now out) ≤ maxCandidates) ⌝ }
+        × (candidates .n ≤ maxCandidates) ⌝ }
     ensures { λ r. ⌜ OfGradients (now («grad_angles» .entry)) (now («grad_weights» .entry))
-        (λ D. _≡_ {A = S.Alignments} (record { total = r; out = now (out .exit) })
-        (S.precomputeEdgeAlignments D candidates (now (out .entry)))) ⌝ }
+        (λ D. r ≡ S.precomputeEdgeAlignments D candidates) ⌝ }
 {
+    let mut out = [0.0f32; candidates::MAX_CANDIDATES];
     let total = score_edges::edge_weight_total(grad_weights);
     if total <= 1e-9 {
-        return 0.0;
+        return Alignments { total: 0.0, out };
     }
     let n = candidates.n;
     for c in 0..n {
         out[c] = score_edges::ranked_sum(grad_angles, grad_weights, candidates.angles[c], terms);
     }
-    total
+    Alignments { total, out }
 }
 
 fn lower(a: f32, b: f32, next: bool) -> bool

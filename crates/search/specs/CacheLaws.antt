@@ -9,12 +9,11 @@ use lib.Seq.{getD-set-same, getD-set-other}
 use lib.Dec.{T, eqb, eqb→eq}
 use lib.Ieee.{Float}
 use lib.Ieee.Fits.{eq→eqb}
-use Rattle.floats.specs.Ops.{nought}
 use Rattle.floats.specs.Rows.{Row, at}
 use Rattle.loops.specs.TabLaws.{tab-length, part-length}
 use Rattle.data.specs.Data.{DiskData, diskOf, maxTanhPixels, rowOf}
 use Rattle.data.specs.RowLaws.{lent, wrote}
-use Rattle.candidates.specs.Candidates.{maxCandidates, maxPaired, forcedSeedPair, forcedHistogramPair, buildPairPool}
+use Rattle.candidates.specs.Candidates.{maxPaired, forcedSeedPair, forcedHistogramPair, buildPairPool}
 use Rattle.candidates.specs.declared.CandidateSet.{CandidateSet}
 use Rattle.candidates.specs.declared.Forced.{Forced}
 use Rattle.candidates.specs.declared.PairScore.{PairScore}
@@ -23,7 +22,8 @@ use Rattle.search_ranking.specs.Ranking.{rank}
 use Rattle.search_ranking.specs.SinkLaws.{ranked-length, rank-count, rank-most, rank-pairs}
 use Rattle.search_ranking.specs.WithinLaws.{Within, pool-within, ranked-within}
 use Rattle.search_ranking.specs.declared.Ranked.{Ranked}
-use Rattle.score.specs.Score.{axisRow, Alignments, precomputeEdgeAlignments}
+use Rattle.score.specs.Score.{axisRow, precomputeEdgeAlignments}
+use Rattle.score.specs.declared.Alignments.{Alignments}
 use Rattle.score.specs.declared.Scored.{Scored}
 use Rattle.search.specs.declared.Leaders.{Leaders}
 use Rattle.search.specs.Search.{entered, pairScored, poolOf}
@@ -102,12 +102,11 @@ pair-tried energy xs ys vals angles weights candidates width p l next a en ea h 
 
 -- ---- the pool of steps 1 and 2, from what its four calls return
 pub pool-is :
-    (D : DiskData) (candidates : CandidateSet) (base0 base1 total : Float) (out : Row) (seed hist : Forced) (pool : Pool) →
-    _≡_ {A = Alignments} (record { total = total; out = out }) (precomputeEdgeAlignments D candidates (replicate maxCandidates nought)) →
-    seed ≡ forcedSeedPair candidates base0 base1 → hist ≡ forcedHistogramPair candidates out →
-    pool ≡ buildPairPool candidates out total seed hist → pool ≡ poolOf D candidates base0 base1
+    (D : DiskData) (candidates : CandidateSet) (base0 base1 : Float) (a : Alignments) (seed hist : Forced) (pool : Pool) →
+    a ≡ precomputeEdgeAlignments D candidates → seed ≡ forcedSeedPair candidates base0 base1 → hist ≡ forcedHistogramPair candidates (a .out) →
+    pool ≡ buildPairPool candidates (a .out) (a .total) seed hist → pool ≡ poolOf D candidates base0 base1
 unfolding poolOf
-pool-is D candidates base0 base1 total out seed hist pool e s h p = rw (← e, ← s, ← h) p
+pool-is D candidates base0 base1 a seed hist pool e s h p = rw (← e, ← s, ← h) p
 
 -- ---- the ranking of a pool of the candidates' pairs is listed so
 within-more : (a b : ℕ) (l : List PairScore) → a ≤ b → Within a l → Within b l

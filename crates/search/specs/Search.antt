@@ -2,15 +2,14 @@
 use mathlib.Core.Bool.{cond}
 use mathlib.Core.List.{List}
 use Prim.Native.Nat.{ℕ, _+_}
-use lib.ListN.{length, getD, replicate}
+use lib.ListN.{length, getD}
 use lib.Dec.{eqb, ltb}
 use lib.Ieee.{Float}
-use Rattle.floats.specs.Ops.{nought}
 use Rattle.floats.specs.Rows.{at}
 use Rattle.geometry.specs.Geometry.{wrapPi}
 use Rattle.loops.specs.Loops.{iter}
 use Rattle.data.specs.Data.{DiskData}
-use Rattle.candidates.specs.Candidates.{maxCandidates, histogramCandidates, forcedSeedPair, forcedHistogramPair, buildPairPool}
+use Rattle.candidates.specs.Candidates.{histogramCandidates, forcedSeedPair, forcedHistogramPair, buildPairPool}
 use Rattle.candidates.specs.declared.CandidateSet.{CandidateSet}
 use Rattle.candidates.specs.declared.PairScore.{PairScore}
 use Rattle.candidates.specs.declared.Pool.{Pool}
@@ -46,7 +45,7 @@ insertTop top fit = insertAt (top .first) (top .second) fit
 -- ---- best_disk_fit, steps 1 and 2: the edge alignments, the forced pairs and the pool
 unfoldable pub poolOf : DiskData → CandidateSet → Float → Float → Pool
 poolOf D candidates base0 base1 =
-    let a = precomputeEdgeAlignments D candidates (replicate maxCandidates nought) in
+    let a = precomputeEdgeAlignments D candidates in
     buildPairPool candidates (a .out) (a .total) (forcedSeedPair candidates base0 base1) (forcedHistogramPair candidates (a .out))
 
 -- ---- step 3 is `ranked` of search_ranking

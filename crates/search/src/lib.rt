@@ -31,9 +31,9 @@ pub struct Leaders {
 }
 
 // The leaders so far at one width, and which rows the cache holds by then.
-pub struct Pass {
-    pub leaders: Leaders,
-    pub filled: [bool; candidates::MAX_PAIRED],
+struct Pass {
+    leaders: Leaders,
+    filled: [bool; candidates::MAX_PAIRED],
 }
 
 // The best fit with the number of trials, or that number alone.
@@ -382,17 +382,17 @@ fn pool_of(
     ensures { λ r. ⌜ (r .n ≤ maxPairs) × OfGradients (now («grad_angles» .entry)) (now («grad_weights» .entry))
         (λ D. r ≡ S.poolOf D candidates base0 base1) ⌝ }
 {
-    let mut edge_align = [0.0f32; candidates::MAX_CANDIDATES];
     let mut terms = [0.0f32; data::MAX_TANH_PIXELS];
     let from = 0usize;
     let n = grad_angles.len();
-    let grad_total = score::precompute_edge_alignments(
+    let aligned = score::precompute_edge_alignments(
         grad_angles,
         grad_weights,
         candidates,
         &mut terms[from..n],
-        &mut edge_align,
     );
+    let edge_align = aligned.out;
+    let grad_total = aligned.total;
     let force_seed = candidates::forced_seed_pair(candidates, base0, base1);
     let force_hist = candidates::forced_histogram_pair(candidates, &edge_align);
     candidates::build_pair_pool(candidates, &edge_align, grad_total, force_seed, force_hist)

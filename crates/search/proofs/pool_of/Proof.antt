@@ -11,7 +11,7 @@ returns c =
     let a = c4 .before .before .before .precompute-edge-alignments .ensures in (
       c .build-pair-pool .ensures .0,
       λ energy xs ys vals l.
-          pool-is _ _ _ _ _ _ _ _ _ (a energy xs ys vals l) (c4 .forced-seed-pair .ensures) (c2 .forced-histogram-pair .ensures) (c .build-pair-pool .ensures .1),
+          pool-is _ _ _ _ _ _ _ _ (a energy xs ys vals l) (c4 .forced-seed-pair .ensures) (c2 .forced-histogram-pair .ensures) (c .build-pair-pool .ensures .1),
     )
 
 pub pool-of-spec : {M : Type 1} → statement M
