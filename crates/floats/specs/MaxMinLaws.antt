@@ -7,6 +7,7 @@ use native.Mathlib.Omega.{arith}
 use mathlib.Core.Bool.{Bool, true, false, not, _&&_, _||_, Bool·beq, cond, true≢false, false≢true}
 use lib.IntN.{ℤ, pos}
 use lib.Dec.{T, ltb, eqb, eqb→eq, eqb-refl, lit<}
+use lib.Ieee.Fits.{up-pos}
 use lib.Ieee.{Float, nan, inf, fin, Format, binary32, binary64, up, down, add, neg, lt, le, eq, ne, fits, isNan, ofBits, level}
 use lib.Ieee.Bits.{is-true}
 use lib.Ieee.Fits.{and-l, and-r, down-pos}
