@@ -144,7 +144,7 @@ const GROUPS: [Group; 7] = [
         kind: Kind::Rings,
         holds: |counts| !counts.suspicious,
         pixels: [0, 0],
-        bars: Bars { bar: Some(0.45), aim: Some(0.3) },
+        bars: Bars { bar: Some(0.31), aim: Some(0.28) },
         frames: 2000,
         block: 100,
         turns: 12,
@@ -154,7 +154,7 @@ const GROUPS: [Group; 7] = [
         kind: Kind::Rings,
         holds: |counts| counts.starts == 2,
         pixels: [0, 0],
-        bars: Bars { bar: Some(0.7), aim: Some(0.5) },
+        bars: Bars { bar: Some(0.27), aim: Some(0.22) },
         frames: 1000,
         block: 10,
         turns: 10,
@@ -164,14 +164,14 @@ const GROUPS: [Group; 7] = [
         kind: Kind::Rings,
         holds: |_| true,
         pixels: [0, 0],
-        bars: Bars { bar: None, aim: None },
+        bars: Bars { bar: Some(0.28), aim: None },
         frames: 1000,
         block: 20,
         turns: 10,
     },
     disks("disk, 50 pixels", [45, 55], None, None),
     disks("disk, 100 pixels", [90, 110], None, None),
-    disks("disk, 200 pixels", [185, 215], Some(0.3), Some(0.2)),
+    disks("disk, 200 pixels", [185, 215], Some(0.18), Some(0.16)),
     disks("disk, 320 pixels", [300, 320], None, None),
 ];
 
@@ -189,7 +189,7 @@ struct Program {
 
 const PROGRAMS: [Program; 4] = [
     Program { kind: Kind::Rings, against: "oracle frames", command: "frames", bars: Bars { bar: Some(0.8), aim: None } },
-    Program { kind: Kind::Rings, against: "oracle once", command: "once", bars: Bars { bar: None, aim: None } },
+    Program { kind: Kind::Rings, against: "oracle once", command: "once", bars: Bars { bar: Some(0.27), aim: None } },
     Program { kind: Kind::Disks, against: "oracle frames", command: "frames", bars: Bars { bar: Some(0.8), aim: None } },
     Program { kind: Kind::Disks, against: "oracle once", command: "once", bars: Bars { bar: None, aim: None } },
 ];

@@ -89,7 +89,7 @@ fn run(words: &[String]) -> Result<bool, String> {
             bench::bench(&options.list()?, options.find("--program"))
         }
         #[cfg(not(timed))]
-        "once" | "bench" => Err("built without the library, which is for x86-64, so nothing can be timed here".to_string()),
+        "once" | "bench" => Err("built without a library for this machine, so nothing can be timed; the kit makes one for x86-64, tools/native another".to_string()),
         _ => Err(USAGE.to_string()),
     }
 }
