@@ -1,9 +1,8 @@
 -- What a slot's key says stays true while other slots are filled: a row that is lent out of the buffer comes back in its place, and the
 -- others are as they were. Above 0 equal numbers are one value, so that a key tells its row. Assumes nothing.
-use mathlib.Core.Path.{_≡_, refl, sym, ap, _∙_, subst}
+use mathlib.Core.Path.{_≡_, refl, sym, _∙_, subst}
 use mathlib.Core.Logic.{_⊎_, inl, inr}
 use mathlib.Core.Bool.{Bool, true, false, false≢true}
-use mathlib.Core.List.{List}
 use Prim.Native.Nat.{ℕ, zero, suc, _*_, _+_, _<_, _≤_}
 use native.Mathlib.Omega.{arith}
 use borrow.Author.Count.{below-none, below-more}
@@ -17,10 +16,9 @@ use Rattle.floats.specs.UnitLaws.{Val, lt-val, eq-val}
 use Rattle.floats.specs.RoundingLaws.{counted}
 use Rattle.floats.specs.FiniteLaws.{of-true}
 use Rattle.remainders.specs.RemainderLaws.{same-val}
-use Rattle.loops.specs.Loops.{tab}
 use Rattle.loops.specs.TabLaws.{Stores, tab-same, part-length, stores-all}
 use Rattle.floats.specs.Rows.{Row, at}
-use Rattle.data.specs.Data.{DiskData, diskOf, maxTanhPixels, rowOf}
+use Rattle.data.specs.Data.{diskOf, maxTanhPixels, rowOf}
 use Rattle.data.specs.RowLaws.{lent, wrote}
 use Rattle.score_edges.specs.Edges.{refinedSum}
 use Rattle.score.specs.Score.{axisRow}
