@@ -23,7 +23,8 @@ module _ {A : Type 0} where
   stored f l d (suc n) h =
       let h′ : n ≤ length l = omega arith in
       let e : drop n l ≡ getD l n d ∷ drop (suc n) l = drop-cons l n d (omega arith) in
-      rw (stored f l d n h′, e, set-at (tab f n) (getD l n d) (drop (suc n) l) (f n) n (tab-length f n)) (sym (append-assoc (tab f n) (f n ∷ []) (drop (suc n) l)))
+      rw (stored f l d n h′, e, set-at (tab f n) (getD l n d) (drop (suc n) l) (f n) n (tab-length f n))
+      (sym (append-assoc (tab f n) (f n ∷ []) (drop (suc n) l)))
 
   pub stored-all : (f : ℕ → A) (l : List A) (d : A) → iter (λ p l. set l p (f p)) l (length l) ≡ tab f (length l)
   stored-all f l d = rw (stored f l d (length l) (omega arith), drop-length) (append-nil-right (tab f (length l)))
