@@ -1,28 +1,14 @@
 -- A row that was lent out of a buffer comes back in its place, and the other rows are as they were. Assumes nothing.
-use mathlib.Core.Path.{_≡_, sym, ap, _∙_, subst}
+use mathlib.Core.Path.{_≡_}
 use mathlib.Core.Bool.{Bool, true, false, not}
-use mathlib.Core.List.{List, _++_, append-assoc}
-use Prim.Native.Nat.{ℕ, _+_, _-_, _*_, _<_, _≤_}
+use mathlib.Core.List.{_++_}
+use Prim.Native.Nat.{ℕ, _+_, _*_, _<_, _≤_}
 use native.Mathlib.Omega.{arith}
 use lib.Dec.{T, ltb, ltb→lt, nltb→le}
-use lib.ListN.{length, take, drop, length-append, length-take}
-use lib.Seq.{drop-append-add, drop-drop}
-use Rattle.loops.specs.TabLaws.{part-kept, part-same}
+use lib.ListN.{length, take, drop}
+use Rattle.loops.specs.TabLaws.{part-kept, part-same, part-after}
 use Rattle.floats.specs.Rows.{Row}
 use Rattle.data.specs.Data.{maxTanhPixels, rowOf}
-
--- a part behind one that was lent and came back
-part-after :
-    {A : Type 0} (l ys : List A) (b b′ m n : ℕ) → b + m ≤ length l → length ys ≡ m → b + m ≤ b′ →
-    take n (drop b′ (take b l ++ (ys ++ drop m (drop b l)))) ≡ take n (drop b′ l)
-part-after {A} l ys b b′ m n h e i =
-    let d = b′ - (b + m) in
-    let z : length (take b l ++ ys) + d ≡ b′ = simp (length-append, length-take, e) (omega arith) in
-    let y : b + m + d ≡ b′ = omega arith in
-    ap (λ (k : List A). take n k)
-    (ap (drop b′) (sym (append-assoc (take b l) ys (drop m (drop b l))))
-    ∙ rw z at (drop-append-add (take b l ++ ys) (drop m (drop b l)) d)
-    ∙ ap (drop d) (drop-drop m b l) ∙ drop-drop d (b + m) l ∙ ap (λ (k : ℕ). drop k l) y)
 
 -- the buffer after row k was lent and came back as r
 abbrev pub lent : ℕ → ℕ → Row → Row → Row

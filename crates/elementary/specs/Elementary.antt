@@ -1,5 +1,6 @@
 -- The five elementary functions, each fixed by exact steps: the port's sin, cos, tanh, exp and atan2, in the place of Rust's libm. Definitions only.
 -- One rounding an operator, in the order of the parentheses; a constant is its bit pattern. docs/PERFORMANCE.md has the measured errors.
+-- The polynomials have the least greatest error of their degree on what the reduction leaves: tools/coefficients.py works each constant out again.
 use mathlib.Core.Bool.{Bool, cond, _||_}
 use Prim.Native.Nat.{_*_, _%_}
 use lib.Ieee.{Float, binary32, rem, neg, lt, eq, ofBits, toBits}

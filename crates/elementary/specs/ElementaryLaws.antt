@@ -1,4 +1,5 @@
--- Laws of the five elementary functions, for every f32: their ranges, and what they make of a NaN and of the infinities. PointLaws has exact values. Assumes nothing.
+-- Laws of the five elementary functions, for every f32: their ranges, and what they make of a NaN and of the infinities. PointLaws has exact values.
+-- Assumes nothing.
 use mathlib.Core.Path.{_≡_, refl}
 use mathlib.Core.Bool.{Bool, true, false, cond, not}
 use lib.Dec.{T}
@@ -7,7 +8,8 @@ use lib.Ieee.Fits.{add-fits, sub-fits, mul-fits, cond-fits}
 use lib.Ieee.Scale.{finite}
 use Rattle.floats.specs.Ops.{minus, nought, one, pi}
 use Rattle.floats.specs.RankLaws.{le-of-not-lt}
-use Rattle.elementary.specs.Elementary.{capped, raised, unit, scale, whole, tanhRest, tanh, expRest, expLeast, expNeg, exp, sinRest, cosRest, quadrant, sinCosNear, turn, sinCos, sin, cos}
+use Rattle.elementary.specs.Elementary.{capped, raised, unit, scale, whole, tanhRest, tanh, expRest, expLeast, expNeg, exp, sinRest, cosRest, quadrant}
+use Rattle.elementary.specs.Elementary.{sinCosNear, turn, sinCos, sin, cos}
 use Rattle.elementary.specs.Elementary.{ratio, atanRest, size, signed, octant, atan2}
 use Rattle.elementary.specs.SelectLaws.{Inside, clamped-inside, cond-number, clamped-number, clamped-fits}
 use Rattle.elementary.specs.TanhLaws.{tanh-number}
@@ -60,10 +62,12 @@ unfolding isNan fits ofBits neg
 unit-between r f n h = between (minus 0x3f80_0000) one tt tt tt tt r f n h
 
 pub sin-between : (x : Float) → T (fits binary32 x) → T (finite x) → Between (minus 0x3f80_0000) one (sin x)
-sin-between x f q = unit-between (sin x) (unfold sin sinCos sinCosNear quadrant in unit-fits _ (sub-fits binary32 _ _)) (unfold sin in sinCos-numbers x f q .s) (sin-inside x)
+sin-between x f q =
+    unit-between (sin x) (unfold sin sinCos sinCosNear quadrant in unit-fits _ (sub-fits binary32 _ _)) (unfold sin in sinCos-numbers x f q .s) (sin-inside x)
 
 pub cos-between : (x : Float) → T (fits binary32 x) → T (finite x) → Between (minus 0x3f80_0000) one (cos x)
-cos-between x f q = unit-between (cos x) (unfold cos sinCos sinCosNear quadrant in unit-fits _ (add-fits binary32 _ _)) (unfold cos in sinCos-numbers x f q .c) (cos-inside x)
+cos-between x f q =
+    unit-between (cos x) (unfold cos sinCos sinCosNear quadrant in unit-fits _ (add-fits binary32 _ _)) (unfold cos in sinCos-numbers x f q .c) (cos-inside x)
 
 pub tanh-between : (x : Float) → T (fits binary32 x) → T (not (isNan x)) → Between (minus 0x3f80_0000) one (tanh x)
 tanh-between x f n = unit-between (tanh x) (unfold tanh in unit-fits _ (sub-fits binary32 _ _)) (tanh-number x f n) (tanh-inside x)
@@ -85,7 +89,8 @@ pub exp-between : (x : Float) → T (fits binary32 x) → T (finite x) → lt no
 unfolding exp
 exp-between x f q g = rw g (expNeg-between x f q g)
 
-pub atan2-between : (y x : Float) → T (fits binary32 y) → T (fits binary32 x) → T (not (isNan y)) → T (not (isNan x)) → Between (minus 0x4049_0fdb) pi (atan2 y x)
+pub atan2-between : (y x : Float) → T (fits binary32 y) → T (fits binary32 x) → T (not (isNan y)) → T (not (isNan x)) →
+    Between (minus 0x4049_0fdb) pi (atan2 y x)
 unfolding isNan fits ofBits neg
 atan2-between y x f g n m = between (minus 0x4049_0fdb) pi tt tt tt tt (atan2 y x) held number (atan2-inside y x)
   where

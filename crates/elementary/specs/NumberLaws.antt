@@ -1,4 +1,5 @@
--- Sine and cosine of a finite x, exp of a finite x not above 0, and atan2 of two numbers are numbers: every step of theirs is bounded, so neither an infinity nor a NaN arises before the last clamp. Assumes nothing.
+-- Sine and cosine of a finite x, exp of a finite x not above 0, and atan2 of two numbers are numbers: every step of theirs is bounded, so neither an
+-- infinity nor a NaN arises before the last clamp. Assumes nothing.
 use mathlib.Core.Path.{_≡_, refl, sym, ap, subst, _∙_}
 use mathlib.Core.Logic.{_⊎_, inl, inr}
 use mathlib.Core.Bool.{Bool, true, false, cond, not, _||_}
@@ -17,10 +18,12 @@ use Rattle.floats.specs.NonNegLaws.{NonNeg, clear, lt-is, le-of}
 use Rattle.floats.specs.RoundingLaws.{Counted, counted, rep-of, rep-step}
 use Rattle.floats.specs.PatternLaws.{read-high, write}
 use Rattle.floats.specs.RemLaws.{W, tau-val, tau-rep, nought-val, rem-exact}
-use Rattle.elementary.specs.Elementary.{raised, above, unit, scale, whole, bigR, bigM, expRest, expLeast, sinRest, cosRest, quadrant, sinCosNear, turn, sinCos}
+use Rattle.elementary.specs.Elementary.{raised, above, unit, scale, whole, bigR, bigM, expRest, expLeast, sinRest, cosRest, quadrant, sinCosNear, turn}
+use Rattle.elementary.specs.Elementary.{sinCos}
 use Rattle.elementary.specs.Elementary.{left, ratio, atanRest, size, signed, octant}
 use Rattle.elementary.specs.SelectLaws.{clamped-number}
-use Rattle.elementary.specs.SizeLaws.{L, Within, add-in, sub-in, mul-in, neg-in, more-in, cond-in, constant, Near, near, off, div-in, tests-in, mul-number, within-number}
+use Rattle.elementary.specs.SizeLaws.{L, Within, add-in, sub-in, mul-in, neg-in, more-in, cond-in, constant, Near, near, off, div-in, tests-in}
+use Rattle.elementary.specs.SizeLaws.{mul-number, within-number}
 
 -- ---- constants in units
 abbrev bigR-units : ℕ
@@ -102,7 +105,9 @@ bottom-val = (refl, refl)
 
 turn-in : (x : Float) → T (fits binary32 x) → T (finite x) → Within (2 ^ 155) (turn x)
 unfolding turn
-turn-in x p q = go (lt (lit 0x4280_0000) x) (lt x (minus 0x4280_0000)) (λ e g. tests-in (2 ^ 155) (minus 0x4280_0000) (lit 0x4280_0000) x (2 ^ 155) (2 ^ 155) bottom-val top-val (lit≤ tt) (lit≤ tt) p q e g)
+turn-in x p q =
+    go (lt (lit 0x4280_0000) x) (lt x (minus 0x4280_0000))
+    (λ e g. tests-in (2 ^ 155) (minus 0x4280_0000) (lit 0x4280_0000) x (2 ^ 155) (2 ^ 155) bottom-val top-val (lit≤ tt) (lit≤ tt) p q e g)
   where
     reduced : Within (2 ^ 155) (rem binary32 x tau)
     reduced =
@@ -147,14 +152,16 @@ power-in (suc x) h =
     room x h = omega arith
 
 -- from R to R + 255 the format holds whole numbers only, and the low byte of the pattern is what lies above R
-pub byte-of : (lo hi : ℕ) (u : Float) (c : ℕ) → T (fits binary32 u) → Val binary32 u false c → 12582912 ≤ lo → hi ≤ 12583167 → lo * 2 ^ 149 ≤ c → c ≤ hi * 2 ^ 149
+pub byte-of : (lo hi : ℕ) (u : Float) (c : ℕ) → T (fits binary32 u) → Val binary32 u false c → 12582912 ≤ lo → hi ≤ 12583167 → lo * 2 ^ 149 ≤ c →
+    c ≤ hi * 2 ^ 149
     → (lo - 12582912 ≤ toBits binary32 u % 256) × (toBits binary32 u % 256 ≤ hi - 12582912)
 byte-of lo hi u c p v a b g h =
     let r = rep-step binary32 149 c (rep-of binary32 u false c p v) (le-trans (mul-le-mul-right (2 ^ 149) (big lo a)) g) in
     let m = r .0 in
     let l : lo ≤ m = le-of-mul-le-mul-right (le-trans g (le-of-eq (r .1))) (pow-pos 149) in
     let k : m ≤ hi = le-of-mul-le-mul-right (le-trans (le-of-eq (sym (r .1))) h) (pow-pos 149) in
-    let e : toBits binary32 u ≡ 149 * 8388608 + m = write binary32 u m 149 (least m lo a l) (most m hi b k) (subst (λ (z : ℕ). Val binary32 u false z) (r .1) v) in
+    let e : toBits binary32 u ≡ 149 * 8388608 + m = write binary32 u m 149 (least m lo a l) (most m hi b k)
+    (subst (λ (z : ℕ). Val binary32 u false z) (r .1) v) in
     subst (λ (z : ℕ). (lo - 12582912 ≤ z % 256) × (z % 256 ≤ hi - 12582912)) (sym e) (above-low m lo hi a b l k, below-high m lo hi a b l k)
   where
     big : (lo : ℕ) → 12582912 ≤ lo → 8388608 ≤ lo
@@ -231,7 +238,8 @@ module _ (v : Float) (h : Within reach v) where
   whole-part-in = off bigM bigM-units reach bigM-val (lit< tt) (12582912, 149, lit< tt, refl, lit< tt) (12583166, 149, lit< tt, refl, lit< tt) sum-near tt
 
   power-of-in : Within (2 ^ 276) (scale (above (v ⊕ bigM) bigR))
-  power-of-in = scale-in (cond-fits binary32 (lt bigR (v ⊕ bigM)) (v ⊕ bigM) bigR (add-fits binary32 v bigM) (unfold fits ofBits in tt)) (either (lt bigR (v ⊕ bigM)))
+  power-of-in =
+      scale-in (cond-fits binary32 (lt bigR (v ⊕ bigM)) (v ⊕ bigM) bigR (add-fits binary32 v bigM) (unfold fits ofBits in tt)) (either (lt bigR (v ⊕ bigM)))
     where
       either : (b : Bool) → Near bigM-units reach (cond b (v ⊕ bigM) bigR)
       either true = sum-near
@@ -256,7 +264,8 @@ size-plain : (x : Float) → T (fits binary32 x) → T (not (isNan x)) → Plain
 size-plain nan p n = absurd (unfold isNan in n)
 size-plain (inf true) p n = inl (unfold size lt neg ofBits in refl)
 size-plain (inf false) p n = inl (unfold size lt neg ofBits in refl)
-size-plain (fin s m e) p n = inr (unfold size in go (lt x nought) (c .sign) (c .val) (lt-val binary32 x nought (c .sign) (c .count) false 0 (c .val) nought-val))
+size-plain (fin s m e) p n =
+    inr (unfold size in go (lt x nought) (c .sign) (c .val) (lt-val binary32 x nought (c .sign) (c .count) false 0 (c .val) nought-val))
   where
     x : Float
     x = fin s m e
@@ -288,10 +297,12 @@ over-infinity x a h = go x (h .val)
     go (fin s m e) v = unfold div in record { sign = unlike s false; count = 0; val = (refl, refl); small = lit≤ tt }
 
 -- and the comparisons of a finite value with it
-beside-infinity : (x : Float) (a : ℕ) → NonNeg binary32 x a → (eq (inf false) x ≡ false) × (eq x (inf false) ≡ false) × (lt x (inf false) ≡ true) × (lt (inf false) x ≡ false)
+beside-infinity : (x : Float) (a : ℕ) → NonNeg binary32 x a → (eq (inf false) x ≡ false) × (eq x (inf false) ≡ false) × (lt x (inf false) ≡ true) ×
+    (lt (inf false) x ≡ false)
 beside-infinity x a h = go x (h .val)
   where
-    go : (x : Float) → Val binary32 x (h .sign) a → (eq (inf false) x ≡ false) × (eq x (inf false) ≡ false) × (lt x (inf false) ≡ true) × (lt (inf false) x ≡ false)
+    go : (x : Float) → Val binary32 x (h .sign) a → (eq (inf false) x ≡ false) × (eq x (inf false) ≡ false) × (lt x (inf false) ≡ true) ×
+        (lt (inf false) x ≡ false)
     go nan v = absurd v
     go (inf s) v = absurd v
     go (fin s m e) v = unfold eq lt in (refl, refl, refl, refl)
@@ -351,7 +362,8 @@ atanWide y x = signed (octant (signed (atanRest (ratio (size y) (size x))) (left
 
 pub atan2-number : (y x : Float) → T (fits binary32 y) → T (fits binary32 x) → T (not (isNan y)) → T (not (isNan x)) → T (not (isNan (atanWide y x)))
 atan2-number y x p q n m =
-    within-number (signed-in (left y) (octant-in (lt (size x) (size y)) (left x) (signed-in (left x) (atanRest-in (ratio-in (size y) (size x) (size-plain y p n) (size-plain x q m))))))
+    within-number (signed-in (left y)
+    (octant-in (lt (size x) (size y)) (left x) (signed-in (left x) (atanRest-in (ratio-in (size y) (size x) (size-plain y p n) (size-plain x q m))))))
 
 -- and it fits: an operation's result, a constant, or its negative
 pub wide-fits : (y x : Float) → T (fits binary32 (atanWide y x))

@@ -30,7 +30,8 @@ cond-number b x y n m = tested b x y (λ e. n) m
 pub clamped-number : (x top bottom : Float) → T (not (isNan x)) → T (not (isNan top)) → T (not (isNan bottom)) → T (not (isNan (raised (capped x top) bottom)))
 clamped-number x top bottom n t b = cond-number (lt (capped x top) bottom) bottom (capped x top) b (cond-number (lt top x) top x t n)
 
-pub clamped-fits : (x top bottom : Float) → T (fits binary32 x) → T (fits binary32 top) → T (fits binary32 bottom) → T (fits binary32 (raised (capped x top) bottom))
+pub clamped-fits : (x top bottom : Float) → T (fits binary32 x) → T (fits binary32 top) → T (fits binary32 bottom) →
+    T (fits binary32 (raised (capped x top) bottom))
 clamped-fits x top bottom p t b = cond-fits binary32 (lt (capped x top) bottom) bottom (capped x top) b (cond-fits binary32 (lt top x) top x t p)
 
 -- a pattern that is an exponent alone is no NaN's
@@ -38,7 +39,8 @@ pub exponent-alone : (b : ℕ) → T (not (nanBits binary32 (b % 256 * 8388608))
 exponent-alone b =
     let small : b % 256 < 256 = mod-lt b (omega arith) in
     let whole : b % 256 * 8388608 % 2147483648 ≡ b % 256 * 8388608 = mod-eq-of-lt (omega arith) in
-    subst (λ (t : Bool). T (not t)) (sym (nanBits-above binary32 (b % 256 * 8388608) ∙ le-ltb 2139095040 (b % 256 * 8388608 % 2147483648) (omega (arith, whole)))) tt
+    subst (λ (t : Bool). T (not t)) (sym (nanBits-above binary32 (b % 256 * 8388608) ∙
+    le-ltb 2139095040 (b % 256 * 8388608 % 2147483648) (omega (arith, whole)))) tt
 
 -- ---- never past its ends: both tests fail, of a NaN too
 pub record Inside (bottom top r : Float) : Type 0 where

@@ -1,4 +1,5 @@
--- Sizes: `Within n x` says that x is a finite f32 of at most n units of 2 ^ -149. A sum, a difference or a product of two such values has a bound that is computed from theirs,
+-- Sizes: `Within n x` says that x is a finite f32 of at most n units of 2 ^ -149. A sum, a difference or a product of two such values has a bound
+-- that is computed from theirs,
 -- so a chain of steps with crude bounds below the infinity is finite, and no NaN arises in it. Assumes nothing.
 use mathlib.Core.Path.{_≡_, refl, sym, ap, subst, _∙_}
 use mathlib.Core.Logic.{inl, inr}
@@ -47,7 +48,8 @@ rounded-up n c m s a x C e h g room = go (fraction-sized binary32 s a c)
 
 rounded-in : (n c m : ℕ) (s : Bool) (a : ℕ) (x : Float) → 0 < c → x ≡ round binary32 s a c → a ≤ m → Step n c m → Within n x
 rounded-in n c m s a x C e h t =
-    rounded-up n c m s a x C e h (leb→le (G binary32 c m) n (and-l (leb (G binary32 c m) n) (ltb n (overflow binary32)) t)) (ltb→lt n (overflow binary32) (and-r (leb (G binary32 c m) n) (ltb n (overflow binary32)) t))
+    rounded-up n c m s a x C e h (leb→le (G binary32 c m) n (and-l (leb (G binary32 c m) n) (ltb n (overflow binary32)) t))
+    (ltb→lt n (overflow binary32) (and-r (leb (G binary32 c m) n) (ltb n (overflow binary32)) t))
 
 -- a sum of signed sizes is one, rounded, and no larger than both together
 pub sum-in : (s : Bool) (a : ℕ) (t : Bool) (b c : ℕ) → (u : Bool) × (k : ℕ) × (sum binary32 s a t b c ≡ round binary32 u k c) × (k ≤ a + b)
@@ -60,7 +62,9 @@ sum-in s a t b c = go (Bool·beq s t) (ltb a b)
     less' : (a b : ℕ) → a - b ≤ a + b
     less' a b = omega arith
 
-    go : (p q : Bool) → (u : Bool) × (k : ℕ) × (cond p (round binary32 s (a + b) c) (cond q (round binary32 t (b - a) c) (round binary32 (s && ltb b a) (a - b) c)) ≡ round binary32 u k c) × (k ≤ a + b)
+    go : (p q : Bool) → (u : Bool) × (k : ℕ) ×
+        (cond p (round binary32 s (a + b) c) (cond q (round binary32 t (b - a) c) (round binary32 (s && ltb b a) (a - b) c)) ≡ round binary32 u k c)
+        × (k ≤ a + b)
     go true q = (s, a + b, refl, le-refl (a + b))
     go false true = (t, b - a, refl, less a b)
     go false false = (s && ltb b a, a - b, refl, less' a b)
@@ -72,13 +76,15 @@ module _ (n : ℕ) {a b : ℕ} {x y : Float} (h : Within a x) (k : Within b y) w
   pub add-in : Step n L (a + b) → Within n (add binary32 x y)
   add-in t =
       let r = sum-in (h .sign) (h .count) (k .sign) (k .count) L in
-      rounded-in n L (a + b) (r .0) (r .1) (add binary32 x y) (pow-pos 149) (add-val binary32 x y (h .sign) (h .count) (k .sign) (k .count) (h .val) (k .val) ∙ r .2)
+      rounded-in n L (a + b) (r .0) (r .1) (add binary32 x y) (pow-pos 149)
+      (add-val binary32 x y (h .sign) (h .count) (k .sign) (k .count) (h .val) (k .val) ∙ r .2)
       (le-trans (r .3) (both (h .count) (k .count) a b (h .small) (k .small))) t
 
   pub sub-in : Step n L (a + b) → Within n (sub binary32 x y)
   sub-in t =
       let r = sum-in (h .sign) (h .count) (not (k .sign)) (k .count) L in
-      rounded-in n L (a + b) (r .0) (r .1) (sub binary32 x y) (pow-pos 149) (sub-val binary32 x y (h .sign) (h .count) (k .sign) (k .count) (h .val) (k .val) ∙ r .2)
+      rounded-in n L (a + b) (r .0) (r .1) (sub binary32 x y) (pow-pos 149)
+      (sub-val binary32 x y (h .sign) (h .count) (k .sign) (k .count) (h .val) (k .val) ∙ r .2)
       (le-trans (r .3) (both (h .count) (k .count) a b (h .small) (k .small))) t
 
   pub mul-in : Step n (L * L) (a * b) → Within n (mul binary32 x y)
@@ -111,7 +117,8 @@ constant n x t =
       sign = c .sign;
       count = c .count;
       val = c .val;
-      small = le-trans (le-of-eq (sym (same x (c .sign) (c .count) (c .val)))) (leb→le (unitsOf x) n (and-r (fits binary32 x && finite x) (leb (unitsOf x) n) t));
+      small =
+          le-trans (le-of-eq (sym (same x (c .sign) (c .count) (c .val)))) (leb→le (unitsOf x) n (and-r (fits binary32 x && finite x) (leb (unitsOf x) n) t));
     }
   where
     same : (x : Float) (s : Bool) (c : ℕ) → Val binary32 x s c → unitsOf x ≡ c
@@ -154,9 +161,11 @@ module _ (b : Float) (B n : ℕ) (w : Val binary32 b false B) (l : n < B) (p : R
 
       go : (s : Bool) → Val binary32 x s (h .count) → Near B n (add binary32 x b)
       go false v =
-          near-at (add binary32 x b) (h .count + B) (add-val binary32 x b false (h .count) false B v w ∙ sum-same binary32 (h .count) B L false) (up-lo (h .count) n B) (up-hi (h .count) n B (h .small))
+          near-at (add binary32 x b) (h .count + B) (add-val binary32 x b false (h .count) false B v w ∙
+          sum-same binary32 (h .count) B L false) (up-lo (h .count) n B) (up-hi (h .count) n B (h .small))
       go true v =
-          near-at (add binary32 x b) (B - h .count) (add-val binary32 x b true (h .count) false B v w ∙ sum-np-lt binary32 (h .count) B L (lt-of-le-of-lt (h .small) l)) (down-lo (h .count) n B (h .small))
+          near-at (add binary32 x b) (B - h .count) (add-val binary32 x b true (h .count) false B v w ∙
+          sum-np-lt binary32 (h .count) B L (lt-of-le-of-lt (h .small) l)) (down-lo (h .count) n B (h .small))
           (down-hi (h .count) n B)
 
   pub off : {t : Float} → Near B n t → Step n L n → Within n (sub binary32 t b)
@@ -170,10 +179,12 @@ module _ (b : Float) (B n : ℕ) (w : Val binary32 b false B) (l : n < B) (p : R
 
       go : (i : Bool) → (T i → h .count < B) → (T (not i) → B ≤ h .count) → Within n (sub binary32 t b)
       go true f g =
-          rounded-in n L n true (B - h .count) (sub binary32 t b) (pow-pos 149) (sub-val binary32 t b false (h .count) false B (h .val) w ∙ sum-pn-lt binary32 (h .count) B L (f tt))
+          rounded-in n L n true (B - h .count) (sub binary32 t b) (pow-pos 149) (sub-val binary32 t b false (h .count) false B (h .val) w ∙
+          sum-pn-lt binary32 (h .count) B L (f tt))
           (under (h .count) n B (h .low) l) z
       go false f g =
-          rounded-in n L n false (h .count - B) (sub binary32 t b) (pow-pos 149) (sub-val binary32 t b false (h .count) false B (h .val) w ∙ sum-pn-ge binary32 (h .count) B L (g tt))
+          rounded-in n L n false (h .count - B) (sub binary32 t b) (pow-pos 149) (sub-val binary32 t b false (h .count) false B (h .val) w ∙
+          sum-pn-ge binary32 (h .count) B L (g tt))
           (over (h .count) n B (h .high)) z
 
 -- ---- a quotient of a smaller size by a larger one is at most 1
@@ -200,8 +211,10 @@ div-in x y a b s t v w h =
     above-some a b h = omega arith
 
 -- ---- two failed tests bound a finite value
-pub tests-in : (n : ℕ) (bottom top x : Float) (a b : ℕ) → Val binary32 bottom true a → Val binary32 top false b → a ≤ n → b ≤ n → T (fits binary32 x) → T (finite x) → lt x bottom ≡ false → lt top x ≡ false → Within n x
-tests-in n bottom top x a b v w A B p q e g = let c = counted binary32 x p q in record { sign = c .sign; count = c .count; val = c .val; small = go (c .sign) (c .count) (c .val) }
+pub tests-in : (n : ℕ) (bottom top x : Float) (a b : ℕ) → Val binary32 bottom true a → Val binary32 top false b → a ≤ n → b ≤ n →
+    T (fits binary32 x) → T (finite x) → lt x bottom ≡ false → lt top x ≡ false → Within n x
+tests-in n bottom top x a b v w A B p q e g =
+    let c = counted binary32 x p q in record { sign = c .sign; count = c .count; val = c .val; small = go (c .sign) (c .count) (c .val) }
   where
     not-less : (i j : ℕ) → ltb i j ≡ false → j ≤ i
     not-less i j e = nltb→le i j (subst (λ (z : Bool). T (not z)) (sym e) tt)
@@ -213,7 +226,8 @@ tests-in n bottom top x a b v w A B p q e g = let c = counted binary32 x p q in 
 -- ---- a last product may overflow: of two finite values no NaN comes
 pub mul-number : {a b : ℕ} {x y : Float} → Within a x → Within b y → T (not (isNan (mul binary32 x y)))
 mul-number {a} {b} {x} {y} h k =
-    sized-no-nan binary32 (mul binary32 x y) (lib.Ieee.unlike (h .sign) (k .sign)) (G binary32 (L * L) (h .count * k .count)) (mul-size binary32 x y (h .sign) (h .count) (k .sign) (k .count) (h .val) (k .val))
+    sized-no-nan binary32 (mul binary32 x y) (lib.Ieee.unlike (h .sign) (k .sign)) (G binary32 (L * L) (h .count * k .count))
+    (mul-size binary32 x y (h .sign) (h .count) (k .sign) (k .count) (h .val) (k .val))
 
 pub within-number : {n : ℕ} {x : Float} → Within n x → T (not (isNan x))
 within-number {n} {x} h = go x (within-finite h)

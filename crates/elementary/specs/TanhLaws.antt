@@ -1,11 +1,14 @@
--- tanh of a number is a number. All steps but two quotients are bounded. The first divides by 1 + 2 ^ k, and its 47 values are computed. The second divides by 1 + q:
--- where that is 0 the dividend is not, so the quotient is an infinity at worst; it is multiplied by 1 - l * l, which is never 0, so no NaN arises, and the clamp makes it 1 or -1. Assumes nothing.
+-- tanh of a number is a number. All steps but two quotients are bounded. The first divides by 1 + 2 ^ k, and its 47 values are computed. The second
+-- divides by 1 + q:
+-- where that is 0 the dividend is not, so the quotient is an infinity at worst; it is multiplied by 1 - l * l, which is never 0, so no NaN arises,
+-- and the clamp makes it 1 or -1. Assumes nothing.
 use mathlib.Core.Path.{_≡_, refl, sym, ap, subst, _∙_}
 use mathlib.Core.Logic.{inl, inr}
 use mathlib.Core.Bool.{Bool, true, false, cond, not, _&&_, _||_, true≢false}
 use lib.IntN.{ℤ}
 use Prim.Native.Nat.{ℕ, zero, suc, _+_, _-_, _*_, _%_, _^_, _≤_, _<_}
-use native.Mathlib.Nat.{le-trans, le-of-eq, le-of-lt, lt-of-lt-of-le, lt-irrefl, zero-mul, one-mul, mul-pos, mul-le-mul-right, eq-or-lt-of-le, eq-of-mul-eq-mul-right}
+use native.Mathlib.Nat.{le-trans, le-of-eq, le-of-lt, lt-of-lt-of-le, lt-irrefl, zero-mul, one-mul, mul-pos, mul-le-mul-right, eq-or-lt-of-le}
+use native.Mathlib.Nat.{eq-of-mul-eq-mul-right}
 use native.Mathlib.Omega.{arith}
 use lib.Dec.{T, leb, ltb, eqb, leb→le, ltb→lt, nltb→le, eqb→eq, lit<, lit≤}
 use lib.Pow.{pow-pos}
@@ -90,9 +93,12 @@ div-number (fin s' m e) (fin t' n d) s t a b v w h = go (eqb n 0) (eqb m 0) (eqb
   where
     -- no significand, no units
     none : (k c : ℕ) (i : ℤ) → k ≡ 0 → k * up i * L ≡ c * down i → c ≡ 0
-    none k c i z g = eq-of-mul-eq-mul-right (down i) (down-pos i) c 0 (sym g ∙ ap (λ (j : ℕ). j * up i * L) z ∙ ap (λ (j : ℕ). j * L) (zero-mul (up i)) ∙ zero-mul L ∙ sym (zero-mul (down i)))
+    none k c i z g =
+        eq-of-mul-eq-mul-right (down i) (down-pos i) c 0 (sym g ∙ ap (λ (j : ℕ). j * up i * L) z ∙ ap (λ (j : ℕ). j * L) (zero-mul (up i)) ∙
+        zero-mul L ∙ sym (zero-mul (down i)))
 
-    go : (p q : Bool) → (T p → n ≡ 0) → (T q → m ≡ 0) → T (not (isNan (cond p (cond q nan (inf (unlike s' t'))) (round binary32 (unlike s' t') (m * up e * down d) (n * up d * down e)))))
+    go : (p q : Bool) → (T p → n ≡ 0) → (T q → m ≡ 0) →
+        T (not (isNan (cond p (cond q nan (inf (unlike s' t'))) (round binary32 (unlike s' t') (m * up e * down d) (n * up d * down e)))))
     go false q f g = rounded-number (unlike s' t') (m * up e * down d) (n * up d * down e)
     go true false f g = unfold isNan in tt
     go true true f g = absurd (lt-irrefl 0 (subst (λ (z : ℕ). 0 < z) (none m a e (g tt) (v .1)) (h (none n b d (f tt) (w .1)))))
@@ -181,7 +187,8 @@ module _ (l r : Float) (hl : Within L l) (hr : Within (2 ^ 155) r) where
       go : (a : ℕ) → hr .count ≡ a → 0 < hr .count
       go zero g =
           let h = q-zero hl (record { sign = hr .sign; count = hr .count; val = hr .val; small = le-of-eq g }) in
-          absurd (lt-irrefl 0 (lt-of-lt-of-le (pow-pos 149) (le-trans (le-of-eq (sym e ∙ val-unique binary32 q (hq .sign) (hq .count) (h .sign) (h .count) (hq .val) (h .val))) (h .small))))
+          absurd (lt-irrefl 0 (lt-of-lt-of-le (pow-pos 149)
+          (le-trans (le-of-eq (sym e ∙ val-unique binary32 q (hq .sign) (hq .count) (h .sign) (h .count) (hq .val) (h .val))) (h .small))))
       go (suc a) g = subst (λ (y : ℕ). 0 < y) (sym g) (some a)
         where
           some : (a : ℕ) → 0 < suc a
@@ -192,7 +199,8 @@ module _ (l r : Float) (hl : Within L l) (hr : Within (2 ^ 155) r) where
 
   product-some : hq .count ≡ L → 0 < product-in .count
   product-some e =
-      some-left (r ⊗ q) (product-in .sign) (unlike (hr .sign) (hq .sign)) (product-in .count) (hr .count * hq .count) (L * L) L (mul-pos (pow-pos 149) (pow-pos 149))
+      some-left (r ⊗ q) (product-in .sign) (unlike (hr .sign) (hq .sign)) (product-in .count) (hr .count * hq .count) (L * L) L
+      (mul-pos (pow-pos 149) (pow-pos 149))
       (mul-val binary32 r q (hr .sign) (hr .count) (hq .sign) (hq .count) (hr .val) (hq .val)) (product-in .val)
       (subst (λ (y : ℕ). L ≤ hr .count * y) (sym e) (once (hr .count) L (moved e))) (unit-kept .1)
 
@@ -223,7 +231,8 @@ module _ (l r : Float) (hl : Within L l) (hr : Within (2 ^ 155) r) where
   rest-number =
       add-number r (neg ((r ⊗ q ⊕ nought) ⊘ (one ⊕ q))) (within-finite hr)
       (neg-number ((r ⊗ q ⊕ nought) ⊘ (one ⊕ q))
-      (div-number (r ⊗ q ⊕ nought) (one ⊕ q) (dividend-in .sign) (divisor-in .sign) (dividend-in .count) (divisor-in .count) (dividend-in .val) (divisor-in .val) dividend-some))
+      (div-number (r ⊗ q ⊕ nought) (one ⊕ q) (dividend-in .sign) (divisor-in .sign) (dividend-in .count) (divisor-in .count) (dividend-in .val)
+      (divisor-in .val) dividend-some))
 
 -- ---- the first quotient, at each of the 47 powers of two
 abbrev lOf : Float → Float
@@ -285,14 +294,16 @@ cut-in : (x : Float) → T (fits binary32 x) → T (not (isNan x)) → Within (2
 unfolding lt ofBits neg fits isNan
 cut-in x p n =
     let i = clamped-inside (minus 0x4114_0000) (lit 0x4114_0000) refl refl refl x in
-    plain (raised (capped x (lit 0x4114_0000)) (minus 0x4114_0000)) (clamped-fits x (lit 0x4114_0000) (minus 0x4114_0000) p tt tt) (clamped-number x (lit 0x4114_0000) (minus 0x4114_0000) n tt tt)
+    plain (raised (capped x (lit 0x4114_0000)) (minus 0x4114_0000)) (clamped-fits x (lit 0x4114_0000) (minus 0x4114_0000) p tt tt)
+    (clamped-number x (lit 0x4114_0000) (minus 0x4114_0000) n tt tt)
     (i .low) (i .high)
   where
     plain : (x : Float) → T (fits binary32 x) → T (not (isNan x)) → lt x (minus 0x4114_0000) ≡ false → lt (lit 0x4114_0000) x ≡ false → Within (2 ^ 153) x
     plain nan p n e g = absurd n
     plain (inf true) p n e g = absurd (true≢false e)
     plain (inf false) p n e g = absurd (true≢false g)
-    plain (fin s m i) p n e g = tests-in (2 ^ 153) (minus 0x4114_0000) (lit 0x4114_0000) (fin s m i) (37 * 2 ^ 147) (37 * 2 ^ 147) bottom-val top-val (lit≤ tt) (lit≤ tt) p tt e g
+    plain (fin s m i) p n e g =
+        tests-in (2 ^ 153) (minus 0x4114_0000) (lit 0x4114_0000) (fin s m i) (37 * 2 ^ 147) (37 * 2 ^ 147) bottom-val top-val (lit≤ tt) (lit≤ tt) p tt e g
 
 -- the sum with M, held between M - 23 and M + 23
 abbrev low-end : Float
@@ -329,7 +340,8 @@ held-near t p = outer (lt (above t low-end) high-end) (inner (lt low-end t) refl
           count = c;
           val = v;
           low = le-of-lt (ltb→lt (12583016 * 2 ^ 149) c (subst T (sym (sym (lt-val binary32 low-end x false (12583016 * 2 ^ 149) false c low-val v) ∙ g)) tt));
-          high = le-of-lt (ltb→lt c (12583062 * 2 ^ 149) (subst T (sym (sym (lt-val binary32 x high-end false c false (12583062 * 2 ^ 149) v high-val) ∙ e)) tt));
+          high =
+              le-of-lt (ltb→lt c (12583062 * 2 ^ 149) (subst T (sym (sym (lt-val binary32 x high-end false c false (12583062 * 2 ^ 149) v high-val) ∙ e)) tt));
         }
 
     between : (x : Float) → T (fits binary32 x) → lt low-end x ≡ true → lt x high-end ≡ true → Near bigM-units step x
@@ -356,7 +368,8 @@ module _ (x : Float) (p : T (fits binary32 x)) (n : T (not (isNan x))) where
 
   v-fits : T (fits binary32 v)
   v-fits =
-      cond-fits binary32 (lt u high-end) u high-end (cond-fits binary32 (lt low-end t) t low-end (add-fits binary32 (x ⊗ lit 0x4030_0000) bigM) (unfold fits ofBits in tt)) (unfold fits ofBits in tt)
+      cond-fits binary32 (lt u high-end) u high-end
+      (cond-fits binary32 (lt low-end t) t low-end (add-fits binary32 (x ⊗ lit 0x4030_0000) bigM) (unfold fits ofBits in tt)) (unfold fits ofBits in tt)
     where
       t : Float
       t = x ⊗ lit 0x4030_0000 ⊕ bigM
@@ -378,11 +391,14 @@ module _ (x : Float) (p : T (fits binary32 x)) (n : T (not (isNan x))) where
 
   l-good : T (good l)
   unfolding scale
-  l-good = let b = byte-of 12583016 12583062 v (hv .count) v-fits (hv .val) (lit≤ tt) (lit≤ tt) (hv .low) (hv .high) in good-at (toBits binary32 v % 256) (b .0) (b .1)
+  l-good =
+      let b = byte-of 12583016 12583062 v (hv .count) v-fits (hv .val) (lit≤ tt) (lit≤ tt) (hv .low) (hv .high) in
+      good-at (toBits binary32 v % 256) (b .0) (b .1)
 
   pub tanh-number : T (not (isNan (tanh x)))
   unfolding tanh sub
   tanh-number =
       let hl = constant L l (and-l (fits binary32 l && finite l && leb (unitsOf l) L) (nonzero (one ⊖ l ⊗ l)) l-good) in
-      let w = nonzero-mul (one ⊖ l ⊗ l) (tanhRest l r) (and-r (fits binary32 l && finite l && leb (unitsOf l) L) (nonzero (one ⊖ l ⊗ l)) l-good) (rest-number l r hl r-in) in
+      let w = nonzero-mul (one ⊖ l ⊗ l) (tanhRest l r) (and-r (fits binary32 l && finite l && leb (unitsOf l) L) (nonzero (one ⊖ l ⊗ l)) l-good)
+      (rest-number l r hl r-in) in
       unit-number ((one ⊖ l ⊗ l) ⊗ tanhRest l r ⊖ l) (number-add ((one ⊖ l ⊗ l) ⊗ tanhRest l r) (neg l) w (neg-finite l (within-finite hl)))

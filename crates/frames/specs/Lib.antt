@@ -3,3 +3,4 @@ pub mod FramesLaws
 pub mod RunsLaws
 pub mod Promises
 pub mod Rows
+pub mod LinePromises

@@ -1,39 +1,14 @@
 -- A disk's values, read in one run, are its five runs: a part of a list of elements is the list of those elements. Assumes nothing.
-use mathlib.Core.Path.{_≡_, refl, sym, ap, _∙_}
-use mathlib.Core.List.{List, [], _∷_, _++_}
-use Prim.Native.Nat.{ℕ, zero, suc, _+_, _-_, _*_, _≤_, _<_}
+use mathlib.Core.Path.{_≡_, ap, _∙_}
+use mathlib.Core.List.{List}
+use Prim.Native.Nat.{ℕ, _+_, _-_, _*_, _≤_}
 use native.Mathlib.Omega.{arith}
 use lib.ListN.{length, take, drop}
-use lib.Seq.{take-length, drop-length, take-append-le, drop-append-le}
 use lib.Ieee.{Float}
-use Rattle.loops.specs.Loops.{tab}
-use Rattle.loops.specs.TabLaws.{tab-length, tab-same}
+use Rattle.loops.specs.TabLaws.{tab-length, tab-same, drop-tab, take-tab}
 use Rattle.hex.specs.Hex.{valueOf, valuesOf}
 use Rattle.data.specs.Data.{DiskData, diskOf}
 use Rattle.frames.specs.Frames.{diskOfLine}
-
-module _ {A : Type 0} where
-  drop-tab : (f : ℕ → A) (k m : ℕ) → drop k (tab f (k + m)) ≡ tab (λ i. f (k + i)) m
-  unfolding tab
-  drop-tab f k zero = let z : k + 0 ≡ k = omega arith in rw z (all k)
-    where
-      all : (k : ℕ) → drop k (tab f k) ≡ []
-      all k = let e = drop-length (tab f k) in rw (tab-length f k) at e
-  drop-tab f k (suc m) =
-      let z : k + suc m ≡ suc (k + m) = omega arith in
-      let l : k ≤ length (tab f (k + m)) = rw (tab-length f (k + m)) (omega arith) in
-      rw z (drop-append-le k (tab f (k + m)) (f (k + m) ∷ []) l ∙ ap (λ (r : List A). r ++ (f (k + m) ∷ [])) (drop-tab f k m))
-
-  take-tab : (f : ℕ → A) (n d : ℕ) → take n (tab f (n + d)) ≡ tab f n
-  unfolding tab
-  take-tab f n zero = let z : n + 0 ≡ n = omega arith in rw z (all n)
-    where
-      all : (n : ℕ) → take n (tab f n) ≡ tab f n
-      all n = let e = take-length (tab f n) in rw (tab-length f n) at e
-  take-tab f n (suc d) =
-      let z : n + suc d ≡ suc (n + d) = omega arith in
-      let l : n ≤ length (tab f (n + d)) = rw (tab-length f (n + d)) (omega arith) in
-      rw z (take-append-le n (tab f (n + d)) (f (n + d) ∷ []) l ∙ take-tab f n d)
 
 values-part : (l : List ℕ) (at m k n : ℕ) → k + n ≤ m → take n (drop k (valuesOf l at m)) ≡ valuesOf l (at + 8 * k) n
 unfolding valuesOf

@@ -53,12 +53,21 @@ module _ {ℓ} {S : Type ℓ} where
   iter-same f g s zero h = refl
   iter-same f g s (suc n) h = ap (f n) (iter-same f g s n (λ i l. h i (omega arith))) ∙ h n (omega arith) (iter g s n)
 
+  -- what every turn keeps that knows its index, the loop keeps
+  pub iter-keeps-below :
+      (P : S → Type 0) (f : ℕ → S → S) (s : S) (n : ℕ) → P s → ((i : ℕ) (x : S) → i < n → P x → P (f i x)) → P (iter f s n)
+  unfolding iter
+  iter-keeps-below P f s zero p h = p
+  iter-keeps-below P f s (suc n) p h = h n (iter f s n) (omega arith) (iter-keeps-below P f s n p (λ i x l q. h i x (omega arith) q))
+
+  pub range-keeps-below :
+      (P : S → Type 0) (f : ℕ → S → S) (s : S) (a b : ℕ) → P s → ((i : ℕ) (x : S) → i < b → P x → P (f i x)) → P (range f s a b)
+  unfolding range
+  range-keeps-below P f s a b p h = iter-keeps-below P (λ d. f (a + d)) s (b - a) p (λ i x l q. h (a + i) x (omega arith) q)
+
   -- what every turn keeps, the loop keeps
   pub iter-keeps : (P : S → Type 0) (f : ℕ → S → S) (s : S) (n : ℕ) → P s → ((i : ℕ) (x : S) → P x → P (f i x)) → P (iter f s n)
-  unfolding iter
-  iter-keeps P f s zero p h = p
-  iter-keeps P f s (suc n) p h = h n (iter f s n) (iter-keeps P f s n p h)
+  iter-keeps P f s n p h = iter-keeps-below P f s n p (λ i x l q. h i x q)
 
   pub range-keeps : (P : S → Type 0) (f : ℕ → S → S) (s : S) (a b : ℕ) → P s → ((i : ℕ) (x : S) → P x → P (f i x)) → P (range f s a b)
-  unfolding range
-  range-keeps P f s a b p h = iter-keeps P (λ d. f (a + d)) s (b - a) p (λ i x q. h (a + i) x q)
+  range-keeps P f s a b p h = range-keeps-below P f s a b p (λ i x l q. h i x q)

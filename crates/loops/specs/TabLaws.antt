@@ -2,11 +2,11 @@
 use mathlib.Core.Path.{_≡_, refl, sym, ap, _∙_, subst}
 use mathlib.Core.Logic.{inl, inr}
 use mathlib.Core.List.{List, [], _∷_, _++_, append-assoc}
-use Prim.Native.Nat.{ℕ, zero, suc, _+_, _≤_, _<_}
+use Prim.Native.Nat.{ℕ, zero, suc, _+_, _-_, _≤_, _<_}
 use native.Mathlib.Omega.{arith}
 use native.Mathlib.Nat.{eq-or-lt-of-le, le-of-suc-le-suc}
 use lib.ListN.{List·getD-append, length, getD, take, drop, set, length-set, length-append, length-take, length-drop, take-append-drop}
-use lib.Seq.{drop-cons, set-at, take-at, drop-at, drop-length, take-append-le, drop-append-le, getD-at, length-take-le}
+use lib.Seq.{drop-cons, set-at, take-at, take-length, drop-at, drop-length, take-append-le, drop-append-le, drop-append-add, drop-drop, getD-at, length-take-le}
 use Rattle.loops.specs.Loops.{iter, tab}
 use Rattle.loops.specs.IterLaws.{iter-zero, iter-next}
 
@@ -23,7 +23,8 @@ module _ {A : Type 0} where
   stored f l d (suc n) h =
       let h′ : n ≤ length l = omega arith in
       let e : drop n l ≡ getD l n d ∷ drop (suc n) l = drop-cons l n d (omega arith) in
-      rw (stored f l d n h′, e, set-at (tab f n) (getD l n d) (drop (suc n) l) (f n) n (tab-length f n)) (sym (append-assoc (tab f n) (f n ∷ []) (drop (suc n) l)))
+      rw (stored f l d n h′, e, set-at (tab f n) (getD l n d) (drop (suc n) l) (f n) n (tab-length f n))
+      (sym (append-assoc (tab f n) (f n ∷ []) (drop (suc n) l)))
 
   pub stored-all : (f : ℕ → A) (l : List A) (d : A) → iter (λ p l. set l p (f p)) l (length l) ≡ tab f (length l)
   stored-all f l d = rw (stored f l d (length l) (omega arith), drop-length) (append-nil-right (tab f (length l)))
@@ -45,6 +46,19 @@ module _ {A : Type 0} where
   pub part-same : (l ys x : List A) (b n : ℕ) → b ≤ length l → length ys ≡ n → take n (drop b (take b l ++ (ys ++ x))) ≡ ys
   part-same l ys x b n h e = rw (drop-at (take b l) (ys ++ x) b (length-take-le b l h)) (take-at ys x n e)
 
+  -- a part behind one that was lent and came back
+  pub part-after :
+      (l ys : List A) (b b′ m n : ℕ) → b + m ≤ length l → length ys ≡ m → b + m ≤ b′ →
+      take n (drop b′ (take b l ++ (ys ++ drop m (drop b l)))) ≡ take n (drop b′ l)
+  part-after l ys b b′ m n h e i =
+      let d = b′ - (b + m) in
+      let z : length (take b l ++ ys) + d ≡ b′ = simp (length-append, length-take, e) (omega arith) in
+      let y : b + m + d ≡ b′ = omega arith in
+      ap (λ (k : List A). take n k)
+      (ap (drop b′) (sym (append-assoc (take b l) ys (drop m (drop b l))))
+      ∙ rw z at (drop-append-add (take b l ++ ys) (drop m (drop b l)) d)
+      ∙ ap (drop d) (drop-drop m b l) ∙ drop-drop d (b + m) l ∙ ap (λ (k : ℕ). drop k l) y)
+
   pub part-length : (l ys : List A) (b n : ℕ) → b + n ≤ length l → length ys ≡ n → length (take b l ++ (ys ++ drop n (drop b l))) ≡ length l
   part-length l ys b n h e = simp (length-append, length-take, length-drop, e) (omega arith)
 
@@ -65,6 +79,29 @@ module _ {A : Type 0} where
   unfolding tab
   tab-same f g zero h = refl
   tab-same f g (suc n) h = rw (tab-same f g n (λ i l. h i (omega arith)), h n (omega arith))
+
+  -- a list of elements without its first k, and its first n
+  pub drop-tab : (f : ℕ → A) (k m : ℕ) → drop k (tab f (k + m)) ≡ tab (λ i. f (k + i)) m
+  unfolding tab
+  drop-tab f k zero = let z : k + 0 ≡ k = omega arith in rw z (all k)
+    where
+      all : (k : ℕ) → drop k (tab f k) ≡ []
+      all k = let e = drop-length (tab f k) in rw (tab-length f k) at e
+  drop-tab f k (suc m) =
+      let z : k + suc m ≡ suc (k + m) = omega arith in
+      let l : k ≤ length (tab f (k + m)) = rw (tab-length f (k + m)) (omega arith) in
+      rw z (drop-append-le k (tab f (k + m)) (f (k + m) ∷ []) l ∙ ap (λ (r : List A). r ++ (f (k + m) ∷ [])) (drop-tab f k m))
+
+  pub take-tab : (f : ℕ → A) (n d : ℕ) → take n (tab f (n + d)) ≡ tab f n
+  unfolding tab
+  take-tab f n zero = let z : n + 0 ≡ n = omega arith in rw z (all n)
+    where
+      all : (n : ℕ) → take n (tab f n) ≡ tab f n
+      all n = let e = take-length (tab f n) in rw (tab-length f n) at e
+  take-tab f n (suc d) =
+      let z : n + suc d ≡ suc (n + d) = omega arith in
+      let l : n ≤ length (tab f (n + d)) = rw (tab-length f (n + d)) (omega arith) in
+      rw z (take-append-le n (tab f (n + d)) (f (n + d) ∷ []) l ∙ take-tab f n d)
 
 -- A loop that has stored f 0, f 1, .. f (k - 1) into a list that was l₀: how its invariant says so, and the three steps of its proof.
 pub record Stores {A : Type 0} (f : ℕ → A) (l₀ l : List A) (k : ℕ) : Type 0 where

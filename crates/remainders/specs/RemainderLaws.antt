@@ -3,7 +3,9 @@
 use mathlib.Core.Path.{_≡_, refl, sym, ap, _∙_, subst}
 use mathlib.Core.Bool.{Bool, true, false, not, _&&_, false≢true}
 use Prim.Native.Nat.{ℕ, zero, suc, _+_, _-_, _*_, _/_, _%_, _^_, _≤_, _<_, zero-le}
-use native.Mathlib.Nat.{le-refl, le-trans, le-of-eq, le-of-lt, lt-of-lt-of-le, lt-of-le-of-lt, not-le-of-lt, lt-of-not-le, le-of-suc-le-suc, mod-lt, mod-eq-of-lt, add-mod-left, div-add-mod', mul-add-mod-self-right, add-mul, add-zero, zero-mul, mul-one, mul-assoc, mul-right-comm, mul-pos, mul-le-mul, mul-le-mul-right, pow-succ', mul-lt-mul-of-pos-right, add-sub-of-le, sub-add-cancel}
+use native.Mathlib.Nat.{le-refl, le-trans, le-of-eq, le-of-lt, lt-of-lt-of-le, lt-of-le-of-lt, not-le-of-lt, lt-of-not-le, le-of-suc-le-suc, mod-lt}
+use native.Mathlib.Nat.{mod-eq-of-lt, add-mod-left, div-add-mod', mul-add-mod-self-right, add-mul, add-zero, zero-mul, mul-one, mul-assoc, mul-right-comm}
+use native.Mathlib.Nat.{mul-pos, mul-le-mul, mul-le-mul-right, pow-succ', mul-lt-mul-of-pos-right, add-sub-of-le, sub-add-cancel}
 use native.Mathlib.Omega.{arith}
 use lib.IntN.{pos}
 use lib.Dec.{T, ltb, lit<, lit≤}
@@ -30,7 +32,8 @@ use Rattle.floats.specs.ProductLaws.{mul-val}
 mod-times : (a b M : ℕ) → a % M * b % M ≡ a * b % M
 mod-times a b M =
     sym
-    (ap (λ (z : ℕ). z % M) (ap (λ (z : ℕ). z * b) (sym (div-add-mod' a M)) ∙ add-mul (a / M * M) (a % M) b ∙ ap (λ (z : ℕ). z + a % M * b) (mul-right-comm (a / M) M b))
+    (ap (λ (z : ℕ). z % M) (ap (λ (z : ℕ). z * b) (sym (div-add-mod' a M)) ∙ add-mul (a / M * M) (a % M) b ∙
+    ap (λ (z : ℕ). z + a % M * b) (mul-right-comm (a / M) M b))
     ∙ mul-add-mod-self-right (a / M * b) M (a % M * b))
 
 -- a part i of j digits at a time
@@ -161,13 +164,15 @@ times-val f y s n u h w r =
     turned n l u = ap (λ (z : ℕ). z * l) (mul-right-comm n l u) ∙ mul-assoc (n * u) l l
 
 -- ---- the pattern without its sign's bit is that of the size
-pub magnitude : (x : Float) (s : Bool) (n : ℕ) → T (fits binary32 x) → Val binary32 x s n → (toBits binary32 x % 0x80000000 < 0x7f800000) × Val binary32 (ofBits binary32 (toBits binary32 x % 0x80000000)) false n
+pub magnitude : (x : Float) (s : Bool) (n : ℕ) → T (fits binary32 x) → Val binary32 x s n → (toBits binary32 x % 0x80000000 < 0x7f800000) ×
+    Val binary32 (ofBits binary32 (toBits binary32 x % 0x80000000)) false n
 magnitude x s n p v = go s v
   where
     under : n < overflow binary32
     under = rep-of binary32 x s n p v .4
 
-    clear : (y : Float) → T (fits binary32 y) → Val binary32 y false n → (c : ℕ) → c ≡ toBits binary32 y → (c < 0x7f800000) × Val binary32 (ofBits binary32 c) false n
+    clear : (y : Float) → T (fits binary32 y) → Val binary32 y false n → (c : ℕ) → c ≡ toBits binary32 y → (c < 0x7f800000) ×
+        Val binary32 (ofBits binary32 c) false n
     clear y q w c e = (
       subst (λ (z : ℕ). z < 0x7f800000) (sym e) (pattern-below y n w under),
       subst (λ (z : Float). Val binary32 z false n) (sym (ap (ofBits binary32) e ∙ ofBits-toBits binary32 y q)) w,
@@ -179,7 +184,8 @@ magnitude x s n p v = go s v
     more : (b : ℕ) → b < 0x7f800000 → 0x80000000 + b < 2 * 0x80000000
     more b h = omega arith
 
-    go : (s : Bool) → Val binary32 x s n → (toBits binary32 x % 0x80000000 < 0x7f800000) × Val binary32 (ofBits binary32 (toBits binary32 x % 0x80000000)) false n
+    go : (s : Bool) → Val binary32 x s n → (toBits binary32 x % 0x80000000 < 0x7f800000) ×
+        Val binary32 (ofBits binary32 (toBits binary32 x % 0x80000000)) false n
     go false v = clear x p v (toBits binary32 x % 0x80000000) (mod-eq-of-lt (less (toBits binary32 x) (pattern-below x n v under)))
     go true v =
         let y = neg x in
@@ -189,7 +195,9 @@ magnitude x s n p v = go s v
         let l : b < 0x7f800000 = pattern-below y n w under in
         let e : ofBits binary32 (0x80000000 + b) ≡ x = pattern-neg binary32 b (less b l) ∙ ap neg (ofBits-toBits binary32 y q) ∙ neg-neg x in
         let o : toBits binary32 x ≡ 0x80000000 + b =
-        ap (toBits binary32) (sym e) ∙ toBits-ofBits binary32 (0x80000000 + b) (more b l) (subst (λ (z : Float). T (not (isNan z))) (sym e) (number x (finite-of-val binary32 x true n v))) in
+        ap (toBits binary32) (sym e) ∙
+        toBits-ofBits binary32 (0x80000000 + b) (more b l)
+        (subst (λ (z : Float). T (not (isNan z))) (sym e) (number x (finite-of-val binary32 x true n v))) in
         clear y q w (toBits binary32 x % 0x80000000) (ap (λ (z : ℕ). z % 0x80000000) o ∙ add-mod-left 0x80000000 b ∙ mod-eq-of-lt (less b l))
 
 -- ---- PI for 0 and TAU for 1: 13176795 steps of 2 ^ (127 + q) units
@@ -255,7 +263,8 @@ module _ (c n Q : ℕ) (lo : c < 0x7f800000) (v : Val binary32 (ofBits binary32 
       go : (y : ℕ) → field c ≡ y → (Q < field c) × (n ≡ digits c * 2 ^ (field c - suc Q) * 2 ^ Q)
       go zero e = absurd (no-field e)
       go (suc x) e =
-          let u : n ≡ digits c * 2 ^ x = val-unique binary32 (ofBits binary32 c) false n false (digits c * 2 ^ x) v (read-high binary32 c x under-top e (most x c lo e)) in
+          let u : n ≡ digits c * 2 ^ x = val-unique binary32 (ofBits binary32 c) false n false (digits c * 2 ^ x) v
+          (read-high binary32 c x under-top e (most x c lo e)) in
           let g : Q ≤ x = le-of-suc-le-suc (lt-of-not-le (low-field x u)) in (
             subst (λ (z : ℕ). Q < z) (sym e) (raised x Q g),
             u ∙ ap (λ (z : ℕ). digits c * z) (ap (λ (z : ℕ). 2 ^ z) (sym (sub-add-cancel g)) ∙ pow-add 2 (x - Q) Q)
@@ -293,12 +302,14 @@ module _ (x : Float) (q : ℕ) (k : q ≤ 1) (p : T (fits binary32 x)) (t : T (f
   far-field = from-pattern (pattern x) (n .count) (127 + q) (read .0) (read .1) size .0
 
   -- the whole number of steps that is left, times a step with the sign of x
-  pub far-rem : (y : Float) (r : ℕ) → Val binary32 y (lt x nought) (2 ^ (127 + q)) → r ≡ digits (pattern x) * 2 ^ (field (pattern x) - 128 - q) % M → mul binary32 (ofInt binary32 (pos r)) y ≡ rem binary32 x (turn q)
+  pub far-rem : (y : Float) (r : ℕ) → Val binary32 y (lt x nought) (2 ^ (127 + q)) → r ≡ digits (pattern x) * 2 ^ (field (pattern x) - 128 - q) % M →
+      mul binary32 (ofInt binary32 (pos r)) y ≡ rem binary32 x (turn q)
   far-rem y r w e =
       rem-is binary32 x (turn q) (n .sign) (n .count) (M * 2 ^ (127 + q)) divisor p (n .val) (turn-val q k) (steps-rep M q (le-refl M) k)
       (mul binary32 (ofInt binary32 (pos r)) y) (mul-fits binary32 (ofInt binary32 (pos r)) y)
       (subst (λ (z : ℕ). Val binary32 (mul binary32 (ofInt binary32 (pos r)) y) (n .sign) z) (sym left)
-      (times-val binary32 y (n .sign) r (2 ^ (127 + q)) (le-trans (le-of-lt few) (lit≤ tt)) (subst (λ (s : Bool). Val binary32 y s (2 ^ (127 + q))) sign w) (steps-rep r q (le-of-lt few) k)))
+      (times-val binary32 y (n .sign) r (2 ^ (127 + q)) (le-trans (le-of-lt few) (lit≤ tt))
+      (subst (λ (s : Bool). Val binary32 y s (2 ^ (127 + q))) sign w) (steps-rep r q (le-of-lt few) k)))
     where
       sign : lt x nought ≡ n .sign
       sign = ap (lt x) zero32 ∙ sign-is binary32 x (n .sign) (n .count) (lt-of-lt-of-le divisor size) (n .val)

@@ -2,16 +2,15 @@
 use mathlib.Core.Path.{_≡_, refl, sym, ap, _∙_, subst}
 use mathlib.Core.Logic.{inl, inr}
 use mathlib.Core.Bool.{Bool, true, false, not, cond}
-use Prim.Native.Nat.{ℕ, _*_, _<_}
+use Prim.Native.Nat.{ℕ, _*_}
 use lib.Dec.{eqb}
 use lib.ListN.{length}
 use lib.Ieee.{Float, nan, inf, fin, Format, binary32, up, down, unlike, below, round, mul, div, neg, lt, ofBits}
-use Rattle.floats.specs.Ops.{_⊕_, _⊖_, _⊗_, _⊘_, lit, minus, nought, one, halfPi}
+use Rattle.floats.specs.Ops.{_⊕_, _⊗_, _⊘_, lit, minus, nought, one}
 use Rattle.floats.specs.Library.{toRadians, negative}
 use Rattle.floats.specs.RankLaws.{Sized}
 use Rattle.floats.specs.NarrowOrderLaws.{G, fraction-sized}
 use Rattle.elementary.specs.Elementary.{exp, expNeg}
-use Rattle.geometry.specs.Geometry.{signedLineDelta}
 use Rattle.loops.specs.Loops.{iter, tab}
 use Rattle.loops.specs.IterLaws.{iter-same, pick-false}
 use Rattle.loops.specs.TabLaws.{tab-length, tab-at, tab-same}

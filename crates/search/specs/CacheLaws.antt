@@ -1,11 +1,10 @@
 -- A row that is filled stays the candidate's own while other rows are filled, and a score from the cache is the definition's. Assumes nothing.
 use mathlib.Core.Path.{_≡_, refl, sym, ap, _∙_, subst}
-use mathlib.Core.Logic.{_⊎_, inl, inr}
 use mathlib.Core.Bool.{Bool, true, false}
 use mathlib.Core.List.{List, [], _∷_}
 use Prim.Native.Nat.{ℕ, zero, suc, _*_, _<_, _≤_}
 use native.Mathlib.Omega.{arith}
-use lib.ListN.{length, getD, take, set, replicate, length-set}
+use lib.ListN.{length, getD, set, replicate, length-set}
 use lib.Seq.{getD-set-same, getD-set-other}
 use lib.Dec.{T, eqb, eqb→eq}
 use lib.Ieee.{Float}
@@ -18,7 +17,7 @@ use Rattle.candidates.specs.Candidates.{maxPaired}
 use Rattle.candidates.specs.declared.CandidateSet.{CandidateSet}
 use Rattle.candidates.specs.declared.PairScore.{PairScore}
 use Rattle.candidates.specs.declared.Pool.{Pool}
-use Rattle.search_ranking.specs.Ranking.{maxTopPairs, ranked, rank}
+use Rattle.search_ranking.specs.Ranking.{rank}
 use Rattle.search_ranking.specs.SinkLaws.{ranked-length, rank-count, rank-most, rank-pairs}
 use Rattle.search_ranking.specs.WithinLaws.{Within, pool-within, ranked-within}
 use Rattle.search_ranking.specs.declared.Ranked.{Ranked}

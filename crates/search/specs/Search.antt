@@ -1,5 +1,5 @@
 -- The whole disk search: disk_sector/search.rs, insert_top and best_disk_fit, with its number of trials. Definitions only.
-use mathlib.Core.Bool.{Bool, cond}
+use mathlib.Core.Bool.{cond}
 use mathlib.Core.List.{List}
 use Prim.Native.Nat.{ℕ, _+_}
 use lib.ListN.{length, getD, replicate}

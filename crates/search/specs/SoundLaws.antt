@@ -9,10 +9,9 @@ use lib.Dec.{T}
 use lib.Ieee.{Float, binary32, fits}
 use lib.Ieee.Fits.{add-fits}
 use Rattle.floats.specs.Rows.{Row, at}
-use Rattle.loops.specs.IterLaws.{iter-keeps}
+use Rattle.loops.specs.IterLaws.{iter-keeps, iter-keeps-below}
 use Rattle.data.specs.Data.{DiskData}
 use Rattle.search_ranking.specs.Ranking.{blank}
-use Rattle.search_ranking.specs.WithinLaws.{iter-keeps-below}
 use Rattle.score.specs.Score.{widthsPx, scorePairCached, fitIsBetter}
 use Rattle.score.specs.ScoreLaws.{SoundFit, scored-sound, scored-width}
 use Rattle.score.specs.declared.Fit.{Fit}

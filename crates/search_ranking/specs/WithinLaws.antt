@@ -1,14 +1,12 @@
 -- Every pair of a pool, and so of its ranking, names two of the candidates: the loops that pair them stay below their number. Assumes nothing.
 use mathlib.Core.Bool.{Bool, true, false, cond}
 use mathlib.Core.List.{List, [], _∷_}
-use Prim.Native.Nat.{ℕ, zero, suc, _+_, _-_, _<_}
-use native.Mathlib.Omega.{arith}
+use Prim.Native.Nat.{ℕ, zero, suc, _+_, _<_}
 use lib.ListN.{getD, set, take, replicate}
 use lib.Ieee.{Float}
 use Rattle.floats.specs.Rows.{Row, at}
 use Rattle.geometry.specs.Geometry.{validPair}
-use Rattle.loops.specs.Loops.{iter, range}
-use Rattle.loops.specs.IterLaws.{iter-keeps}
+use Rattle.loops.specs.IterLaws.{iter-keeps, iter-keeps-below, range-keeps-below}
 use Rattle.candidates.specs.Candidates.{maxPairs, noPair, noPairs, pairScore, pooled, pairAt, pairsFrom, buildPairPool}
 use Rattle.candidates.specs.declared.CandidateSet.{CandidateSet}
 use Rattle.candidates.specs.declared.Forced.{Forced}
@@ -20,17 +18,6 @@ use Rattle.search_ranking.specs.Ranking.{maxTopPairs, blank, isBefore, i
 pub record Within (b : ℕ) (l : List PairScore) : Type 0 where
   pub first : (r : ℕ) → getD l r blank .i < b
   pub second : (r : ℕ) → getD l r blank .j < b
-
--- ---- what every turn keeps that knows its index, the loop keeps
-module _ {S : Type 0} where
-  pub iter-keeps-below : (P : S → Type 0) (f : ℕ → S → S) (s : S) (n : ℕ) → P s → ((i : ℕ) (x : S) → i < n → P x → P (f i x)) → P (iter f s n)
-  unfolding iter
-  iter-keeps-below P f s zero p h = p
-  iter-keeps-below P f s (suc n) p h = h n (iter f s n) (omega arith) (iter-keeps-below P f s n p (λ i x l q. h i x (omega arith) q))
-
-  pub range-keeps-below : (P : S → Type 0) (f : ℕ → S → S) (s : S) (a b : ℕ) → P s → ((i : ℕ) (x : S) → i < b → P x → P (f i x)) → P (range f s a b)
-  unfolding range
-  range-keeps-below P f s a b p h = iter-keeps-below P (λ d. f (a + d)) s (b - a) p (λ i x l q. h (a + i) x (omega arith) q)
 
 -- ---- lists of pairs within b
 module _ (b : ℕ) where

@@ -1,13 +1,13 @@
 -- The held rows score a neighbour as the definition does; a refinement makes one scoring for each of 24 offsets, and its best is the seed
 -- or what one of them answered, of the seed's own width. Assumes nothing.
 use mathlib.Core.Path.{_≡_, refl, sym, ap, _∙_, subst}
-use mathlib.Core.Bool.{Bool, true, false, cond, _&&_}
-use mathlib.Core.List.{List, [], _∷_, _++_}
+use mathlib.Core.Bool.{Bool, true, false, cond}
+use mathlib.Core.List.{List, [], _∷_}
 use Prim.Native.Nat.{ℕ, zero, suc, _+_, _/_, _%_, _<_, _≤_}
 use native.Mathlib.Omega.{arith}
 use lib.Dec.{leb, le→leb}
 use lib.ListN.{length, getD}
-use lib.Ieee.{Float, nan, eq, mul, neg, ofBits}
+use lib.Ieee.{Float, eq, mul, neg, ofBits}
 use lib.Ieee.Bits.{is-true}
 use Rattle.floats.specs.Ops.{_⊕_, lit, nought}
 use Rattle.floats.specs.Library.{toRadians}

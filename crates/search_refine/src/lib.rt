@@ -28,9 +28,9 @@ pub struct Offset {
 }
 
 // What a turn hands to the next: the best and the number of trials so far, and the rows kept.
-pub struct Turn {
-    pub refined: Refined,
-    pub slots: Slots,
+struct Turn {
+    refined: Refined,
+    slots: Slots,
 }
 
 // The place of neighbour t in its step's square of three by three, row by row; the middle is none.

@@ -1,10 +1,10 @@
 -- The rows of the refinement: disk_sector/search.rs, build_axis_rows; and what the slots of the code hold. Definitions only.
 use mathlib.Core.Path.{_≡_}
-use mathlib.Core.Bool.{true}
+use mathlib.Core.Bool.{Bool, true, false, cond}
 use mathlib.Core.List.{List}
-use Prim.Native.Nat.{ℕ, _*_, _<_, _≤_}
-use lib.ListN.{length, replicate}
-use lib.Ieee.{Float, lt}
+use Prim.Native.Nat.{ℕ, _+_, _*_, _<_, _≤_}
+use lib.ListN.{length, set, replicate}
+use lib.Ieee.{Float, lt, eq}
 use Rattle.floats.specs.Ops.{_⊕_, nought}
 use Rattle.loops.specs.Loops.{tab}
 use Rattle.floats.specs.Rows.{Row, at}
@@ -45,13 +45,37 @@ pub record Outlined (xs ys gradAngles gradWeights : Row) : Type 0 where
 
 -- row q is r now, and the other rows, but for the scratch, are as they were
 pub record Filled (n q : ℕ) (r rows rows′ : Row) : Type 0 where
-  pub here : rowOf n rows′ q ≡ r
-  pub other : (j : ℕ) → j < 6 → (j ≡ q → ⊥) → rowOf n rows′ j ≡ rowOf n rows j
+  pub is : rowsOf n rows′ 6 ≡ set (rowsOf n rows 6) q r
   pub room : length rows′ ≡ length rows
 
 -- ---- the slots
 abbrev pub noSlots : Float → Slots
 noSlots total = record { keys = replicate 6 nought; edges = replicate 6 nought; total = total }
+
+-- above 0 equal numbers are one value, so that the key tells the row
+unfoldable pub isSame : Float → Float → Bool
+isSame key theta = cond (eq key theta) (lt nought theta) false
+
+-- the slot of an axis that has theta, or else the one to fill; `from` is the axis's first
+unfoldable pub slotOf : Slots → ℕ → Float → Float → ℕ → ℕ
+slotOf slots from base theta k =
+    let keys = slots .keys in
+    cond (isSame (at keys from) theta) from
+    (cond (isSame (at keys (from + 1)) theta) (from + 1)
+    (cond (isSame (at keys (from + 2)) theta) (from + 2)
+    (cond (eq (at keys (from + k)) base) (from + 1) (from + k))))
+
+-- the slots and the six rows with theta in slot q
+unfoldable pub heldSlots : Row → Row → Row → Slots → Float → ℕ → Slots
+heldSlots xs angles weights slots theta q =
+    let edge = refinedSum (length xs) angles weights theta in
+    cond (isSame (at (slots .keys) q) theta) slots
+    (record { keys = set (slots .keys) q theta; edges = set (slots .edges) q edge; total = slots .total })
+
+unfoldable pub heldRows : Row → Row → Float → Slots → Row → Float → ℕ → List Row
+heldRows xs ys width slots rows theta q =
+    cond (isSame (at (slots .keys) q) theta) (rowsOf (length xs) rows 6)
+    (set (rowsOf (length xs) rows 6) q (axisRow (length xs) xs ys theta width))
 
 -- theta stands in slot q: it is the key, and the row and the edge sum are its own
 pub record Stands (xs ys angles weights : Row) (theta width : Float) (slots : Slots) (rows : Row) (q : ℕ) : Type 0 where
@@ -67,11 +91,13 @@ pub record Kept (xs ys angles weights : Row) (width : Float) (slots : Slots) (ro
   pub slot :
       (q : ℕ) → q < 6 → lt nought (at (slots .keys) q) ≡ true → Stands xs ys angles weights (at (slots .keys) q) width slots rows q
 
--- theta stands in slot q now, and whatever stood in another slot still does
+-- the slots and the rows after theta was asked for in slot q; so it stands there, and whatever stood in another slot still does
 pub record Held
     (xs ys angles weights : Row) (theta width : Float) (slots : Slots) (rows : Row) (slots′ : Slots) (rows′ : Row) (q : ℕ) : Type 0 where
-  pub kept : Kept xs ys angles weights width slots′ rows′
+  pub slots-are : slots′ ≡ heldSlots xs angles weights slots theta q
+  pub rows-are : rowsOf (length xs) rows′ 6 ≡ heldRows xs ys width slots rows theta q
   pub total : slots′ .total ≡ slots .total
+  pub kept : Kept xs ys angles weights width slots′ rows′
   pub here : Stands xs ys angles weights theta width slots′ rows′ q
   pub still :
       (j : ℕ) (t : Float) → j < 6 → (j ≡ q → ⊥) → Stands xs ys angles weights t width slots rows j →

@@ -3,35 +3,32 @@
 use mathlib.Core.Path.{_≡_, refl, sym, ap, _∙_, subst}
 use mathlib.Core.Logic.{_⊎_, inl, inr}
 use mathlib.Core.Bool.{Bool, true, false, false≢true}
-use mathlib.Core.List.{List}
+use mathlib.Core.List.{List, []}
 use Prim.Native.Nat.{ℕ, zero, suc, _*_, _+_, _<_, _≤_}
 use native.Mathlib.Omega.{arith}
 use borrow.Author.Count.{below-none, below-more}
 use lib.Dec.{T, ltb→lt, eqb, eqb→eq}
-use lib.ListN.{length, set, replicate, length-set}
-use lib.Seq.{getD-set-same, getD-set-other}
+use lib.ListN.{length, getD, set, replicate, length-set}
+use lib.Seq.{getD-set-same, getD-set-other, ext-getD}
 use lib.Ieee.{Float, nan, inf, fin, binary32, below, level, lt, eq, ofBits, fits}
 use lib.Ieee.Fits.{and-l, and-r, eq→eqb}
 use Rattle.floats.specs.Ops.{_⊕_, nought}
 use Rattle.floats.specs.UnitLaws.{Val, lt-val, eq-val}
 use Rattle.floats.specs.RoundingLaws.{counted}
 use Rattle.floats.specs.FiniteLaws.{of-true}
+use Rattle.floats.specs.RemLaws.{nought-val}
 use Rattle.remainders.specs.RemainderLaws.{same-val}
-use Rattle.loops.specs.Loops.{tab}
-use Rattle.loops.specs.TabLaws.{Stores, tab-same, part-length, stores-all}
+use Rattle.loops.specs.TabLaws.{Stores, tab-length, tab-at, tab-same, part-length, stores-all}
 use Rattle.floats.specs.Rows.{Row, at}
-use Rattle.data.specs.Data.{DiskData, diskOf, maxTanhPixels, rowOf}
-use Rattle.data.specs.RowLaws.{lent, wrote}
+use Rattle.data.specs.Data.{diskOf, maxTanhPixels, rowOf}
+use Rattle.data.specs.RowLaws.{lent, Wrote, wrote}
 use Rattle.score_edges.specs.Edges.{refinedSum}
 use Rattle.score.specs.Score.{axisRow}
 use Rattle.search_rows.specs.declared.Slots.{Slots}
-use Rattle.search_rows.specs.Rows.{AxisRows, buildAxisRows, rowsOf, rowsRoom, Filled, noSlots, Stands, Kept, Held}
+use Rattle.search_rows.specs.Rows.{AxisRows, buildAxisRows, rowsOf, rowsRoom, Filled, noSlots, isSame, heldSlots, heldRows}
+use Rattle.search_rows.specs.Rows.{Stands, Kept, Held}
 
 -- ---- above 0 equal numbers are one value
-nought-val : Val binary32 nought false 0
-unfolding ofBits
-nought-val = (refl, refl)
-
 pub same-key : (x y : Float) → T (fits binary32 x) → T (fits binary32 y) → eq x y ≡ true → lt nought y ≡ true → x ≡ y
 same-key nan y p q e l = absurd (false≢true (unfold eq in e))
 same-key (inf s) nan p q e l = absurd (false≢true (unfold eq in e))
@@ -62,19 +59,60 @@ same-key (fin s m k) (fin t n d) p q e l =
         let o : 0 < j = ltb→lt 0 j (of-true h) in
         absurd (let r : _≡_ {A = ℕ} 0 1 = omega arith in omega arith)
 
--- ---- a row is made: row q comes back as r, and the scratch as u
+-- ---- the six rows, by their places
+same-or-not : (j k : ℕ) → (j ≡ k) ⊎ (j ≡ k → ⊥)
+same-or-not j k = go (eqb j k) (eqb→eq j k) (λ e. eq→eqb e)
+  where
+    go : (b : Bool) → (T b → j ≡ k) → (j ≡ k → T b) → (j ≡ k) ⊎ (j ≡ k → ⊥)
+    go true u v = inl (u tt)
+    go false u v = inr v
+
+row-at : (n : ℕ) (rows : Row) (j : ℕ) → j < 6 → getD (rowsOf n rows 6) j [] ≡ rowOf n rows j
+row-at n rows j h = tab-at (rowOf n rows) [] 6 j h
+
+six : (n : ℕ) (rows : Row) → length (rowsOf n rows 6) ≡ 6
+six n rows = tab-length (rowOf n rows) 6
+
+-- a row is made: row q comes back as r, and the scratch as u
 pub filled :
     (n q : ℕ) (r u rows : Row) → n ≤ maxTanhPixels → q < 6 → length rows ≡ rowsRoom → length r ≡ n → length u ≡ n →
     Filled n q r rows (lent n 6 u (lent n q r rows))
 filled n q r u rows m h l er eu =
-    let z : length (lent n q r rows) ≡ length rows = part-length rows r (q * maxTanhPixels) n (omega arith) er in
-    let a = wrote n q r rows m (omega arith) er in
-    let b = wrote n 6 u (lent n q r rows) m (omega arith) eu in
     record {
-      here = b .other q (λ e. omega arith) ∙ a .here;
-      other = λ j k o. b .other j (λ e. omega arith) ∙ a .other j o;
-      room = part-length (lent n q r rows) u (6 * maxTanhPixels) n (omega arith) eu ∙ z;
+      is = ext-getD [] (rowsOf n after 6) (set (rowsOf n rows 6) q r) (six n after ∙ sym (length-set (rowsOf n rows 6) q r ∙ six n rows))
+          (λ j k. each j (rw (six n after) at k));
+      room = part-length (lent n q r rows) u (6 * maxTanhPixels) n (omega (arith, same)) eu ∙ same;
     }
+  where
+    after : Row
+    after = lent n 6 u (lent n q r rows)
+
+    same : length (lent n q r rows) ≡ length rows
+    same = part-length rows r (q * maxTanhPixels) n (omega arith) er
+
+    one : Wrote n q r rows (lent n q r rows)
+    one = wrote n q r rows m (omega arith) er
+
+    two : Wrote n 6 u (lent n q r rows) after
+    two = wrote n 6 u (lent n q r rows) m (omega (arith, same)) eu
+
+    each : (j : ℕ) → j < 6 → getD (rowsOf n after 6) j [] ≡ getD (set (rowsOf n rows 6) q r) j []
+    each j k = elim (same-or-not j q) [
+      | inl i ↦ row-at n after j k ∙ two .other j (λ e. omega arith) ∙ subst (λ (x : ℕ). rowOf n (lent n q r rows) x ≡ r) (sym i) (one .here)
+          ∙ subst (λ (x : ℕ). r ≡ getD (set (rowsOf n rows 6) q r) x []) (sym i)
+          (sym (getD-set-same (rowsOf n rows 6) q r [] (omega (arith, six n rows))))
+      | inr o ↦ row-at n after j k ∙ two .other j (λ e. omega arith) ∙ one .other j o ∙ sym (row-at n rows j k)
+          ∙ sym (getD-set-other (rowsOf n rows 6) q j r [] o)
+    ]
+
+module _ {n q : ℕ} {r rows rows′ : Row} (f : Filled n q r rows rows′) where
+  filled-here : q < 6 → rowOf n rows′ q ≡ r
+  filled-here h =
+      sym (row-at n rows′ q h) ∙ ap (λ (l : List Row). getD l q []) (f .is) ∙ getD-set-same (rowsOf n rows 6) q r [] (omega (arith, six n rows))
+
+  filled-other : (j : ℕ) → j < 6 → (j ≡ q → ⊥) → rowOf n rows′ j ≡ rowOf n rows j
+  filled-other j h o =
+      sym (row-at n rows′ j h) ∙ ap (λ (l : List Row). getD l j []) (f .is) ∙ getD-set-other (rowsOf n rows 6) q j r [] o ∙ row-at n rows j h
 
 -- ---- the three rows of build_axis_rows: the first k are made
 pub record Built (xs ys : Row) (base width : Float) (offsets rows : Row) (k : ℕ) : Type 0 where
@@ -92,7 +130,7 @@ module _ {xs ys : Row} {base width : Float} {offsets : Row} where
       record {
         room = f .room ∙ h .room;
         row = below-more (λ j. rowOf (length xs) rows′ j ≡ axisRow (length xs) xs ys (base ⊕ at offsets j) width) k
-            (λ j jb. f .other j (omega arith) (λ e. omega arith) ∙ h .row j jb) (f .here);
+            (λ j jb. filled-other f j (omega arith) (λ e. omega arith) ∙ h .row j jb) (filled-here f (omega arith));
       }
 
   pub built-all :
@@ -105,13 +143,6 @@ module _ {xs ys : Row} {base width : Float} {offsets : Row} where
       rw (stores-all _ _ _ nan 3 s l, tab-same (rowOf (length xs) rows) (λ k. axisRow (length xs) xs ys (base ⊕ at offsets k) width) 3 (h .row))
 
 -- ---- the slots
-same-or-not : (j k : ℕ) → (j ≡ k) ⊎ (j ≡ k → ⊥)
-same-or-not j k = go (eqb j k) (eqb→eq j k) (λ e. eq→eqb e)
-  where
-    go : (b : Bool) → (T b → j ≡ k) → (j ≡ k → T b) → (j ≡ k) ⊎ (j ≡ k → ⊥)
-    go true u v = inl (u tt)
-    go false u v = inr v
-
 -- six keys of 0 mark six empty slots
 pub kept-none :
     {xs ys angles weights : Row} {width : Float} (total : Float) (rows : Row) → length rows ≡ rowsRoom →
@@ -131,12 +162,15 @@ kept-none total rows m = record { keys = refl; edges = refl; room = m; slot = λ
 module _ {xs ys angles weights : Row} {theta width : Float} {slots : Slots} {rows : Row} where
   -- slot q has theta already
   pub held-here :
-      (q : ℕ) → q < 6 → Kept xs ys angles weights width slots rows → (at (slots .keys) q ≡ theta) × (lt nought theta ≡ true) →
-      Held xs ys angles weights theta width slots rows slots rows q
-  held-here q b h e =
+      (q : ℕ) → q < 6 → Kept xs ys angles weights width slots rows → isSame (at (slots .keys) q) theta ≡ true →
+      (at (slots .keys) q ≡ theta) × (lt nought theta ≡ true) → Held xs ys angles weights theta width slots rows slots rows q
+  unfolding heldSlots heldRows
+  held-here q b h t e =
       record {
-        kept = h;
+        slots-are = rw t;
+        rows-are = rw t;
         total = refl;
+        kept = h;
         here = subst (λ (t : Float). Stands xs ys angles weights t width slots rows q) (e .0)
             (h .slot q b (subst (λ (t : Float). lt nought t ≡ true) (sym (e .0)) (e .1)));
         still = λ j t l o s. s;
@@ -144,19 +178,22 @@ module _ {xs ys angles weights : Row} {theta width : Float} {slots : Slots} {row
 
   -- slot q was filled
   pub held-filled :
-      {rows′ : Row} (edge : Float) (q : ℕ) → q < 6 → Kept xs ys angles weights width slots rows →
+      {rows′ : Row} (edge : Float) (q : ℕ) → q < 6 → Kept xs ys angles weights width slots rows → isSame (at (slots .keys) q) theta ≡ false →
       edge ≡ refinedSum (length xs) angles weights theta → Filled (length xs) q (axisRow (length xs) xs ys theta width) rows rows′ →
       Held xs ys angles weights theta width slots rows
       (record { keys = set (slots .keys) q theta; edges = set (slots .edges) q edge; total = slots .total }) rows′ q
-  held-filled {rows′} edge q b h e f =
+  unfolding heldSlots heldRows
+  held-filled {rows′} edge q b h t e f =
       record {
+        slots-are = rw (t, e);
+        rows-are = rw t (f .is);
+        total = refl;
         kept = record {
           keys = length-set (slots .keys) q theta ∙ h .keys;
           edges = length-set (slots .edges) q edge ∙ h .edges;
           room = f .room ∙ h .room;
           slot = λ j l g. slot j l g;
         };
-        total = refl;
         here = here;
         still = still;
       }
@@ -168,7 +205,7 @@ module _ {xs ys angles weights : Row} {theta width : Float} {slots : Slots} {row
       here =
           record {
             key = getD-set-same (slots .keys) q theta nan (omega (arith, h .keys));
-            row = f .here;
+            row = filled-here f b;
             edge = getD-set-same (slots .edges) q edge nan (omega (arith, h .edges)) ∙ e;
           }
 
@@ -178,7 +215,7 @@ module _ {xs ys angles weights : Row} {theta width : Float} {slots : Slots} {row
       still j t l o s =
           record {
             key = getD-set-other (slots .keys) q j theta nan o ∙ s .key;
-            row = f .other j l o ∙ s .row;
+            row = filled-other f j l o ∙ s .row;
             edge = getD-set-other (slots .edges) q j edge nan o ∙ s .edge;
           }
 

@@ -91,7 +91,7 @@ pub fn build_axis_rows(
 
 // Above 0 equal numbers are one value: a key of 0 marks an empty slot.
 fn is_same(key: f32, theta: f32) -> bool
-    ensures { λ r. ⌜ (r ≡ true → (key ≡ theta) × (lt nought theta ≡ true)) ⌝ }
+    ensures { λ r. ⌜ (r ≡ R.isSame key theta) × (r ≡ true → (key ≡ theta) × (lt nought theta ≡ true)) ⌝ }
 {
     if key == theta {
         return theta > 0.0;
@@ -103,7 +103,7 @@ fn is_same(key: f32, theta: f32) -> bool
 // best itself stands there. `from` is the axis's first slot.
 pub fn slot_of(slots: Slots, from: usize, base: f32, theta: f32, k: usize) -> usize
     requires { ⌜ (from ≤ 3) × (k < 3) ⌝ }
-    ensures { λ r. ⌜ (from ≤ r) × (r < from + 3) ⌝ }
+    ensures { λ r. ⌜ (r ≡ R.slotOf slots from base theta k) × (from ≤ r) × (r < from + 3) ⌝ }
 {
     let middle = from + 1;
     let last = from + 2;

@@ -6,7 +6,6 @@ use Prim.Native.Nat.{ℕ, _+_, _*_, _≤_}
 use lib.ListN.{length}
 use lib.Dec.{ltb, eqb}
 use Rattle.hex.specs.Hex.{allHex, byteOf}
-use Rattle.shapes.specs.declared.Fault.{Fault}
 use Rattle.shapes.specs.declared.Fault.the-variants.{TooLong, Foreign, Short, OtherType, RingLength, DiskShort, DiskLength}
 use Rattle.shapes.specs.declared.Shape.{Shape}
 use Rattle.shapes.specs.declared.Shape.the-variants.{Ring, Disk, BadCount, Malformed}

@@ -27,7 +27,11 @@ returns-2 c = let s = c .before .before .before in
 
 narrow-bits-requires-2 : tie.Need-narrow-bits-requires-2
 narrow-bits-requires-2 c κs = let s = c .before .before in
-    omega (arith, unsigned-le binary64 (s .args .x) (of-true (s .good .0 .1)) (not-nan (s .args .x) (c .before .if1 .left)), toBits-lt binary64 (s .args .x) (of-true (s .good .0 .1)))
+    omega (
+      arith,
+      unsigned-le binary64 (s .args .x) (of-true (s .good .0 .1)) (not-nan (s .args .x) (c .before .if1 .left)),
+      toBits-lt binary64 (s .args .x) (of-true (s .good .0 .1)),
+    )
 
 returns-3 : tie.Need-returns-3
 returns-3 c = let s = c .before .before .before in

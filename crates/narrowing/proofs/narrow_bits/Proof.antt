@@ -32,15 +32,22 @@ rounded-requires : tie.Need-rounded-requires
 rounded-requires c κs = omega (arith, power-in (c .power .result) _ (c .power .ensures) (omega arith))
 
 cast-result : tie.Need-cast-result
-cast-result c = omega (arith, kept-low-in (c .rounded .result) (c .before .before .before .before .before .args .b) _ _ (c .rounded .ensures) (c .before .power .ensures) (omega arith))
+cast-result c =
+    let at-args = c .before .before .before .before .before .args in
+    let at-power = c .before .power in
+    omega (arith, kept-low-in (c .rounded .result) (at-args .b) _ _ (c .rounded .ensures) (at-power .ensures) (omega arith))
 
 float-from-bits-result-2 : tie.Need-float-from-bits-result-2
-float-from-bits-result-2 c = no-nan32 (c .rounded .result) (omega (arith, kept-low-in (c .rounded .result) (c .before .before .before .before .before .args .b) _ _ (c .rounded .ensures) (c .before .power .ensures) (omega arith)))
+float-from-bits-result-2 c =
+    let at-args = c .before .before .before .before .before .args in
+    let at-power = c .before .power in
+    no-nan32 (c .rounded .result) (omega (arith, kept-low-in (c .rounded .result) (at-args .b) _ _ (c .rounded .ensures) (at-power .ensures) (omega arith)))
 
 returns-3 : tie.Need-returns-3
 returns-3 c = let s = c .before .before .before .before .before in
     let b = s .args .b in
-    ap (ofBits binary32) (c .rounded .ensures ∙ ap (closest (4503599627370496 + b % 4503599627370496)) (c .before .power .ensures)) ∙ narrow-under b (s .pre) (omega arith) (omega arith)
+    ap (ofBits binary32) (c .rounded .ensures ∙ ap (closest (4503599627370496 + b % 4503599627370496)) (c .before .power .ensures)) ∙
+    narrow-under b (s .pre) (omega arith) (omega arith)
 
 rounded-requires-2 : tie.Need-rounded-requires-2
 rounded-requires-2 c κs = search needs

@@ -1,4 +1,5 @@
--- Multiples dropped on the way are multiples of the whole, so each turn keeps the remainder, and 24 digits moved up by fewer than 32 places fit. Assumes nothing.
+-- Multiples dropped on the way are multiples of the whole, so each turn keeps the remainder, and 24 digits moved up by fewer than 32 places fit.
+-- Assumes nothing.
 use Prim.Native.Nat.{ℕ, _*_, _%_, _^_, _<_}
 use mathlib.Core.Path.{_≡_, refl, ap, _∙_}
 use native.Mathlib.Nat.{le-of-lt, lt-of-le-of-lt, mod-eq-of-lt, mul-le-mul}

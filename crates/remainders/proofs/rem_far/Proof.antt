@@ -64,7 +64,8 @@ step-requires c κs = search needs
 returns-2 : tie.Need-returns-2
 returns-2 c = let i = c .before .before .before in
     let s = i .before in
-    far-rem (s .args .x) (s .args .q) (s .pre .0) (of-true (s .good .0 .1)) (tame (s .args .x) (i .if1 .left)) (s .pre .1) (c .step .result) (c .before .before .reduced .result) (c .step .ensures) (c .before .before .reduced .ensures)
+    far-rem (s .args .x) (s .args .q) (s .pre .0) (of-true (s .good .0 .1)) (tame (s .args .x) (i .if1 .left)) (s .pre .1) (c .step .result)
+    (c .before .before .reduced .result) (c .step .ensures) (c .before .before .reduced .ensures)
 
 pub rem-far-spec : {M : Type 1} → statement M
 rem-far-spec =

@@ -11,7 +11,8 @@ use Rattle.remainders.proofs.rem_tau.Tie as tie
 
 returns : tie.Need-returns
 returns c = let s = c .before .before in
-    rem-within binary32 (s .args .x) tau W (lit< tt) (of-true (s .good .0 .1)) tau-val tau-rep (within-if (s .args .x) tau (c .before .if1 .taken) (c .if2 .taken))
+    rem-within binary32 (s .args .x) tau W (lit< tt) (of-true (s .good .0 .1)) tau-val tau-rep
+    (within-if (s .args .x) tau (c .before .if1 .taken) (c .if2 .taken))
 
 rem-far-requires : tie.Need-rem-far-requires
 rem-far-requires c κs = let x = c .before .args .x in

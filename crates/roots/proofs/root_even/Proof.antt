@@ -72,7 +72,8 @@ assembled-requires c κs =
 returns : tie.Need-returns
 returns c =
     c .assembled .ensures
-    ∙ near (c .before .before .args .m) (c .before .nearest-root .result) (omega arith) (omega arith) (c .before .nearest-root .ensures .0) (c .before .nearest-root .ensures .1) (c .before .before .args .h) (omega arith)
+    ∙ near (c .before .before .args .m) (c .before .nearest-root .result) (omega arith) (omega arith) (c .before .nearest-root .ensures .0)
+    (c .before .nearest-root .ensures .1) (c .before .before .args .h) (omega arith)
 
 pub root-even-spec : {M : Type 1} → statement M
 root-even-spec = tie.close (tie.spec nearest-root-requires assembled-requires returns)

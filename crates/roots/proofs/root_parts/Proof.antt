@@ -59,10 +59,12 @@ split m j h = go (ltb 0 (j % 2)) refl
     go : (b : Bool) → ltb 0 (j % 2) ≡ b → m * 8388608 * (1 + (1 - j % 2)) * (2 ^ ((j - 23 - (1 - j % 2)) / 2) * 2 ^ ((j - 23 - (1 - j % 2)) / 2)) ≡ m * 2 ^ j
     go true t =
         let l : 0 < j % 2 = ltb-true 0 (j % 2) t in
-        same (m * 8388608 * (1 + (1 - j % 2))) (m * 8388608) (j - 23 - (1 - j % 2)) (j - 23) (ap (λ (z : ℕ). m * 8388608 * z) (none j l) ∙ mul-one (m * 8388608)) (still j l) ∙ odd-split m j (omega arith) (odd j l)
+        same (m * 8388608 * (1 + (1 - j % 2))) (m * 8388608) (j - 23 - (1 - j % 2)) (j - 23) (ap (λ (z : ℕ). m * 8388608 * z) (none j l) ∙
+        mul-one (m * 8388608)) (still j l) ∙ odd-split m j (omega arith) (odd j l)
     go false t =
         let l : j % 2 ≤ 0 = ltb-false 0 (j % 2) t in
-        same (m * 8388608 * (1 + (1 - j % 2))) (m * 16777216) (j - 23 - (1 - j % 2)) (j - 24) (ap (λ (z : ℕ). m * 8388608 * z) (one j l) ∙ mul-assoc m 8388608 2) (less j l) ∙ even-split m j h (even j l)
+        same (m * 8388608 * (1 + (1 - j % 2))) (m * 16777216) (j - 23 - (1 - j % 2)) (j - 24) (ap (λ (z : ℕ). m * 8388608 * z) (one j l) ∙
+        mul-assoc m 8388608 2) (less j l) ∙ even-split m j h (even j l)
 
 sub-wide : tie.Need-sub-wide
 sub-wide c = search needs
@@ -93,7 +95,11 @@ sub-root-even-2 c = search needs
 
 root-even-requires : tie.Need-root-even-requires
 root-even-requires c κs =
-    omega (arith, most (c .before .args .m) (1 - c .before .args .j % 2) (omega arith) (omega arith), least (c .before .args .m) (1 - c .before .args .j % 2) (omega arith))
+    omega (
+      arith,
+      most (c .before .args .m) (1 - c .before .args .j % 2) (omega arith) (omega arith),
+      least (c .before .args .m) (1 - c .before .args .j % 2) (omega arith),
+    )
 
 returns : tie.Need-returns
 returns c = c .root-even .ensures ∙ ap (rootUnits binary32) (split (c .before .before .args .m) (c .before .before .args .j) (omega arith))

@@ -25,12 +25,20 @@ add-i : tie.Need-add-i Inv-loop μ-loop
 add-i c = omega arith
 
 loop-less : tie.Need-loop-less Inv-loop μ-loop
-loop-less c = omega (arith, few-shifts (c .before .before .args .t) (c .before .loop .m) (c .before .loop .i) (c .before .before .pre .0) (c .before .loop .inv .0) (c .loop-test .taken))
+loop-less c =
+    let at-args = c .before .before .args in
+    let at-loop = c .before .loop in
+    let at-pre = c .before .before .pre in
+    omega (arith, few-shifts (at-args .t) (at-loop .m) (at-loop .i) (at-pre .0) (at-loop .inv .0) (c .loop-test .taken))
 
 loop-again : tie.Need-loop-again Inv-loop μ-loop
 loop-again c = (
   shift-more (c .before .before .args .t) (c .before .loop .m) (c .before .loop .i) (c .before .loop .inv .0),
-  omega (arith, few-shifts (c .before .before .args .t) (c .before .loop .m) (c .before .loop .i) (c .before .before .pre .0) (c .before .loop .inv .0) (c .loop-test .taken)),
+  omega (
+    arith,
+    few-shifts (c .before .before .args .t) (c .before .loop .m) (c .before .loop .i) (c .before .before .pre .0)
+        (c .before .loop .inv .0) (c .loop-test .taken),
+  ),
   omega arith,
 )
 

@@ -30,8 +30,11 @@ root-bits-requires : tie.Need-root-bits-requires
 root-bits-requires c κs = let s = c .before .before .before .before in
     let x = s .args .x in
     let f = of-true (s .good .0 .1) in
-    let e = subst (λ (z : Float). eq x z ≡ false) zero32 (c .before .before .if2 .left) in
-    (pattern-above x f e, upright x f (c .before .before .before .if1 .left) e (subst (λ (z : Float). lt x z ≡ false) zero32 (c .before .if3 .left)) (c .if4 .left))
+    let e = subst (λ (z : Float). eq x z ≡ false) zero32 (c .before .before .if2 .left) in (
+      pattern-above x f e,
+      upright x f (c .before .before .before .if1 .left) e (subst (λ (z : Float). lt x z ≡ false) zero32 (c .before .if3 .left))
+          (c .if4 .left),
+    )
 
 returns-5 : tie.Need-returns-5
 returns-5 c = let s = c .before .before .before .before .before in

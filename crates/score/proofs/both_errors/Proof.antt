@@ -10,11 +10,22 @@ returns c = rw (← c .before .before .before .solve-4x4 .ensures, c .before .en
 
 returns-2 : tie.Need-returns-2
 unfolding bothErrors
-returns-2 c = rw (← c .before .before .before .before .before .before .before .before .solve-4x4 .ensures, c .before .before .before .before .before .before .c2 .given .1, ← c .before .before .before .solve-4x42 .ensures, c .before .enum-told2 .given .1) (c .unknown2 .ensures)
+returns-2 c =
+    let at-solve-4x4 = c .before .before .before .before .before .before .before .before .solve-4x4 in
+    let at-c2 = c .before .before .before .before .before .before .c2 in
+    let at-solve-4x42 = c .before .before .before .solve-4x42 in
+    let at-enum-told2 = c .before .enum-told2 in
+    rw (← at-solve-4x4 .ensures, at-c2 .given .1, ← at-solve-4x42 .ensures, at-enum-told2 .given .1) (c .unknown2 .ensures)
 
 returns-3 : tie.Need-returns-3
 unfolding bothErrors
-returns-3 c = rw (← c .before .before .before .before .before .before .before .before .before .before .solve-4x4 .ensures, c .before .before .before .before .before .before .before .before .c2 .given .1, ← c .before .before .before .before .before .solve-4x42 .ensures, c .before .before .before .c3 .given .1, c .before .axis-error .ensures, c .axis-error2 .ensures)
+returns-3 c =
+    let at-solve-4x4 = c .before .before .before .before .before .before .before .before .before .before .solve-4x4 in
+    let at-c2 = c .before .before .before .before .before .before .before .before .c2 in
+    let at-solve-4x42 = c .before .before .before .before .before .solve-4x42 in
+    let at-c3 = c .before .before .before .c3 in
+    let at-axis-error = c .before .axis-error in
+    rw (← at-solve-4x4 .ensures, at-c2 .given .1, ← at-solve-4x42 .ensures, at-c3 .given .1, at-axis-error .ensures, c .axis-error2 .ensures)
 
 pub both-errors-spec : {M : Type 1} → statement M
 both-errors-spec =

@@ -1,4 +1,5 @@
 -- Where the key is theta its row stands there already, and else the slot is filled and theta becomes its key. Assumes nothing.
+use mathlib.Core.Path.{sym, _∙_}
 use Rattle.search_rows.specs.RowsLaws.{held-here, held-filled}
 use borrow.Author.Needs.{needs}
 use Rattle.search_rows.proofs.hold.Statement.{statement}
@@ -7,13 +8,15 @@ use Rattle.search_rows.proofs.hold.Tie as tie
 returns : tie.Need-returns
 returns c =
     let s = c .before .before .before .before .before .before .before .before in
-    held-here _ (s .pre .0) (s .pre .2) (c .before .is-same .ensures (c .if1 .taken))
+    let same = c .before .is-same .ensures in
+    held-here _ (s .pre .0) (s .pre .2) (sym (same .0) ∙ c .if1 .taken) (same .1 (c .if1 .taken))
 
 returns-2 : tie.Need-returns-2
 returns-2 c =
     let c2 = c .before .before in
-    let s = c2 .before .before .before .before .before .before .before .before .before .before in
-    held-filled _ _ (s .pre .0) (s .pre .2) (c2 .fill-row .ensures .0) (c2 .fill-row .ensures .1)
+    let t = c2 .before .before in
+    let s = t .before .before .before .before .before .before .before .before in
+    held-filled _ _ (s .pre .0) (s .pre .2) (sym (t .before .is-same .ensures .0) ∙ t .if1 .left) (c2 .fill-row .ensures .0) (c2 .fill-row .ensures .1)
 
 pub hold-spec : {M : Type 1} → statement M
 hold-spec =
