@@ -1,18 +1,21 @@
 -- The first value that is not finite: a search goes on, ends here or finds nothing, and in lists one behind the other it is the first of the first that has one. Assumes nothing.
 use mathlib.Core.Path.{_≡_, refl, sym, ap, subst, _∙_}
-use mathlib.Core.Bool.{Bool, true, false, cond}
+use mathlib.Core.Logic.{_⊎_, inl, inr}
+use mathlib.Core.Bool.{Bool, true, false, cond, false≢true}
 use mathlib.Core.List.{List, [], _∷_, _++_}
 use Prim.Native.Nat.{ℕ, zero, suc, _+_, _*_, _-_, _%_, _<_, _≤_}
 use native.Mathlib.Omega.{arith}
+use native.Mathlib.Nat.{eq-or-lt-of-le, le-of-suc-le-suc}
 use lib.ListN.{length, getD, length-append, List·getD-append}
 use lib.Seq.{getD-append-add}
 use lib.Dec.{T}
 use lib.Ieee.{Float, nan}
 use lib.Ieee.Scale.{finite}
+use Rattle.loops.specs.Loops.{iter}
 use Rattle.checked.specs.declared.Wild.{Wild}
 use Rattle.checked.specs.declared.Wild.the-variants.{At, Clean}
 use Rattle.checked.specs.declared.DiskAnswer.the-variants as Disks
-use Rattle.checked.specs.Checked.{wildFrom, firstWild}
+use Rattle.checked.specs.Checked.{wildFrom, firstWild, stillFine, allFinite}
 
 module _ (l : List Float) (n i : ℕ) (h : i < n) where
   pub wild-skip : finite (getD l i nan) ≡ true → wildFrom l (n - (i + 1)) (i + 1) ≡ wildFrom l (n - i) i
@@ -26,6 +29,34 @@ module _ (l : List Float) (n i : ℕ) (h : i < n) where
 pub wild-none : (l : List Float) (i : ℕ) → Clean ≡ wildFrom l 0 i
 unfolding wildFrom
 wild-none l i = refl
+
+-- where all are finite the search finds nothing
+all-fine : (l : List Float) (n : ℕ) → iter (λ i. stillFine (getD l i nan)) true n ≡ true → (i : ℕ) → i < n → finite (getD l i nan) ≡ true
+unfolding iter
+all-fine l zero e i h = absurd (none h)
+  where
+    none : i < 0 → ⊥
+    none h = omega arith
+all-fine l (suc n) e i h =
+    let both = split (finite (getD l n nan)) _ e in
+    go (both .0) (λ k. all-fine l n (both .1) i k) (eq-or-lt-of-le (le-of-suc-le-suc h))
+  where
+    split : (a b : Bool) → cond a b false ≡ true → (a ≡ true) × (b ≡ true)
+    split true b e = (refl, e)
+    split false b e = absurd (false≢true e)
+
+    go : finite (getD l n nan) ≡ true → (i < n → finite (getD l i nan) ≡ true) → (i ≡ n) ⊎ (i < n) → finite (getD l i nan) ≡ true
+    go here earlier (inl q) = rw q here
+    go here earlier (inr k) = earlier k
+
+clean-from : (l : List Float) (left i : ℕ) → ((j : ℕ) → j < i + left → finite (getD l j nan) ≡ true) → Clean ≡ wildFrom l left i
+unfolding wildFrom
+clean-from l zero i h = refl
+clean-from l (suc left) i h = rw (h i (omega arith)) (clean-from l left (i + 1) (λ j k. h j (omega arith)))
+
+pub all-clean : (l : List Float) → allFinite l ≡ true → Clean ≡ firstWild l
+unfolding allFinite firstWild
+all-clean l e = clean-from l (length l) 0 (λ j k. all-fine l (length l) e j (omega arith))
 
 -- a place that is found is one of the values
 abbrev pub Below : ℕ → Wild → Type 0

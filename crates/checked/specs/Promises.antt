@@ -10,9 +10,8 @@ use lib.Ieee.{Float, nan, lt, le, eq, isNan}
 use lib.Ieee.Scale.{finite}
 use Rattle.floats.specs.Ops.{lit, nought, pi, tau}
 use Rattle.floats.specs.FiniteLaws.{of-true}
-use Rattle.robust.specs.Robust.{fitRing}
+use Rattle.robust.specs.Robust.{fitRing, ringSum}
 use Rattle.robust.specs.SoundLaws.{SoundRing, ring-sound}
-use Rattle.robust.specs.Residual.{ringSum}
 use Rattle.robust.specs.ResidualLaws.{ring-tiny}
 use Rattle.robust.specs.declared.RingFit.{RingFit}
 use Rattle.score.specs.Score.{fitStdErrors, widthsPx}
@@ -175,15 +174,17 @@ module _ (samples angles : List Float) where
     pub ring-amplitude : T (isNan (value 0) || le nought (value 0))
     ring-amplitude = rw values-are (sound .fit .size)
 
-    -- A residual of 0 is never a non-number in disguise: the sum of squares that the rms was made of is a number and at most 2 ^ -146, the largest whose sixteenth rounds to 0.
-    -- `ringSum` is that sum, and `ring-made` of robust's ResidualLaws says of every ring that the rms is the root of its sixteenth, or, for a start that is refused, of the greater of that and 0.
-    pub ring-zero : eq (value 5) nought ≡ true → T (not (isNan (ringSum 16 samples angles))) × T (le (ringSum 16 samples angles) (lit 0x0000_0008))
+    -- A residual of 0 is never a non-number in disguise: the sum of squares that the rms was made of is a number, not below 0, and at most 2 ^ -146, the
+    -- largest whose sixteenth rounds to 0. `ringSum` is the sum of the answered start, and `ring-made` of robust's ResidualLaws says of every ring that
+    -- the rms is the root of its sixteenth, or, for a start that is refused, of the greater of that and 0.
+    pub ring-zero : eq (value 5) nought ≡ true
+        → T (not (isNan (ringSum 16 samples angles))) × T (le nought (ringSum 16 samples angles)) × T (le (ringSum 16 samples angles) (lit 0x0000_0008))
     ring-zero z =
         let n = answered-is-the-fit .sixteen in
         let each : (i : ℕ) → i < 16 → T (finite (getD samples i nan)) =
         λ i h. as-true (sym (ap finite (List·getD-append samples angles nan i (omega (arith, n)))) ∙ answered-finite .1 i (omega (arith, answered-finite .0))) in
         let t = ring-tiny samples angles each (rw values-are at z) in
-        (t .number, t .small)
+        (t .number, t .above, t .small)
 
 -- ---- the disk
 module _ (D : DiskData) (base0 base1 : Float) where

@@ -8,7 +8,6 @@ use solver_elimination::Errors;
 ghost use mathlib.Core.Path.{_≡_};
 ghost use Prim.Native.Nat.{_<_, _≤_};
 ghost use lib.ListN.{length};
-ghost use Rattle.robust.specs.Robust.{fitRing};
 ghost use lib.Ieee.{Float};
 ghost use Rattle.data.specs.Data.{diskOf, OfPixels};
 ghost use Rattle.checked.specs.Checked as C;
@@ -26,7 +25,27 @@ pub enum RingAnswer {
     Refused(u8, u16),
 }
 
-pub fn first_wild(xs: &[f32]) -> Wild
+fn still_fine(fine: bool, x: f32) -> bool
+    ensures { λ r. ⌜ r ≡ C.stillFine x fine ⌝ }
+{
+    if floats::is_finite(x) {
+        return fine;
+    }
+    false
+}
+
+fn all_finite(xs: &[f32]) -> bool
+    ensures { λ r. ⌜ r ≡ C.allFinite (now (xs .entry)) ⌝ }
+{
+    let n = xs.len();
+    let mut fine = true;
+    for i in 0..n {
+        fine = still_fine(fine, xs[i]);
+    }
+    fine
+}
+
+fn find_wild(xs: &[f32]) -> Wild
     requires { ⌜ length (now xs) < 4096 ⌝ }
     ensures { λ r. ⌜ (r ≡ C.firstWild (now (xs .entry))) × Below (length (now (xs .entry))) r ⌝ }
 {
@@ -38,6 +57,17 @@ pub fn first_wild(xs: &[f32]) -> Wild
         return Wild::At(i as u16);
     }
     Wild::Clean
+}
+
+// Whether all are finite is asked first: that loop becomes vector code, and the place is looked for only where it is needed.
+pub fn first_wild(xs: &[f32]) -> Wild
+    requires { ⌜ length (now xs) < 4096 ⌝ }
+    ensures { λ r. ⌜ (r ≡ C.firstWild (now (xs .entry))) × Below (length (now (xs .entry))) r ⌝ }
+{
+    if all_finite(xs) {
+        return Wild::Clean;
+    }
+    find_wild(xs)
 }
 
 // The place of a value that is not finite among all values, or what comes later.
@@ -70,36 +100,11 @@ fn errors_known(e1: f32, e2: f32) -> bool
     true
 }
 
-// The fit of 16 samples, with its working buffers on this call's stack.
-fn fit_16(samples: &[f32], angles: &[f32]) -> RingFit
-    requires { ⌜ (length (now samples) ≡ 16) × (length (now angles) ≡ 16) ⌝ }
-    ensures { λ r. ⌜ r ≡ fitRing 16 (now (samples .entry)) (now (angles .entry)) ⌝ }
-{
-    let mut ss = [0.0f32; 16];
-    let mut cs = [0.0f32; 16];
-    let mut rs = [0.0f32; 16];
-    let mut qs = [0.0f32; 16];
-    let mut d1s = [0.0f32; 16];
-    let mut d2s = [0.0f32; 16];
-    let mut h = [0.0f32; 552];
-    robust::fit_samples(
-        samples,
-        angles,
-        &mut ss,
-        &mut cs,
-        &mut rs,
-        &mut qs,
-        &mut d1s,
-        &mut d2s,
-        &mut h,
-    )
-}
-
 fn ring_fitted(samples: &[f32], angles: &[f32]) -> RingAnswer
     requires { ⌜ (length (now samples) ≡ 16) × (length (now angles) ≡ 16) ⌝ }
     ensures { λ r. ⌜ r ≡ C.ringFitted (now (samples .entry)) (now (angles .entry)) ⌝ }
 {
-    let r = fit_16(samples, angles);
+    let r = robust::fit_ring(samples, angles);
     let f = r.fit;
     let known = errors_known(f.fit_std_error_theta1, f.fit_std_error_theta2);
     RingAnswer::Fitted(r, known)
