@@ -1,7 +1,7 @@
 -- The Gauss-Newton fit from a seed: ring_fit/solver.rs, fit_with_seed and degenerate_fit. Definitions only.
 -- `n` is the number of samples throughout, and `ringPhi` has their angles on the ring; `sphi` and `cphi` are the angles' sines and cosines.
-use mathlib.Core.Bool.{Bool, true, false, cond, not, _&&_, _||_}
-use mathlib.Core.List.{List, [], _∷_}
+use mathlib.Core.Bool.{Bool, cond, not, _&&_, _||_}
+use mathlib.Core.List.{[], _∷_}
 use Prim.Native.Nat.{ℕ, zero, suc, _+_}
 use lib.IntN.{pos}
 use lib.ListN.{getD, set, replicate}

@@ -1,9 +1,8 @@
 -- A pass by rows first and sums after is the pass sample by sample, since the rows are the samples' own and a product commutes; and each way out of
 -- the update loop is one unfolding of the definition. Assumes nothing.
 use mathlib.Core.Path.{_≡_, refl, sym, ap, _∙_}
-use mathlib.Core.Bool.{Bool, true, false, cond}
-use mathlib.Core.List.{List, [], _∷_}
-use mathlib.Core.Logic.{_⊎_, inl, inr}
+use mathlib.Core.Bool.{true, false}
+use mathlib.Core.Logic.{inl, inr}
 use Prim.Native.Nat.{ℕ, zero, suc, _+_, _-_, _*_, _≤_, _<_}
 use native.Mathlib.Nat.{eq-or-lt-of-le}
 use native.Mathlib.Omega.{arith}
@@ -23,13 +22,14 @@ use Rattle.loops.specs.IterLaws.{iter-same}
 use Rattle.loops.specs.TabLaws.{tab-at, tab-length, tab-same}
 use Rattle.solver_elimination.specs.Solve.{Row, Matrix, at, solve4x4}
 use Rattle.solver_elimination.specs.declared.Solved.{Solved}
-use Rattle.solver_elimination.specs.declared.Solved.the-variants.{Values, Failed}
+use Rattle.solver_elimination.specs.declared.Solved.the-variants.{Values}
 use Rattle.solver.specs.declared.Params.{Params}
 use Rattle.solver.specs.declared.Sample.{Sample}
 use Rattle.solver.specs.declared.Sums.{Sums}
 use Rattle.solver.specs.declared.TwoAxisFit.{TwoAxisFit}
 use Rattle.solver.specs.declared.Started.{Started}
-use Rattle.solver.specs.Solver.{sampleAt, Normal, empty, added, grown, pass, cut, small, moved, Step, stay, to, stepOf, Final, updatesFrom, updates, sines, cosines, whole, finished}
+use Rattle.solver.specs.Solver.{sampleAt, Normal, empty, added, grown, pass, cut, small, moved, stay, to, stepOf}
+use Rattle.solver.specs.Solver.{Final, updatesFrom, updates, sines, cosines, whole, finished}
 use Rattle.solver.specs.Buffers.{AllNear, TurnedTo, Sines, Prepared, sampleFrom, Filled, summed, noSums, packed, spread, Stopped}
 
 -- ---- the angles
@@ -60,11 +60,13 @@ near-next ringPhi n a e = record {
     next : (i : ℕ) → i < n + 1 → i ≤ n
     next i l = omega arith
 
-prepared : (ringPhi turned sphi cphi : Row) → length turned ≡ length ringPhi → ((i : ℕ) → i < length ringPhi → at turned i ≡ turn (at ringPhi i)) → Sines turned sphi cphi → Prepared ringPhi sphi cphi
+prepared : (ringPhi turned sphi cphi : Row) → length turned ≡ length ringPhi →
+    ((i : ℕ) → i < length ringPhi → at turned i ≡ turn (at ringPhi i)) → Sines turned sphi cphi → Prepared ringPhi sphi cphi
 unfolding sinCos
 prepared ringPhi turned sphi cphi len each h = record { s = h .s ∙ go (λ x. x .s); c = h .c ∙ go (λ x. x .c) }
   where
-    go : (f : SinCos → Float) → tab (λ i. f (sinCosNear (at turned i))) (length turned) ≡ tab (λ i. f (sinCosNear (turn (at ringPhi i)))) (length ringPhi)
+    go : (f : SinCos → Float) → tab (λ i. f (sinCosNear (at turned i))) (length turned) ≡
+        tab (λ i. f (sinCosNear (turn (at ringPhi i)))) (length ringPhi)
     go f = ap (tab (λ i. f (sinCosNear (at turned i)))) len ∙ tab-same _ _ (length ringPhi) (λ i l. ap (λ (x : Float). f (sinCosNear x)) (each i l))
 
 pub prepared-near : (ringPhi sphi cphi : Row) → AllNear (length ringPhi) ringPhi → Sines ringPhi sphi cphi → Prepared ringPhi sphi cphi
@@ -119,10 +121,13 @@ module _ (js : Row) (i : ℕ) (t : Sample) where
       d2 : at (four js i t) (4 * i + 3) ≡ t .d2
       d2 = getD-set-same c (4 * i + 3) (t .d2) nan (simp length-set (omega arith))
 
-pub filled-next : (f : ℕ → Sample) (js : Row) (i : ℕ) (t : Sample) → 4 * i + 4 ≤ length js → t ≡ f i → ((k : ℕ) → k < i → sampleFrom js k ≡ f k) → (k : ℕ) → k < i + 1 → sampleFrom (four js i t) k ≡ f k
+pub filled-next : (f : ℕ → Sample) (js : Row) (i : ℕ) (t : Sample) → 4 * i + 4 ≤ length js → t ≡ f i →
+    ((k : ℕ) → k < i → sampleFrom js k ≡ f k) → (k : ℕ) → k < i + 1 → sampleFrom (four js i t) k ≡ f k
 filled-next f js i t room e before k h = elim (eq-or-lt-of-le (next h)) [
   | inl z ↦ rw z (at-four js i t room ∙ e)
-  | inr l ↦ rw (before-four js i t (4 * k) (omega arith), before-four js i t (4 * k + 1) (omega arith), before-four js i t (4 * k + 2) (omega arith), before-four js i t (4 * k + 3) (omega arith)) (before k l)
+  | inr l ↦
+      let kept = before-four js i t in
+      rw (kept (4 * k) (omega arith), kept (4 * k + 1) (omega arith), kept (4 * k + 2) (omega arith), kept (4 * k + 3) (omega arith)) (before k l)
 ]
   where
     next : k < i + 1 → k ≤ i
@@ -192,7 +197,8 @@ pub solved-by : (l : Normal) (m : Matrix) (v : Row) (s : Solved) → m ≡ l .m 
 solved-by l m v s em ev e = rw (← em, ← ev) e
 
 -- ---- the start, from where the updates stopped
-pub stopped-at : (p : Params) (l : Normal) (jtj : Matrix) (ssr : Float) (k : ℕ) (f : Final) → jtj ≡ l .m → ssr ≡ l .ssr → record { p = p; last = l; updates = k } ≡ f → Stopped p jtj ssr k f
+pub stopped-at : (p : Params) (l : Normal) (jtj : Matrix) (ssr : Float) (k : ℕ) (f : Final) → jtj ≡ l .m → ssr ≡ l .ssr →
+    record { p = p; last = l; updates = k } ≡ f → Stopped p jtj ssr k f
 stopped-at p l jtj ssr k f em es e =
     record {
       params = ap (λ (x : Final). x .p) e;
@@ -201,8 +207,10 @@ stopped-at p l jtj ssr k f em es e =
       updates = ap (λ (x : Final). x .updates) e;
     }
 
-pub whole-stopped : (n : ℕ) (p : Params) (jtj : Matrix) (ssr : Float) (k : ℕ) (f : Final) (fit : TwoAxisFit) → Stopped p jtj ssr k f → fit ≡ finished n p jtj ssr → _≡_ {A = Started} (record { fit = fit; updates = k }) (whole n f)
+pub whole-stopped : (n : ℕ) (p : Params) (jtj : Matrix) (ssr : Float) (k : ℕ) (f : Final) (fit : TwoAxisFit) → Stopped p jtj ssr k f →
+    fit ≡ finished n p jtj ssr → _≡_ {A = Started} (record { fit = fit; updates = k }) (whole n f)
 whole-stopped n p jtj ssr k f fit s e = rw (← s .params, ← s .matrix, ← s .squares, ← s .updates, e)
 
-pub whole-prepared : (n : ℕ) (samples ringPhi sphi cphi : Row) (seed : Params) → Prepared ringPhi sphi cphi → length ringPhi ≡ n → whole n (updates n samples sphi cphi seed) ≡ whole n (updates n samples (sines n ringPhi) (cosines n ringPhi) seed)
+pub whole-prepared : (n : ℕ) (samples ringPhi sphi cphi : Row) (seed : Params) → Prepared ringPhi sphi cphi → length ringPhi ≡ n →
+    whole n (updates n samples sphi cphi seed) ≡ whole n (updates n samples (sines n ringPhi) (cosines n ringPhi) seed)
 whole-prepared n samples ringPhi sphi cphi seed h l = rw (h .s, h .c, l)

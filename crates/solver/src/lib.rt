@@ -57,8 +57,8 @@ pub struct Sample {
     pub d2: f32,
 }
 
-// The sums that a pass leaves: of the residuals and of their rows; of their products by two; and of
-// 1, the number of samples.
+// The sums that a pass leaves: of r and the row; of r times each; of the row's products; and of 1,
+// the number of samples. Four fields that stand together are one sum of vector code.
 pub struct Sums {
     pub r: f32,
     pub q: f32,
@@ -144,7 +144,8 @@ pub fn sin_cos_all(turned: &[f32], sphi: &mut [f32], cphi: &mut [f32])
 // Angles are brought below 64 in size first, in a loop of their own: the remainder in `turn` is a
 // call, and would keep the other loop from being vector code.
 pub fn prepare(ring_phi: &[f32], turned: &mut [f32], sphi: &mut [f32], cphi: &mut [f32])
-    requires { ⌜ (length (now turned) ≡ length (now «ring_phi»)) × (length (now sphi) ≡ length (now «ring_phi»)) × (length (now cphi) ≡ length (now «ring_phi»)) ⌝ }
+    requires { ⌜ (length (now turned) ≡ length (now «ring_phi»)) × (length (now sphi) ≡ length (now «ring_phi»)) ×
+        (length (now cphi) ≡ length (now «ring_phi»)) ⌝ }
     ensures { λ _. ⌜ B.Prepared (now («ring_phi» .entry)) (now (sphi .exit)) (now (cphi .exit)) ⌝ }
 {
     if all_near(ring_phi) {
@@ -305,16 +306,15 @@ fn moved(p: Params, d0: f32, d1: f32, d2: f32, d3: f32) -> Params
     }
 }
 
-// Where the updates stopped: the parameters, the last pass's sum of squares, and the count.
+// Where the updates stopped: the parameters, the last pass's sums, and the count.
 struct Run {
     p: Params,
-    ssr: f32,
+    s: Sums,
     count: usize,
 }
 
 // Passes until six updates were made, the elimination fails or the steps are small. The last pass
-// belongs to the final parameters, and leaves its matrix in `jtj`. `pass` is called at two places,
-// which keeps it a function of its own: put in between, its sums would take twice the instructions.
+// belongs to the final parameters, and leaves its matrix in `jtj`.
 fn run_updates(
     samples: &[f32],
     sphi: &[f32],
@@ -324,10 +324,13 @@ fn run_updates(
     jtj: &mut [[f32; 4]; 4],
 ) -> Run
     requires { ⌜ B.Room (now samples) (now sphi) (now cphi) (now js) ⌝ }
-    ensures { λ r. ⌜ B.Stopped (r .p) (now (jtj .exit)) (r .ssr) (r .count) (S.updates (length (now (samples .entry))) (now (samples .entry)) (now (sphi .entry)) (now (cphi .entry)) seed) ⌝ }
+    ensures { λ r. ⌜ B.Stopped (r .p) (now (jtj .exit)) (r .s .rr) (r .count)
+        (S.updates (length (now (samples .entry))) (now (samples .entry)) (now (sphi .entry)) (now (cphi .entry)) seed) ⌝ }
 {
     let mut p = seed;
     let mut count = 0usize;
+    // Two calls, here and at the loop's end, keep `pass` a function of its own: put into the loop, its
+    // sums would be packed as the matrix is, at 47 instructions a sample and not 21.
     let mut s = pass(samples, sphi, cphi, p, js);
     loop {
         let m = matrix_of(s);
@@ -348,11 +351,7 @@ fn run_updates(
         count += 1;
         s = pass(samples, sphi, cphi, p, js);
     }
-    Run {
-        p,
-        ssr: s.rr,
-        count,
-    }
+    Run { p, s, count }
 }
 
 pub fn degenerate_fit(centered_var: f32) -> TwoAxisFit
@@ -424,11 +423,13 @@ pub fn fit_prepared(
     js: &mut [f32],
 ) -> Started
     requires { ⌜ B.Room (now samples) (now sphi) (now cphi) (now js) ⌝ }
-    ensures { λ r. ⌜ r ≡ S.whole (length (now (samples .entry))) (S.updates (length (now (samples .entry))) (now (samples .entry)) (now (sphi .entry)) (now (cphi .entry)) seed) ⌝ }
+    ensures { λ r. ⌜ r ≡ S.whole (length (now (samples .entry)))
+        (S.updates (length (now (samples .entry))) (now (samples .entry)) (now (sphi .entry)) (now (cphi .entry)) seed) ⌝ }
 {
     let mut jtj = [[0.0f32; 4]; 4];
     let run = run_updates(samples, sphi, cphi, seed, js, &mut jtj);
-    let fit = finished(run.p, &jtj, run.ssr, samples.len());
+    let s = run.s;
+    let fit = finished(run.p, &jtj, s.rr, samples.len());
     Started {
         fit,
         updates: run.count,

@@ -1,7 +1,7 @@
 -- A test that says far answers false, and a near angle is its own turned angle. Assumes nothing.
 use mathlib.Core.Path.{_∙_, sym, ap}
 use mathlib.Core.Bool.{false≢true}
-use lib.Ieee.{Float, lt}
+use lib.Ieee.{lt}
 use Rattle.floats.specs.Ops.{lit}
 use Rattle.solver.specs.SolverLaws.{near-turn}
 use borrow.Author.Needs.{needs}
