@@ -5,7 +5,7 @@ use Rattle.solver.proofs.fit_prepared.Statement.{statement}
 use Rattle.solver.proofs.fit_prepared.Tie as tie
 
 returns : tie.Need-returns
-returns c = whole-stopped _ _ _ _ _ _ _ (c .before .before .before .before .run-updates .ensures) (c .finished .ensures)
+returns c = whole-stopped _ _ _ _ _ _ _ (c .before .before .before .before .before .run-updates .ensures) (c .finished .ensures)
 
 pub fit-prepared-spec : {M : Type 1} → statement M
 fit-prepared-spec =
