@@ -1,33 +1,37 @@
 -- What the code's own steps come to: constants as they are derived, a refused start that is never suspicious, and the answers of one or two starts, which
 -- need no sum. Assumes nothing.
 use mathlib.Core.Path.{_≡_, refl, sym, ap, _∙_, subst}
-use mathlib.Core.Bool.{Bool, true, false, cond, not, _||_}
+use mathlib.Core.Bool.{Bool, true, false, cond, not, _||_, false≢true}
+use mathlib.Core.List.{_++_}
 use mathlib.Core.Option.{Option, none, some}
-use Prim.Native.Nat.{ℕ}
+use Prim.Native.Nat.{ℕ, _+_, _-_, _*_, _≤_, zero-le}
 use native.Mathlib.Omega.{arith}
-use lib.ListN.{length}
+use lib.ListN.{length, take, drop}
 use lib.Ieee.{Float, lt, mul, ofBits}
 use lib.Ieee.Scale.{finite}
 use Rattle.floats.specs.Ops.{lit}
 use Rattle.floats.specs.Rows.{Row}
 use Rattle.floats.specs.Library.{toRadians}
-use Rattle.loops.specs.TabLaws.{tab-length}
+use Rattle.loops.specs.TabLaws.{tab-length, part-same}
 use Rattle.solver.specs.Solver.{sines, cosines, updates, whole, degenerate, degenerateFit, fitWithSeed}
-use Rattle.solver.specs.Buffers.{Prepared}
+use Rattle.solver.specs.Buffers.{Prepared, Room}
 use Rattle.solver.specs.SolverLaws.{prepared-length, whole-prepared}
 use Rattle.solver.specs.declared.Params.{Params}
 use Rattle.solver.specs.declared.Started.{Started}
 use Rattle.solver.specs.declared.TwoAxisFit.{TwoAxisFit}
-use Rattle.seed.specs.Seed.{flat}
+use Rattle.seed.specs.Seed.{flat, secondHarmonic}
 use Rattle.seed.specs.declared.Seed.{Seed}
+use Rattle.seed.specs.declared.Seed.the-variants.{Found, Nothing}
+use Rattle.seed.specs.declared.SeedCandidate.{SeedCandidate}
 use Rattle.robust_grid.specs.Grid.{bestOf, bestSeed}
 use Rattle.robust_grid.specs.Places.{Grid, scoreAt}
 use Rattle.robust_grid.specs.PlaceLaws.{grid-best}
+use Rattle.robust.specs.declared.First.{First}
 use Rattle.robust.specs.declared.Second.{Second}
 use Rattle.robust.specs.declared.Second.the-variants.{Made, Missing}
 use Rattle.robust.specs.declared.RingFit.{RingFit}
 use Rattle.robust.specs.Robust as R
-use Rattle.robust.specs.Parts.{startedOf, secondOf, Alone, Chosen}
+use Rattle.robust.specs.Parts.{Ready, Rows, startedOf, secondOf, firstOf, Alone, Chosen}
 
 -- ---- the literals of the code
 pub min-rad-is : R.robustSepTriggerMinRad ≡ lit 0x3f91_361e
@@ -47,6 +51,23 @@ degenerate-calm centeredVar = go (not (finite (degenerateFit centeredVar .rms)))
     go true = refl
     go false = refl
 
+pub refused-calm : {P : Type 0} (f : TwoAxisFit) (centeredVar : Float) → f ≡ degenerateFit centeredVar → R.fitIsSuspicious f ≡ true → P
+refused-calm f centeredVar e t = absurd (false≢true (sym (degenerate-calm centeredVar) ∙ sym (ap R.fitIsSuspicious e) ∙ t))
+
+-- ---- the buffers of a start are those of the solver
+pub ready-room : {samples ringPhi sphi cphi js : Row} → Ready samples ringPhi sphi cphi js → Room samples sphi cphi js
+ready-room {samples} {ringPhi} {sphi} {cphi} r =
+    let l = prepared-length ringPhi sphi cphi (r .sines) in
+    let few = r .few in
+    record { few = omega arith; s = l .0 ∙ r .phi; c = l .1 ∙ r .phi; j = r .j }
+
+pub ready-rows : {samples ringPhi sphi cphi js h : Row} → Ready samples ringPhi sphi cphi js → Rows samples h
+    → (length cphi ≡ length sphi) × (length sphi ≤ 24) × (length h ≡ 24 * length sphi + 2)
+ready-rows {samples} {ringPhi} {sphi} {cphi} r w =
+    let l = prepared-length ringPhi sphi cphi (r .sines) in
+    let n : length sphi ≡ length samples = l .0 ∙ r .phi in
+    (l .1 ∙ sym (l .0), omega (arith, n, r .few), w .places ∙ ap (λ (k : ℕ). 24 * k + 2) (sym n))
+
 -- ---- a start, where it is refused and where the sines and cosines are at hand
 module _ (n : ℕ) (samples ringPhi : Row) (seed : Params) (centeredVar : Float) where
   pub start-refused : {b : Bool} {f : TwoAxisFit} → b ≡ degenerate (seed .amp) centeredVar → b ≡ true → f ≡ degenerateFit centeredVar
@@ -59,7 +80,30 @@ module _ (n : ℕ) (samples ringPhi : Row) (seed : Params) (centeredVar : Float)
   unfolding fitWithSeed
   start-made sphi cphi d t l p h = rw (← d, t) (h ∙ whole-prepared n samples ringPhi sphi cphi seed p l)
 
--- ---- the grid's start: refused by the sum of squares, or made
+-- ---- the one seed's start
+module _ (n : ℕ) (samples ringPhi : Row) (centeredVar : Float) (top : Seed) where
+  pub refined-missing : top ≡ Nothing → Missing ≡ secondOf (R.refineSeedCandidates n samples ringPhi centeredVar top)
+  unfolding R.refineSeedCandidates
+  refined-missing e = rw e refl
+
+  pub refined-made : (s : SeedCandidate) (f : Started) → top ≡ Found s → f ≡ fitWithSeed n samples ringPhi (R.seeded s) centeredVar
+      → Made f ≡ secondOf (R.refineSeedCandidates n samples ringPhi centeredVar top)
+  unfolding R.refineSeedCandidates R.start
+  refined-made s f e h = rw e (ap Made h)
+
+-- ---- the grid's start: refused by the variance or the sum of squares, or made
+-- the centred samples stand at the front of js
+pub centered-part : (n : ℕ) (samples : Row) (mean : Float) (js row x : Row) → row ≡ R.centeredOf n samples mean
+    → take (n - 0) (drop 0 (take 0 js ++ (row ++ x))) ≡ R.centeredOf n samples mean
+centered-part n samples mean js row x e =
+    let l : n ≡ n - 0 = omega arith in
+    part-same js row x 0 (n - 0) zero-le (ap length e ∙ tab-length _ n ∙ l) ∙ e
+
+pub grid-low : (n : ℕ) (samples ringPhi : Row) (mean centeredVar : Float) → lt centeredVar (lit 0x3586_37bd) ≡ true
+    → Missing ≡ secondOf (R.robustGridFit n samples ringPhi mean centeredVar)
+unfolding R.robustGridFit
+grid-low n samples ringPhi mean centeredVar e = rw e refl
+
 module _ (n : ℕ) (samples ringPhi : Row) (mean centeredVar : Float) (centered : Row) (centeredSs : Float) where
   sum-is : centered ≡ R.centeredOf n samples mean → centeredSs ≡ R.squares (length centered) centered → centeredSs ≡ R.squares n (R.centeredOf n samples mean)
   sum-is ec es = es ∙ ap (λ (k : ℕ). R.squares k centered) (ap length ec ∙ tab-length _ n) ∙ ap (R.squares n) ec
@@ -88,11 +132,19 @@ module _ (n : ℕ) (samples ringPhi : Row) (mean centeredVar : Float) (centered 
       let lc : length centered ≡ n = ap length ec ∙ tab-length _ n in
       let best : top ≡ bestSeed n sphi cphi centered centeredSs mean =
       eh ∙ ap (λ (k : ℕ). bestOf (scoreAt k h centered centeredSs mean)) lc ∙ grid-best (subst (Grid sphi cphi h) ls g) centered centeredSs mean in
-      let es : sphi ≡ sines n ringPhi = p .s ∙ ap (λ (k : ℕ). sines k ringPhi) el in
-      let ek : cphi ≡ cosines n ringPhi = p .c ∙ ap (λ (k : ℕ). cosines k ringPhi) el in
-      rw (ev, t, ← ec, ← s, ← es, ← ek, ← best) er
+      let eS : sphi ≡ sines n ringPhi = p .s ∙ ap (λ (k : ℕ). sines k ringPhi) el in
+      let eC : cphi ≡ cosines n ringPhi = p .c ∙ ap (λ (k : ℕ). cosines k ringPhi) el in
+      rw (ev, t, ← s, ← ec, ← eS, ← eC, ← best) er
 
--- ---- the answers of one start, and of two
+-- ---- the answers of one start, and of two; the number of samples by its name
+pub chosen-at : (m n : ℕ) (samples ringPhi : Row) (mean centeredVar : Float) (primary : Started) (s : Second) (r : RingFit)
+    → s ≡ secondOf (R.robustGridFit m samples ringPhi mean centeredVar) → m ≡ n → Chosen primary s r
+    → Chosen primary (secondOf (R.robustGridFit n samples ringPhi mean centeredVar)) r
+chosen-at m n samples ringPhi mean centeredVar primary s r e l c = rw (← l, ← e) c
+
+pub first-at : (m n : ℕ) (samples ringPhi : Row) (f : First) → f ≡ firstOf m samples ringPhi → m ≡ n → f ≡ firstOf n samples ringPhi
+first-at m n samples ringPhi f e l = rw (← l) e
+
 pub alone-is : (primary : Started) → Alone primary (record { fit = primary .fit; starts = 1; first = primary .updates; second = 0 })
 alone-is primary = record { is = λ f e. rw e }
 
@@ -132,3 +184,28 @@ module _ (primary : Started) (s : Second) where
         where
           answer : TwoAxisFit → ℕ → ℕ → RingFit
           answer x m n = record { fit = x; starts = 2; first = m; second = n }
+
+-- ---- the whole fit: the first start is not suspicious, or is followed by the grid's
+module _ (n : ℕ) (samples ringPhi : Row) (f : First) (r : RingFit) (e : f ≡ firstOf n samples ringPhi) where
+  abbrev mean : Float
+  mean = R.meanOf n samples
+
+  abbrev centeredVar : Float
+  centeredVar = R.varianceOf n samples mean
+
+  abbrev primary : R.Start
+  primary = R.start n samples ringPhi (R.firstSeed (secondHarmonic n samples ringPhi mean) mean) centeredVar
+
+  pub ring-alone : R.fitIsSuspicious (f .primary .fit) ≡ false → Alone (f .primary) r → r ≡ R.fitRing n samples ringPhi
+  unfolding R.fitRing R.ring R.start
+  ring-alone t a =
+      let calm : R.fitIsSuspicious (primary .fit) ≡ false = ap (λ (x : First). R.fitIsSuspicious (x .primary .fit)) (sym e) ∙ t in
+      rw calm (subst (λ (x : First). Alone (x .primary) r) e a .is primary refl)
+
+  pub ring-chosen : R.fitIsSuspicious (f .primary .fit) ≡ true
+      → Chosen (f .primary) (secondOf (R.robustGridFit n samples ringPhi (f .mean) (f .«centered_var»))) r → r ≡ R.fitRing n samples ringPhi
+  unfolding R.fitRing R.ring R.start
+  ring-chosen t c =
+      let due : R.fitIsSuspicious (primary .fit) ≡ true = ap (λ (x : First). R.fitIsSuspicious (x .primary .fit)) (sym e) ∙ t in
+      let second : First → Second = λ x. secondOf (R.robustGridFit n samples ringPhi (x .mean) (x .«centered_var»)) in
+      rw due (subst (λ (x : First). Chosen (x .primary) (second x) r) e c .is primary _ refl refl)

@@ -190,13 +190,13 @@ fn grid_fit(
         return Second::Missing;
     }
     let n = samples.len();
-    center(samples, mean, &mut js[..n]);
-    let centered_ss = squares(&js[..n]);
+    center(samples, mean, &mut js[0..n]);
+    let centered_ss = squares(&js[0..n]);
     if seed::is_flat(centered_ss) {
         return Second::Missing;
     }
     robust_grid::fill_grid(sphi, cphi, h);
-    let top = robust_grid::best_seed(h, &js[..n], centered_ss, mean);
+    let top = robust_grid::best_seed(h, &js[0..n], centered_ss, mean);
     refined(samples, ring_phi, centered_var, top, sphi, cphi, js)
 }
 
@@ -215,7 +215,7 @@ pub fn refine_seed_candidates(
         «centered_var» top) ⌝ }
 {
     let n = ring_phi.len();
-    solver::prepare(ring_phi, &mut js[..n], sphi, cphi);
+    solver::prepare(ring_phi, &mut js[0..n], sphi, cphi);
     refined(samples, ring_phi, centered_var, top, sphi, cphi, js)
 }
 
@@ -235,7 +235,7 @@ pub fn robust_grid_fit(
         mean «centered_var») ⌝ }
 {
     let n = ring_phi.len();
-    solver::prepare(ring_phi, &mut js[..n], sphi, cphi);
+    solver::prepare(ring_phi, &mut js[0..n], sphi, cphi);
     grid_fit(samples, ring_phi, mean, centered_var, sphi, cphi, js, h)
 }
 
@@ -278,7 +278,7 @@ fn start(
         return Started { fit, updates: 0 };
     }
     let n = ring_phi.len();
-    solver::prepare(ring_phi, &mut js[..n], sphi, cphi);
+    solver::prepare(ring_phi, &mut js[0..n], sphi, cphi);
     solver::fit_prepared(samples, seed, sphi, cphi, js)
 }
 
@@ -297,7 +297,7 @@ fn first_start(
     let count = floats::count_f32(n);
     let mean = total(samples) / count;
     let centered_var = deviations(samples, mean) / count;
-    let h = seed::second_harmonic(samples, ring_phi, mean, &mut js[..n], sphi, cphi);
+    let h = seed::second_harmonic(samples, ring_phi, mean, &mut js[0..n], sphi, cphi);
     let seed = first_seed(h, mean);
     let primary = start(samples, ring_phi, seed, centered_var, sphi, cphi, js);
     First {

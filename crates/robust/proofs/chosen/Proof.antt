@@ -1,0 +1,17 @@
+-- Without a second start the first is answered, with one the lower. Assumes nothing.
+use Rattle.robust.specs.RobustLaws.{chosen-alone, chosen-two}
+use borrow.Author.Needs.{needs}
+use Rattle.robust.proofs.chosen.Statement.{statement}
+use Rattle.robust.proofs.chosen.Tie as tie
+
+returns : tie.Need-returns
+returns c = chosen-alone _ _ _ (c .before .enum-told .given .1) (c .alone .ensures)
+
+returns-2 : tie.Need-returns-2
+returns-2 c = chosen-two _ _ _ _ (c .before .before .before .before .s .given .1) (c .lower .ensures)
+
+pub chosen-spec : {M : Type 1} → statement M
+chosen-spec =
+    tie.close
+    (tie.spec
+    (λ c. search needs) (λ c. search needs) (λ c κs. search needs) returns (λ c κs. search needs) returns-2)
