@@ -7,7 +7,6 @@ use lib.Dec.{eqb, ltb}
 use lib.Ieee.{Float, nan, eq}
 use lib.Ieee.Scale.{finite}
 use Rattle.floats.specs.Ops.{pi}
-use Rattle.loops.specs.Loops.{iter}
 use Rattle.robust.specs.Robust.{fitRing}
 use Rattle.robust.specs.declared.RingFit.{RingFit}
 use Rattle.solver.specs.declared.TwoAxisFit.{TwoAxisFit}
@@ -32,13 +31,6 @@ wildFrom l (suc left) i = cond (finite (getD l i nan)) (wildFrom l left (i + 1))
 
 unfoldable pub firstWild : List Float → Wild
 firstWild l = wildFrom l (length l) 0
-
--- whether all values are finite, told without their places
-abbrev pub stillFine : Float → Bool → Bool
-stillFine x fine = cond (finite x) fine false
-
-unfoldable pub allFinite : List Float → Bool
-allFinite l = iter (λ i. stillFine (getD l i nan)) true (length l)
 
 -- the errors are known unless both equal PI
 unfoldable pub errorsKnown : Float → Float → Bool

@@ -15,7 +15,8 @@ use Rattle.loops.specs.Loops.{iter}
 use Rattle.checked.specs.declared.Wild.{Wild}
 use Rattle.checked.specs.declared.Wild.the-variants.{At, Clean}
 use Rattle.checked.specs.declared.DiskAnswer.the-variants as Disks
-use Rattle.checked.specs.Checked.{wildFrom, firstWild, stillFine, allFinite}
+use Rattle.checked.specs.Checked.{wildFrom, firstWild}
+use Rattle.checked.specs.Parts.{stillFine, allFinite, Below, shiftedBy, loneAt}
 
 module _ (l : List Float) (n i : ℕ) (h : i < n) where
   pub wild-skip : finite (getD l i nan) ≡ true → wildFrom l (n - (i + 1)) (i + 1) ≡ wildFrom l (n - i) i
@@ -59,24 +60,11 @@ unfolding allFinite firstWild
 all-clean l e = clean-from l (length l) 0 (λ j k. all-fine l (length l) e j (omega arith))
 
 -- a place that is found is one of the values
-abbrev pub Below : ℕ → Wild → Type 0
-Below n (At i) = i < n
-Below n Clean = 0 ≤ n
-
 pub below-more : (m n : ℕ) (w : Wild) → m ≤ n → Below m w → Below n w
 below-more m n (At i) h b = omega arith
 below-more m n Clean h b = omega arith
 
 -- ---- lists one behind the other, as the code looks at them
--- a place of a list that stands `off` places behind the start, or what comes later
-abbrev pub shiftedBy : Wild → ℕ → Wild → Wild
-shiftedBy (At i) off next = At (off + i)
-shiftedBy Clean off next = next
-
--- a lone value at its place
-abbrev pub loneAt : Float → ℕ → Wild → Wild
-loneAt x place next = cond (finite x) next (At place)
-
 abbrev moved : ℕ → Wild → Wild
 moved off w = shiftedBy w off Clean
 

@@ -11,7 +11,7 @@ ghost use lib.ListN.{length};
 ghost use lib.Ieee.{Float};
 ghost use Rattle.data.specs.Data.{diskOf, OfPixels};
 ghost use Rattle.checked.specs.Checked as C;
-ghost use Rattle.checked.specs.CheckedLaws.{Below, shiftedBy, loneAt};
+ghost use Rattle.checked.specs.Parts as P;
 
 // Where the first value stands that is not finite.
 pub enum Wild {
@@ -26,7 +26,7 @@ pub enum RingAnswer {
 }
 
 fn still_fine(fine: bool, x: f32) -> bool
-    ensures { λ r. ⌜ r ≡ C.stillFine x fine ⌝ }
+    ensures { λ r. ⌜ r ≡ P.stillFine x fine ⌝ }
 {
     if floats::is_finite(x) {
         return fine;
@@ -35,7 +35,7 @@ fn still_fine(fine: bool, x: f32) -> bool
 }
 
 fn all_finite(xs: &[f32]) -> bool
-    ensures { λ r. ⌜ r ≡ C.allFinite (now (xs .entry)) ⌝ }
+    ensures { λ r. ⌜ r ≡ P.allFinite (now (xs .entry)) ⌝ }
 {
     let n = xs.len();
     let mut fine = true;
@@ -47,7 +47,7 @@ fn all_finite(xs: &[f32]) -> bool
 
 fn find_wild(xs: &[f32]) -> Wild
     requires { ⌜ length (now xs) < 4096 ⌝ }
-    ensures { λ r. ⌜ (r ≡ C.firstWild (now (xs .entry))) × Below (length (now (xs .entry))) r ⌝ }
+    ensures { λ r. ⌜ (r ≡ C.firstWild (now (xs .entry))) × P.Below (length (now (xs .entry))) r ⌝ }
 {
     let n = xs.len();
     for i in 0..n {
@@ -62,7 +62,7 @@ fn find_wild(xs: &[f32]) -> Wild
 // Whether all are finite is asked first: that loop becomes vector code, and the place is looked for only where it is needed.
 pub fn first_wild(xs: &[f32]) -> Wild
     requires { ⌜ length (now xs) < 4096 ⌝ }
-    ensures { λ r. ⌜ (r ≡ C.firstWild (now (xs .entry))) × Below (length (now (xs .entry))) r ⌝ }
+    ensures { λ r. ⌜ (r ≡ C.firstWild (now (xs .entry))) × P.Below (length (now (xs .entry))) r ⌝ }
 {
     if all_finite(xs) {
         return Wild::Clean;
@@ -72,8 +72,8 @@ pub fn first_wild(xs: &[f32]) -> Wild
 
 // The place of a value that is not finite among all values, or what comes later.
 fn shifted(w: Wild, off: u16, next: Wild) -> Wild
-    requires { ⌜ Below 320 w × (off ≤ 4096) ⌝ }
-    ensures { λ r. ⌜ r ≡ shiftedBy w off next ⌝ }
+    requires { ⌜ P.Below 320 w × (off ≤ 4096) ⌝ }
+    ensures { λ r. ⌜ r ≡ P.shiftedBy w off next ⌝ }
 {
     let Wild::At(i) = w else {
         return next;
@@ -82,7 +82,7 @@ fn shifted(w: Wild, off: u16, next: Wild) -> Wild
 }
 
 fn lone(x: f32, place: u16, next: Wild) -> Wild
-    ensures { λ r. ⌜ r ≡ loneAt x place next ⌝ }
+    ensures { λ r. ⌜ r ≡ P.loneAt x place next ⌝ }
 {
     if floats::is_finite(x) {
         return next;

@@ -10,7 +10,8 @@ use native.Mathlib.Omega.{arith}
 use lib.IntN.{ℤ, pos, negsuc}
 use lib.Dec.{T, leb, ltb, eqb, leb→le, nleb→lt, eqb→eq, lt→ltb, lit<}
 use lib.Pow.{pow-pos}
-use lib.Ieee.{Float, nan, inf, fin, Format, binary32, prec, emax, low, up, down, unlike, odd, units, round, sum, add, sub, mul, div, neg, lt, le, eq, fits, isNan, ofInt, ofBits}
+use lib.Ieee.{Float, nan, inf, fin, Format, binary32, prec, emax, low, up, down, unlike, odd, units, round, sum, add, sub, mul, div, neg, lt, le, eq, fits}
+use lib.Ieee.{isNan, ofInt, ofBits}
 use lib.Ieee.Scale.{finite}
 use lib.Ieee.Order.{drop, kept, round-mono}
 use lib.Ieee.Fits.{and-l, down-pos, up-pos, add-fits, div-fits, neg-fits, cond-fits, round-fits, round-is}
@@ -109,7 +110,8 @@ sixteenth nan p h = absurd (unfold div le lt eq in h)
 sixteenth (inf true) p h = record { number = unfold isNan in tt; small = unfold le lt ofBits in tt }
 sixteenth (inf false) p h = absurd (unfold div ofInt round le lt eq ofBits in h)
 sixteenth (fin true m e) p h = record { number = unfold isNan in tt; small = below-all m e }
-sixteenth (fin false m e) p h = let c = counted binary32 (fin false m e) p tt in record { number = unfold isNan in tt; small = go (c .sign) (c .count) (c .val) (c .rep) }
+sixteenth (fin false m e) p h =
+    let c = counted binary32 (fin false m e) p tt in record { number = unfold isNan in tt; small = go (c .sign) (c .count) (c .val) (c .rep) }
   where
     x : Float
     x = fin false m e
@@ -124,13 +126,17 @@ sixteenth (fin false m e) p h = let c = counted binary32 (fin false m e) p tt in
         large : 9 ≤ a → T (le unit (x ⊘ count 16))
         large l =
             subst (λ (z : Float). T (le z (x ⊘ count 16))) nine
-            (subst (λ (z : Float). T (le (round binary32 false 9 (2 ^ 153)) z)) (sym quotient) (round-mono binary32 9 (2 ^ 153) a (2 ^ 153) (pow-pos 153) (pow-pos 153) (mul-le-mul-right (2 ^ 153) l)))
+            (subst (λ (z : Float). T (le (round binary32 false 9 (2 ^ 153)) z)) (sym quotient)
+            (round-mono binary32 9 (2 ^ 153) a (2 ^ 153) (pow-pos 153) (pow-pos 153) (mul-le-mul-right (2 ^ 153) l)))
 
         pick : (b : Bool) → (T b → a ≤ 8) → (T (not b) → 8 < a) → T (le x (lit 8))
         pick true u w =
-            le-of binary32 x (lit 8) a 8 (clear binary32 x a v r) (clear binary32 (lit 8) 8 eight-val (rep-of binary32 (lit 8) false 8 (ofBits-fits binary32 8) eight-val)) (u tt)
+            le-of binary32 x (lit 8) a 8 (clear binary32 x a v r)
+            (clear binary32 (lit 8) 8 eight-val (rep-of binary32 (lit 8) false 8 (ofBits-fits binary32 8) eight-val)) (u tt)
         pick false u w =
-            absurd (unit-above (le-le binary32 unit (x ⊘ count 16) nought (subst (λ (z : Float). T (fits binary32 z)) nine (round-fits binary32 false 9 (2 ^ 153))) (div-fits binary32 x (count 16)) (ofBits-fits binary32 0) (large (w tt)) h))
+            absurd (unit-above (le-le binary32 unit (x ⊘ count 16) nought
+            (subst (λ (z : Float). T (fits binary32 z)) nine (round-fits binary32 false 9 (2 ^ 153))) (div-fits binary32 x (count 16))
+            (ofBits-fits binary32 0) (large (w tt)) h))
 
 -- the bound is met: a sum of 8 units has the residual 0
 pub eight-gives-zero : eq (sqrt binary32 (lit 8 ⊘ count 16)) nought ≡ true
@@ -368,7 +374,9 @@ deviations-upright n vs mean h k =
 
 deviations-fit : (n : ℕ) (vs : Row) (mean : Float) → T (fits binary32 (deviations n vs mean))
 unfolding deviations
-deviations-fit n vs mean = iter-keeps (λ (s : Float). T (fits binary32 s)) (λ i s. s ⊕ (at vs i ⊖ mean) ⊗ (at vs i ⊖ mean)) negativeZero n (neg-fits binary32 nought (ofBits-fits binary32 0)) (λ i s h. add-fits binary32 s _)
+deviations-fit n vs mean =
+    iter-keeps (λ (s : Float). T (fits binary32 s)) (λ i s. s ⊕ (at vs i ⊖ mean) ⊗ (at vs i ⊖ mean)) negativeZero n
+    (neg-fits binary32 nought (ofBits-fits binary32 0)) (λ i s h. add-fits binary32 s _)
 
 -- ---- an f32 holds the sum of a pass
 abbrev Fit : Float → Type 0
@@ -380,7 +388,8 @@ Good x = Fit x × Level x
 pass-good : (n : ℕ) (p : Params) (vs ss cs : Row) → Good (pass n p vs ss cs .ssr)
 unfolding pass added
 pass-good n p vs ss cs =
-    iter-keeps (λ (l : Normal). Good (l .ssr)) _ empty n (unfold empty in (ofBits-fits binary32 0, nought-level)) (λ i l h. (add-fits binary32 (l .ssr) _, add-level (l .ssr) _ (h .1)))
+    iter-keeps (λ (l : Normal). Good (l .ssr)) _ empty n (unfold empty in
+    (ofBits-fits binary32 0, nought-level)) (λ i l h. (add-fits binary32 (l .ssr) _, add-level (l .ssr) _ (h .1)))
 
 -- either step that a pass's elimination asks for
 step-cases : {S : Type 0} {w : S} {f : S → Step} (P : Type 0) → ((s : S) → s ≡ w → f s ≡ stay → P) → ((s : S) → s ≡ w → (q : Params) → f s ≡ to q → P) → P
@@ -413,7 +422,8 @@ start-made n samples ringPhi seed centeredVar = go (degenerate (seed .amp) cente
     end : Final
     end = updates n samples (sines n ringPhi) (cosines n ringPhi) seed
 
-    go : (b : Bool) → MadeOf n centeredVar (cond b (record { fit = degenerateFit centeredVar; updates = 0 }) (whole n end) .fit .rms) (cond b ofMean (ofPass (end .last .ssr)))
+    go : (b : Bool) → MadeOf n centeredVar (cond b (record { fit = degenerateFit centeredVar; updates = 0 }) (whole n end) .fit .rms)
+        (cond b ofMean (ofPass (end .last .ssr)))
     go true = unfold degenerateFit in refl
     go false = unfold finished assembled in refl
 
@@ -455,4 +465,5 @@ ring-tiny samples ringPhi h z =
     let mean = meanOf 16 samples in
     let upright = deviations-upright 16 samples mean h (sixteenth-number (total 16 samples) (total-number 16 samples h)) in
     let summed = ring-each (λ s. Summed (s .squares)) 16 samples ringPhi (λ seed k. start-summed 16 samples ringPhi seed (varianceOf 16 samples mean)) in
-    made-tiny (deviations 16 samples mean) _ (ring 16 samples ringPhi .answered .squares) (deviations-fit 16 samples mean) upright summed (ring-made 16 samples ringPhi) z
+    made-tiny (deviations 16 samples mean) _ (ring 16 samples ringPhi .answered .squares) (deviations-fit 16 samples mean) upright summed
+    (ring-made 16 samples ringPhi) z

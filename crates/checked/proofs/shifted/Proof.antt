@@ -1,6 +1,6 @@
 use mathlib.Core.Path.{subst}
 use native.Mathlib.Omega.{arith}
-use Rattle.checked.specs.CheckedLaws.{Below}
+use Rattle.checked.specs.Parts.{Below}
 use borrow.Author.Needs.{needs}
 use Rattle.checked.proofs.shifted.Statement.{statement}
 use Rattle.checked.proofs.shifted.Tie as tie

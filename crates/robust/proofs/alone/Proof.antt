@@ -1,6 +1,5 @@
 -- One start's fit is the answer. Assumes nothing.
 use Rattle.robust.specs.RobustLaws.{alone-is}
-use borrow.Author.Needs.{needs}
 use Rattle.robust.proofs.alone.Statement.{statement}
 use Rattle.robust.proofs.alone.Tie as tie
 

@@ -23,7 +23,10 @@ loop-again : tie.Need-loop-again Inv-loop μ-loop
 loop-again c = (search needs, stores-next _ _ _ _ _ (c .before .before .loop .inv .1) refl)
 
 returns : tie.Need-returns Inv-loop μ-loop
-returns c = stores-all _ _ _ nan _ (let h : c .before .loop .i ≡ length (c .before .before .args .samples .now) = omega arith in rw h at (c .before .loop .inv .1)) (omega arith)
+returns c =
+    let at-loop = c .before .loop in
+    let at-args = c .before .before .args in
+    stores-all _ _ _ nan _ (let h : at-loop .i ≡ length (at-args .samples .now) = omega arith in rw h at (at-loop .inv .1)) (omega arith)
 
 pub center-spec : {M : Type 1} → statement M
 center-spec =

@@ -8,7 +8,9 @@ returns : tie.Need-returns
 returns c = chosen-alone _ _ _ (c .before .enum-told .given .1) (c .alone .ensures)
 
 returns-2 : tie.Need-returns-2
-returns-2 c = chosen-two _ _ _ _ (c .before .before .before .before .s .given .1) (c .lower .ensures)
+returns-2 c =
+    let c4 = c .before .before .before .before in
+    chosen-two _ _ _ _ (c4 .s .given .1) (c .lower .ensures)
 
 pub chosen-spec : {M : Type 1} → statement M
 chosen-spec =

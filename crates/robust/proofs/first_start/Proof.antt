@@ -4,8 +4,15 @@ use Rattle.robust.proofs.first_start.Statement.{statement}
 use Rattle.robust.proofs.first_start.Tie as tie
 
 returns : tie.Need-returns
-returns c = let made = c .before .before .before .before .before .before .start .ensures in
-    (rw (made .0, c .before .before .before .before .before .before .before .before .before .before .first-seed .ensures, c .before .before .before .before .before .before .before .before .before .before .before .before .before .before .before .before .before .second-harmonic .ensures, c .before .before .before .before .before .before .before .before .before .before .before .before .before .before .before .before .before .before .before .before .before .deviations .ensures, c .before .before .before .before .before .before .before .before .before .before .before .before .before .before .before .before .before .before .before .before .before .before .total .ensures, c .before .before .before .before .before .before .before .before .before .before .before .before .before .before .before .before .before .before .before .before .before .before .before .count-f32 .ensures), made .1)
+returns c =
+    let c6 = c .before .before .before .before .before .before in
+    let c10 = c6 .before .before .before .before in
+    let c17 = c10 .before .before .before .before .before .before .before in
+    let c21 = c17 .before .before .before .before in
+    let c22 = c21 .before in
+    let c23 = c22 .before in
+    let made = c6 .start .ensures in
+    (rw (made .0, c10 .first-seed .ensures, c17 .second-harmonic .ensures, c21 .deviations .ensures, c22 .total .ensures, c23 .count-f32 .ensures), made .1)
 
 pub first-start-spec : {M : Type 1} → statement M
 first-start-spec =

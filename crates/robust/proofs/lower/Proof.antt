@@ -1,5 +1,4 @@
 -- The test of the two residuals. Assumes nothing.
-use borrow.Author.Needs.{needs}
 use Rattle.robust.proofs.lower.Statement.{statement}
 use Rattle.robust.proofs.lower.Tie as tie
 

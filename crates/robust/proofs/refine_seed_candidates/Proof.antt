@@ -4,7 +4,10 @@ use Rattle.robust.proofs.refine_seed_candidates.Statement.{statement}
 use Rattle.robust.proofs.refine_seed_candidates.Tie as tie
 
 refined-requires : tie.Need-refined-requires
-refined-requires c κs = record { few = c .before .before .before .before .before .before .before .before .before .before .before .before .before .before .before .before .before .before .pre .few; phi = c .before .before .before .before .before .before .before .before .before .before .before .before .before .before .before .before .before .before .pre .phi; sines = c .before .before .before .before .before .before .before .before .before .prepare .ensures; j = search needs }
+refined-requires c κs =
+    let c9 = c .before .before .before .before .before .before .before .before .before in
+    let c18 = c9 .before .before .before .before .before .before .before .before .before in
+    record { few = c18 .pre .few; phi = c18 .pre .phi; sines = c9 .prepare .ensures; j = search needs }
 
 pub refine-seed-candidates-spec : {M : Type 1} → statement M
 refine-seed-candidates-spec =

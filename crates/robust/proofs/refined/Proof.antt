@@ -8,7 +8,9 @@ returns : tie.Need-returns
 returns c = refined-missing _ _ _ _ _ (c .enum-told .given .1)
 
 returns-2 : tie.Need-returns-2
-returns-2 c = refined-made _ _ _ _ _ _ _ (c .before .before .before .before .before .top .given .1) (c .before .before .started .ensures)
+returns-2 c =
+    let c5 = c .before .before .before .before .before in
+    refined-made _ _ _ _ _ _ _ (c5 .top .given .1) (c .before .before .started .ensures)
 
 pub refined-spec : {M : Type 1} → statement M
 refined-spec =

@@ -5,12 +5,18 @@ use Rattle.robust.proofs.start.Statement.{statement}
 use Rattle.robust.proofs.start.Tie as tie
 
 returns : tie.Need-returns
-returns c = let degenerate = c .degenerate-fit .ensures in
+returns c =
+    let degenerate = c .degenerate-fit .ensures in
     (start-refused _ _ _ _ _ (c .before .before .is-degenerate .ensures) (c .before .if1 .taken) degenerate, refused-calm _ _ degenerate)
 
 returns-2 : tie.Need-returns-2
-returns-2 c = let prepared = c .before .before .before .before .before .before .before .before .before .before .before .before .prepare .ensures in
-    (start-made _ _ _ _ _ _ _ (c .before .before .before .before .before .before .before .before .before .before .before .before .before .before .before .before .before .is-degenerate .ensures) (c .before .before .before .before .before .before .before .before .before .before .before .before .before .before .before .before .if1 .left) (c .before .before .before .before .before .before .before .before .before .before .before .before .before .before .before .before .before .before .before .before .before .before .before .pre .phi) prepared (c .before .before .fit-prepared .ensures), λ e. prepared)
+returns-2 c =
+    let c12 = c .before .before .before .before .before .before .before .before .before .before .before .before in
+    let c16 = c12 .before .before .before .before in
+    let c17 = c16 .before in
+    let c23 = c17 .before .before .before .before .before .before in
+    let prepared = c12 .prepare .ensures in
+    (start-made _ _ _ _ _ _ _ (c17 .is-degenerate .ensures) (c16 .if1 .left) (c23 .pre .phi) prepared (c .before .before .fit-prepared .ensures), λ e. prepared)
 
 pub start-spec : {M : Type 1} → statement M
 start-spec =

@@ -8,10 +8,16 @@ returns : tie.Need-returns
 returns c = start-refused _ _ _ _ _ (c .before .before .is-degenerate .ensures) (c .before .if1 .taken) (c .degenerate-fit .ensures)
 
 fit-prepared-requires : tie.Need-fit-prepared-requires
-fit-prepared-requires c κs = ready-room (c .before .before .before .before .before .before .before .before .pre)
+fit-prepared-requires c κs =
+    let c8 = c .before .before .before .before .before .before .before .before in
+    ready-room (c8 .pre)
 
 returns-2 : tie.Need-returns-2
-returns-2 c = start-made _ _ _ _ _ _ _ (c .before .before .before .before .before .is-degenerate .ensures) (c .before .before .before .before .if1 .left) (c .before .before .before .before .before .before .before .before .before .before .before .pre .phi) (c .before .before .before .before .before .before .before .before .before .before .before .pre .sines) (c .before .before .fit-prepared .ensures)
+returns-2 c =
+    let c4 = c .before .before .before .before in
+    let c5 = c4 .before in
+    let c11 = c5 .before .before .before .before .before .before in
+    start-made _ _ _ _ _ _ _ (c5 .is-degenerate .ensures) (c4 .if1 .left) (c11 .pre .phi) (c11 .pre .sines) (c .before .before .fit-prepared .ensures)
 
 pub started-spec : {M : Type 1} → statement M
 started-spec =

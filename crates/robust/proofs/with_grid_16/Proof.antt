@@ -5,7 +5,10 @@ use Rattle.robust.proofs.with_grid_16.Statement.{statement}
 use Rattle.robust.proofs.with_grid_16.Tie as tie
 
 returns : tie.Need-returns
-returns c = chosen-at _ _ _ _ _ _ _ _ _ (c .before .before .before .before .grid-fit .ensures) (c .before .before .before .before .before .before .before .before .before .before .before .before .pre .0) (c .chosen .ensures)
+returns c =
+    let c4 = c .before .before .before .before in
+    let c12 = c4 .before .before .before .before .before .before .before .before in
+    chosen-at _ _ _ _ _ _ _ _ _ (c4 .grid-fit .ensures) (c12 .pre .0) (c .chosen .ensures)
 
 pub with-grid-16-spec : {M : Type 1} → statement M
 with-grid-16-spec =

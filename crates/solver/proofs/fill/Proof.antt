@@ -39,9 +39,6 @@ loop-again c = let b = c .before .before .before .before .before in
     let room : 4 * i + 4 ≤ length (b .loop .js) = omega arith in
     (search needs, simp length-set (b .loop .inv .1), filled-next _ (b .loop .js) i _ room (c .sample-at .ensures) (b .loop .inv .2))
 
-same-length : tie.Need-same-length Inv-loop μ-loop
-same-length c = c .before .loop .inv .1
-
 returns : tie.Need-returns Inv-loop μ-loop
 returns c = record { is = λ i h. c .before .loop .inv .2 i (omega arith) }
 
