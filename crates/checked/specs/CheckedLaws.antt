@@ -1,4 +1,5 @@
--- The first value that is not finite: a search goes on, ends here or finds nothing, and in lists one behind the other it is the first of the first that has one. Assumes nothing.
+-- The first value that is not finite: a search goes on, ends here or finds nothing, and in lists one behind the other it is the first of the first
+-- that has one. Assumes nothing.
 use mathlib.Core.Path.{_≡_, refl, sym, ap, subst, _∙_}
 use mathlib.Core.Logic.{_⊎_, inl, inr}
 use mathlib.Core.Bool.{Bool, true, false, cond, false≢true}
@@ -8,7 +9,6 @@ use native.Mathlib.Omega.{arith}
 use native.Mathlib.Nat.{eq-or-lt-of-le, le-of-suc-le-suc}
 use lib.ListN.{length, getD, length-append, List·getD-append}
 use lib.Seq.{getD-append-add}
-use lib.Dec.{T}
 use lib.Ieee.{Float, nan}
 use lib.Ieee.Scale.{finite}
 use Rattle.loops.specs.Loops.{iter}
@@ -50,14 +50,14 @@ all-fine l (suc n) e i h =
     go here earlier (inl q) = rw q here
     go here earlier (inr k) = earlier k
 
-clean-from : (l : List Float) (left i : ℕ) → ((j : ℕ) → j < i + left → finite (getD l j nan) ≡ true) → Clean ≡ wildFrom l left i
+fine-from : (l : List Float) (left i : ℕ) → ((j : ℕ) → j < i + left → finite (getD l j nan) ≡ true) → Clean ≡ wildFrom l left i
 unfolding wildFrom
-clean-from l zero i h = refl
-clean-from l (suc left) i h = rw (h i (omega arith)) (clean-from l left (i + 1) (λ j k. h j (omega arith)))
+fine-from l zero i h = refl
+fine-from l (suc left) i h = rw (h i (omega arith)) (fine-from l left (i + 1) (λ j k. h j (omega arith)))
 
 pub all-clean : (l : List Float) → allFinite l ≡ true → Clean ≡ firstWild l
 unfolding allFinite firstWild
-all-clean l e = clean-from l (length l) 0 (λ j k. all-fine l (length l) e j (omega arith))
+all-clean l e = fine-from l (length l) 0 (λ j k. all-fine l (length l) e j (omega arith))
 
 -- a place that is found is one of the values
 pub below-more : (m n : ℕ) (w : Wild) → m ≤ n → Below m w → Below n w
@@ -209,7 +209,8 @@ unfolding wildFrom
 wild-says l zero i p e = absurd (never e)
 wild-says l (suc left) i p e = go (finite (getD l i nan)) refl e (wild-says l left (i + 1) p)
   where
-    go : (b : Bool) → finite (getD l i nan) ≡ b → cond b (wildFrom l left (i + 1)) (At i) ≡ At p → (wildFrom l left (i + 1) ≡ At p → Found l left (i + 1) p) → Found l (suc left) i p
+    go : (b : Bool) → finite (getD l i nan) ≡ b → cond b (wildFrom l left (i + 1)) (At i) ≡ At p →
+        (wildFrom l left (i + 1) ≡ At p → Found l left (i + 1) p) → Found l (suc left) i p
     go true f e later = found-later l left i p f (later e)
     go false f e later = found-here l left i p f (same-place e)
 
@@ -228,11 +229,13 @@ clean-from l zero i e j h = absurd (none h)
     none h = omega arith
 clean-from l (suc left) i e j h = go (finite (getD l i nan)) refl e (λ c k g. clean-from l left (i + 1) c k g)
   where
-    later : (j : ℕ) → j < suc left → finite (getD l i nan) ≡ true → ((k : ℕ) → k < left → finite (getD l (i + 1 + k) nan) ≡ true) → finite (getD l (i + j) nan) ≡ true
+    later : (j : ℕ) → j < suc left → finite (getD l i nan) ≡ true → ((k : ℕ) → k < left → finite (getD l (i + 1 + k) nan) ≡ true) →
+        finite (getD l (i + j) nan) ≡ true
     later zero h t rest = let z : i + 0 ≡ i = omega arith in rw z t
     later (suc j) h t rest = let z : i + 1 + j ≡ i + suc j = omega arith in rw z at (rest j (omega arith))
 
-    go : (b : Bool) → finite (getD l i nan) ≡ b → cond b (wildFrom l left (i + 1)) (At i) ≡ Clean → (wildFrom l left (i + 1) ≡ Clean → (k : ℕ) → k < left → finite (getD l (i + 1 + k) nan) ≡ true) → finite (getD l (i + j) nan) ≡ true
+    go : (b : Bool) → finite (getD l i nan) ≡ b → cond b (wildFrom l left (i + 1)) (At i) ≡ Clean →
+        (wildFrom l left (i + 1) ≡ Clean → (k : ℕ) → k < left → finite (getD l (i + 1 + k) nan) ≡ true) → finite (getD l (i + j) nan) ≡ true
     go true t e rest = later j h t (rest e)
     go false t e rest = absurd (never (sym e))
 

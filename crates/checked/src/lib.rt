@@ -165,8 +165,11 @@ fn disk_wild(
     grad_angles: &[f32],
     grad_weights: &[f32],
 ) -> Wild
-    requires { ⌜ (length (now xs) ≤ 320) × (length (now ys) ≡ length (now xs)) × (length (now «vals_centered») ≡ length (now xs)) × (length (now «grad_angles») ≡ length (now xs)) × (length (now «grad_weights») ≡ length (now xs)) ⌝ }
-    ensures { λ r. ⌜ r ≡ C.firstWild (C.diskInputs (diskOf «val_energy» (now (xs .entry)) (now (ys .entry)) (now («vals_centered» .entry)) (now («grad_angles» .entry)) (now («grad_weights» .entry))) base0 base1) ⌝ }
+    requires { ⌜ (length (now xs) ≤ 320) × (length (now ys) ≡ length (now xs)) × (length (now «vals_centered») ≡ length (now xs)) ×
+        (length (now «grad_angles») ≡ length (now xs)) × (length (now «grad_weights») ≡ length (now xs)) ⌝ }
+    ensures { λ r. ⌜ r ≡ C.firstWild
+        (C.diskInputs (diskOf «val_energy» (now (xs .entry)) (now (ys .entry)) (now («vals_centered» .entry)) (now («grad_angles» .entry))
+        (now («grad_weights» .entry))) base0 base1) ⌝ }
 {
     let n = xs.len() as u16;
     let e = shifted(first_wild(grad_weights), 3 + 4 * n, Wild::Clean);
@@ -203,8 +206,11 @@ fn disk_fitted(
     grad_angles: &[f32],
     grad_weights: &[f32],
 ) -> DiskAnswer
-    requires { ⌜ (length (now xs) ≤ 320) × (length (now ys) ≡ length (now xs)) × (length (now «vals_centered») ≡ length (now xs)) × (length (now «grad_angles») ≡ length (now xs)) × (length (now «grad_weights») ≡ length (now xs)) ⌝ }
-    ensures { λ r. ⌜ r ≡ C.diskFitted (diskOf «val_energy» (now (xs .entry)) (now (ys .entry)) (now («vals_centered» .entry)) (now («grad_angles» .entry)) (now («grad_weights» .entry))) base0 base1 ⌝ }
+    requires { ⌜ (length (now xs) ≤ 320) × (length (now ys) ≡ length (now xs)) × (length (now «vals_centered») ≡ length (now xs)) ×
+        (length (now «grad_angles») ≡ length (now xs)) × (length (now «grad_weights») ≡ length (now xs)) ⌝ }
+    ensures { λ r. ⌜ r ≡ C.diskFitted
+        (diskOf «val_energy» (now (xs .entry)) (now (ys .entry)) (now («vals_centered» .entry)) (now («grad_angles» .entry))
+        (now («grad_weights» .entry))) base0 base1 ⌝ }
 {
     let found = search::best_disk_fit(
         val_energy,
@@ -232,8 +238,13 @@ fn disk_looked(
     grad_angles: &[f32],
     grad_weights: &[f32],
 ) -> DiskAnswer
-    requires { ⌜ (length (now xs) ≤ 320) × (length (now ys) ≡ length (now xs)) × (length (now «vals_centered») ≡ length (now xs)) × (length (now «grad_angles») ≡ length (now xs)) × (length (now «grad_weights») ≡ length (now xs)) ⌝ }
-    ensures { λ r. ⌜ r ≡ C.diskLooked (diskOf «val_energy» (now (xs .entry)) (now (ys .entry)) (now («vals_centered» .entry)) (now («grad_angles» .entry)) (now («grad_weights» .entry))) base0 base1 (C.firstWild (C.diskInputs (diskOf «val_energy» (now (xs .entry)) (now (ys .entry)) (now («vals_centered» .entry)) (now («grad_angles» .entry)) (now («grad_weights» .entry))) base0 base1)) ⌝ }
+    requires { ⌜ (length (now xs) ≤ 320) × (length (now ys) ≡ length (now xs)) × (length (now «vals_centered») ≡ length (now xs)) ×
+        (length (now «grad_angles») ≡ length (now xs)) × (length (now «grad_weights») ≡ length (now xs)) ⌝ }
+    ensures { λ r. ⌜ r ≡ C.diskLooked
+        (diskOf «val_energy» (now (xs .entry)) (now (ys .entry)) (now («vals_centered» .entry)) (now («grad_angles» .entry))
+        (now («grad_weights» .entry))) base0 base1
+        (C.firstWild (C.diskInputs (diskOf «val_energy» (now (xs .entry)) (now (ys .entry)) (now («vals_centered» .entry))
+        (now («grad_angles» .entry)) (now («grad_weights» .entry))) base0 base1)) ⌝ }
 {
     let wild = disk_wild(
         val_energy,
@@ -271,7 +282,9 @@ pub fn fit_disk(
     grad_angles: &[f32],
     grad_weights: &[f32],
 ) -> DiskAnswer
-    ensures { λ r. ⌜ r ≡ C.checkedDisk (diskOf «val_energy» (now (xs .entry)) (now (ys .entry)) (now («vals_centered» .entry)) (now («grad_angles» .entry)) (now («grad_weights» .entry))) base0 base1 ⌝ }
+    ensures { λ r. ⌜ r ≡ C.checkedDisk
+        (diskOf «val_energy» (now (xs .entry)) (now (ys .entry)) (now («vals_centered» .entry)) (now («grad_angles» .entry))
+        (now («grad_weights» .entry))) base0 base1 ⌝ }
 {
     let n = xs.len();
     if n == 0 {

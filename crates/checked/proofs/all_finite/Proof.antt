@@ -26,7 +26,7 @@ loop-again c = (search needs, rw (iter-next, ← c .before .before .before .loop
 
 returns : tie.Need-returns Inv-loop μ-loop
 unfolding P.allFinite
-returns c = let h : c .before .loop .i ≡ length (c .before .before .args .xs .now) = omega arith in rw h at (c .before .loop .inv .1)
+returns c = let h : c .before .loop .i ≡ length (c .before .before .before .args .xs .now) = omega arith in rw h at (c .before .loop .inv .1)
 
 pub all-finite-spec : {M : Type 1} → statement M
 all-finite-spec =

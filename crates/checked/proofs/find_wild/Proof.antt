@@ -20,13 +20,22 @@ unfolding firstWild
 loop-holds c = let z : length (c .before .args .xs .now) - 0 ≡ length (c .before .args .xs .now) = omega arith in (search needs, rw z)
 
 loop-again : tie.Need-loop-again Inv-loop μ-loop
-loop-again c = (search needs, wild-skip _ _ _ (search needs) (sym (c .before .is-finite .ensures) ∙ c .if1 .taken) ∙ c .before .before .before .before .loop .inv .1)
+loop-again c =
+    let at-is-finite = c .before .is-finite in
+    let at-loop = c .before .before .before .before .loop in
+    (search needs, wild-skip _ _ _ (search needs) (sym (at-is-finite .ensures) ∙ c .if1 .taken) ∙ at-loop .inv .1)
 
 returns : tie.Need-returns Inv-loop μ-loop
-returns c = (wild-here _ _ _ (search needs) (sym (c .before .is-finite .ensures) ∙ c .if1 .left) ∙ c .before .before .before .before .loop .inv .1, search needs)
+returns c =
+    let at-is-finite = c .before .is-finite in
+    let at-loop = c .before .before .before .before .loop in
+    (wild-here _ _ _ (search needs) (sym (at-is-finite .ensures) ∙ c .if1 .left) ∙ at-loop .inv .1, search needs)
 
 returns-2 : tie.Need-returns-2 Inv-loop μ-loop
-returns-2 c = let z : length (c .before .before .before .args .xs .now) - c .before .loop .i ≡ 0 = omega arith in (wild-none _ _ ∙ (rw z at (c .before .loop .inv .1)), omega arith)
+returns-2 c =
+    let at-args = c .before .before .before .args in
+    let at-loop = c .before .loop in
+    let z : length (at-args .xs .now) - at-loop .i ≡ 0 = omega arith in (wild-none _ _ ∙ (rw z at (at-loop .inv .1)), omega arith)
 
 pub find-wild-spec : {M : Type 1} → statement M
 find-wild-spec =
