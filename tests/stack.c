@@ -6,7 +6,7 @@
 #include "jengubool.h"
 #include <ucontext.h>
 
-#define RING_BAR 4096
+#define RING_BAR 3600
 #define BAR 65536
 #define SIZE 131072
 #define WORDS 1000

@@ -1,5 +1,5 @@
 -- The checked entries (docs/RULES.md, Refusals): what is refused by number and place, and what is answered. Definitions only.
-use mathlib.Core.Bool.{Bool, true, false, cond, not, _&&_, _||_}
+use mathlib.Core.Bool.{Bool, cond, not, _&&_, _||_}
 use mathlib.Core.List.{List, [], _∷_, _++_}
 use Prim.Native.Nat.{ℕ, zero, suc, _+_}
 use lib.ListN.{length, getD}
@@ -92,7 +92,8 @@ diskInputs D base0 base1 = D .«val_energy» ∷ base0 ∷ base1 ∷ (D .xs ++ (
 unfoldable pub measuredOf : DiskData → Fit → ℕ → DiskAnswer
 measuredOf D f trials =
     let e = fitStdErrors D f in
-    Disks.Fitted (record { fit = f; «fit_std_error_theta1» = e .error1; «fit_std_error_theta2» = e .error2; trials = trials }) (errorsKnown (e .error1) (e .error2))
+    Disks.Fitted (record { fit = f; «fit_std_error_theta1» = e .error1; «fit_std_error_theta2» = e .error2; trials = trials })
+    (errorsKnown (e .error1) (e .error2))
 
 unfoldable pub diskMeasured : DiskData → DiskFit → DiskAnswer
 diskMeasured D (Missing trials) = Disks.Refused 4 trials

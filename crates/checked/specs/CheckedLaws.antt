@@ -1,18 +1,22 @@
--- The first value that is not finite: a search goes on, ends here or finds nothing, and in lists one behind the other it is the first of the first that has one. Assumes nothing.
+-- The first value that is not finite: a search goes on, ends here or finds nothing, and in lists one behind the other it is the first of the first
+-- that has one. Assumes nothing.
 use mathlib.Core.Path.{_≡_, refl, sym, ap, subst, _∙_}
-use mathlib.Core.Bool.{Bool, true, false, cond}
+use mathlib.Core.Logic.{_⊎_, inl, inr}
+use mathlib.Core.Bool.{Bool, true, false, cond, false≢true}
 use mathlib.Core.List.{List, [], _∷_, _++_}
 use Prim.Native.Nat.{ℕ, zero, suc, _+_, _*_, _-_, _%_, _<_, _≤_}
 use native.Mathlib.Omega.{arith}
+use native.Mathlib.Nat.{eq-or-lt-of-le, le-of-suc-le-suc}
 use lib.ListN.{length, getD, length-append, List·getD-append}
 use lib.Seq.{getD-append-add}
-use lib.Dec.{T}
 use lib.Ieee.{Float, nan}
 use lib.Ieee.Scale.{finite}
+use Rattle.loops.specs.Loops.{iter}
 use Rattle.checked.specs.declared.Wild.{Wild}
 use Rattle.checked.specs.declared.Wild.the-variants.{At, Clean}
 use Rattle.checked.specs.declared.DiskAnswer.the-variants as Disks
 use Rattle.checked.specs.Checked.{wildFrom, firstWild}
+use Rattle.checked.specs.Parts.{stillFine, allFinite, Below, shiftedBy, loneAt}
 
 module _ (l : List Float) (n i : ℕ) (h : i < n) where
   pub wild-skip : finite (getD l i nan) ≡ true → wildFrom l (n - (i + 1)) (i + 1) ≡ wildFrom l (n - i) i
@@ -27,25 +31,40 @@ pub wild-none : (l : List Float) (i : ℕ) → Clean ≡ wildFrom l 0 i
 unfolding wildFrom
 wild-none l i = refl
 
--- a place that is found is one of the values
-abbrev pub Below : ℕ → Wild → Type 0
-Below n (At i) = i < n
-Below n Clean = 0 ≤ n
+-- where all are finite the search finds nothing
+all-fine : (l : List Float) (n : ℕ) → iter (λ i. stillFine (getD l i nan)) true n ≡ true → (i : ℕ) → i < n → finite (getD l i nan) ≡ true
+unfolding iter
+all-fine l zero e i h = absurd (none h)
+  where
+    none : i < 0 → ⊥
+    none h = omega arith
+all-fine l (suc n) e i h =
+    let both = split (finite (getD l n nan)) _ e in
+    go (both .0) (λ k. all-fine l n (both .1) i k) (eq-or-lt-of-le (le-of-suc-le-suc h))
+  where
+    split : (a b : Bool) → cond a b false ≡ true → (a ≡ true) × (b ≡ true)
+    split true b e = (refl, e)
+    split false b e = absurd (false≢true e)
 
+    go : finite (getD l n nan) ≡ true → (i < n → finite (getD l i nan) ≡ true) → (i ≡ n) ⊎ (i < n) → finite (getD l i nan) ≡ true
+    go here earlier (inl q) = rw q here
+    go here earlier (inr k) = earlier k
+
+fine-from : (l : List Float) (left i : ℕ) → ((j : ℕ) → j < i + left → finite (getD l j nan) ≡ true) → Clean ≡ wildFrom l left i
+unfolding wildFrom
+fine-from l zero i h = refl
+fine-from l (suc left) i h = rw (h i (omega arith)) (fine-from l left (i + 1) (λ j k. h j (omega arith)))
+
+pub all-clean : (l : List Float) → allFinite l ≡ true → Clean ≡ firstWild l
+unfolding allFinite firstWild
+all-clean l e = fine-from l (length l) 0 (λ j k. all-fine l (length l) e j (omega arith))
+
+-- a place that is found is one of the values
 pub below-more : (m n : ℕ) (w : Wild) → m ≤ n → Below m w → Below n w
 below-more m n (At i) h b = omega arith
 below-more m n Clean h b = omega arith
 
 -- ---- lists one behind the other, as the code looks at them
--- a place of a list that stands `off` places behind the start, or what comes later
-abbrev pub shiftedBy : Wild → ℕ → Wild → Wild
-shiftedBy (At i) off next = At (off + i)
-shiftedBy Clean off next = next
-
--- a lone value at its place
-abbrev pub loneAt : Float → ℕ → Wild → Wild
-loneAt x place next = cond (finite x) next (At place)
-
 abbrev moved : ℕ → Wild → Wild
 moved off w = shiftedBy w off Clean
 
@@ -190,7 +209,8 @@ unfolding wildFrom
 wild-says l zero i p e = absurd (never e)
 wild-says l (suc left) i p e = go (finite (getD l i nan)) refl e (wild-says l left (i + 1) p)
   where
-    go : (b : Bool) → finite (getD l i nan) ≡ b → cond b (wildFrom l left (i + 1)) (At i) ≡ At p → (wildFrom l left (i + 1) ≡ At p → Found l left (i + 1) p) → Found l (suc left) i p
+    go : (b : Bool) → finite (getD l i nan) ≡ b → cond b (wildFrom l left (i + 1)) (At i) ≡ At p →
+        (wildFrom l left (i + 1) ≡ At p → Found l left (i + 1) p) → Found l (suc left) i p
     go true f e later = found-later l left i p f (later e)
     go false f e later = found-here l left i p f (same-place e)
 
@@ -209,11 +229,13 @@ clean-from l zero i e j h = absurd (none h)
     none h = omega arith
 clean-from l (suc left) i e j h = go (finite (getD l i nan)) refl e (λ c k g. clean-from l left (i + 1) c k g)
   where
-    later : (j : ℕ) → j < suc left → finite (getD l i nan) ≡ true → ((k : ℕ) → k < left → finite (getD l (i + 1 + k) nan) ≡ true) → finite (getD l (i + j) nan) ≡ true
+    later : (j : ℕ) → j < suc left → finite (getD l i nan) ≡ true → ((k : ℕ) → k < left → finite (getD l (i + 1 + k) nan) ≡ true) →
+        finite (getD l (i + j) nan) ≡ true
     later zero h t rest = let z : i + 0 ≡ i = omega arith in rw z t
     later (suc j) h t rest = let z : i + 1 + j ≡ i + suc j = omega arith in rw z at (rest j (omega arith))
 
-    go : (b : Bool) → finite (getD l i nan) ≡ b → cond b (wildFrom l left (i + 1)) (At i) ≡ Clean → (wildFrom l left (i + 1) ≡ Clean → (k : ℕ) → k < left → finite (getD l (i + 1 + k) nan) ≡ true) → finite (getD l (i + j) nan) ≡ true
+    go : (b : Bool) → finite (getD l i nan) ≡ b → cond b (wildFrom l left (i + 1)) (At i) ≡ Clean →
+        (wildFrom l left (i + 1) ≡ Clean → (k : ℕ) → k < left → finite (getD l (i + 1 + k) nan) ≡ true) → finite (getD l (i + j) nan) ≡ true
     go true t e rest = later j h t (rest e)
     go false t e rest = absurd (never (sym e))
 

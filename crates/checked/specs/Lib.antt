@@ -1,3 +1,4 @@
 pub mod Checked
+pub mod Parts
 pub mod CheckedLaws
 pub mod Promises

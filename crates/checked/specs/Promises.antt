@@ -1,4 +1,6 @@
--- What the checked entries promise, for every list of values, non-numbers included: exactly when each number is given, and what an answer's values and counts keep to. `checkedRing` and `checkedDisk` are the answers' definitions: the contracts of `checked::fit_ring` and `checked::fit_disk` say that the code's answers equal them. A promise speaks of the paper's number, place, values and counts of an answer (Checked.antt). Assumes nothing.
+-- What the checked entries promise, for every list of values, non-numbers included: exactly when each number is given, and what an answer's values
+-- and counts keep to. `checkedRing` and `checkedDisk` are the answers' definitions: the contracts of `checked::fit_ring` and `checked::fit_disk` say
+-- that the code's answers equal them. A promise speaks of the paper's number, place, values and counts of an answer (Checked.antt). Assumes nothing.
 use mathlib.Core.Path.{_≡_, refl, sym, ap, subst, _∙_}
 use mathlib.Core.Bool.{Bool, true, false, cond, not, _&&_, _||_, true≢false}
 use mathlib.Core.List.{List}
@@ -9,10 +11,8 @@ use lib.Dec.{T, eqb, ltb, eqb→eq}
 use lib.Ieee.{Float, nan, lt, le, eq, isNan}
 use lib.Ieee.Scale.{finite}
 use Rattle.floats.specs.Ops.{lit, nought, pi, tau}
-use Rattle.floats.specs.FiniteLaws.{of-true}
-use Rattle.robust.specs.Robust.{fitRing}
+use Rattle.robust.specs.Robust.{fitRing, ringSum}
 use Rattle.robust.specs.SoundLaws.{SoundRing, ring-sound}
-use Rattle.robust.specs.Residual.{ringSum}
 use Rattle.robust.specs.ResidualLaws.{ring-tiny}
 use Rattle.robust.specs.declared.RingFit.{RingFit}
 use Rattle.score.specs.Score.{fitStdErrors, widthsPx}
@@ -31,9 +31,10 @@ use Rattle.checked.specs.declared.Measured.{Measured}
 use Rattle.checked.specs.declared.DiskAnswer.{DiskAnswer}
 use Rattle.checked.specs.declared.DiskAnswer.the-variants as Disks
 use Rattle.checked.specs.declared.RingAnswer.{RingAnswer}
-use Rattle.checked.specs.declared.RingAnswer.the-variants.{Fitted, Refused}
+use Rattle.checked.specs.declared.RingAnswer.the-variants.{Refused}
 use Rattle.checked.specs.Checked as C
-use Rattle.checked.specs.Checked.{firstWild, ringInputs, checkedRing, ringNumber, ringPlace, ringValues, ringCounts, diskInputs, checkedDisk, diskNumber, diskPlace, diskValues, diskCounts}
+use Rattle.checked.specs.Checked.{firstWild, ringInputs, checkedRing, ringNumber, ringPlace, ringValues, ringCounts, diskInputs, checkedDisk, diskNumber}
+use Rattle.checked.specs.Checked.{diskPlace, diskValues, diskCounts}
 use Rattle.checked.specs.CheckedLaws.{IsFirstWild, wild-first, clean-finite}
 
 -- every value of a list is finite
@@ -51,7 +52,8 @@ module _ (samples angles : List Float) where
   abbrev answer : RingAnswer
   answer = checkedRing samples angles
 
-  -- exactly when each answer is given: 1 for a length that is not 16; 3, with both lengths 16, for a value that is not finite, at the first such place; a fit where all 32 values are finite
+  -- exactly when each answer is given: 1 for a length that is not 16; 3, with both lengths 16, for a value that is not finite, at the first such
+  -- place; a fit where all 32 values are finite
   pub data RingCase (a : RingAnswer) : Type 0 where
     wrong-length : (eqb (length samples) 16 && eqb (length angles) 16) ≡ false → a ≡ Refused 1 0 → RingCase a
     wrong-value : (p : ℕ) → p < 32 → IsFirstWild inputs p → a ≡ Refused 3 p → RingCase a
@@ -67,7 +69,8 @@ module _ (samples angles : List Float) where
       total : eqb (length samples) 16 ≡ true → eqb (length angles) 16 ≡ true → length inputs ≡ 32
       total p q = length-append samples angles ∙ omega (arith, sixteen samples p, sixteen angles q)
 
-      go : (x y : Bool) → eqb (length samples) 16 ≡ x → eqb (length angles) 16 ≡ y → (w : Wild) → firstWild inputs ≡ w → RingCase (cond (x && y) (C.ringLooked samples angles w) (Refused 1 0))
+      go : (x y : Bool) → eqb (length samples) 16 ≡ x → eqb (length angles) 16 ≡ y → (w : Wild) → firstWild inputs ≡ w →
+          RingCase (cond (x && y) (C.ringLooked samples angles w) (Refused 1 0))
       go true true p q Clean e = answered (sixteen samples p) (total p q) (clean-finite inputs e) refl
       go true true p q (At i) e = let f = wild-first inputs i e in wrong-value i (omega (arith, f .inside, total p q)) f refl
       go true false p q w e = wrong-length (rw (p, q) refl) refl
@@ -175,15 +178,18 @@ module _ (samples angles : List Float) where
     pub ring-amplitude : T (isNan (value 0) || le nought (value 0))
     ring-amplitude = rw values-are (sound .fit .size)
 
-    -- A residual of 0 is never a non-number in disguise: the sum of squares that the rms was made of is a number and at most 2 ^ -146, the largest whose sixteenth rounds to 0.
-    -- `ringSum` is that sum, and `ring-made` of robust's ResidualLaws says of every ring that the rms is the root of its sixteenth, or, for a start that is refused, of the greater of that and 0.
-    pub ring-zero : eq (value 5) nought ≡ true → T (not (isNan (ringSum 16 samples angles))) × T (le (ringSum 16 samples angles) (lit 0x0000_0008))
+    -- A residual of 0 is never a non-number in disguise: the sum of squares that the rms was made of is a number, not below 0, and at most 2 ^ -146, the
+    -- largest whose sixteenth rounds to 0. `ringSum` is the sum of the answered start, and `ring-made` of robust's ResidualLaws says of every ring that
+    -- the rms is the root of its sixteenth, or, for a start that is refused, of the greater of that and 0.
+    pub ring-zero : eq (value 5) nought ≡ true
+        → T (not (isNan (ringSum 16 samples angles))) × T (le nought (ringSum 16 samples angles)) × T (le (ringSum 16 samples angles) (lit 0x0000_0008))
     ring-zero z =
         let n = answered-is-the-fit .sixteen in
         let each : (i : ℕ) → i < 16 → T (finite (getD samples i nan)) =
-        λ i h. as-true (sym (ap finite (List·getD-append samples angles nan i (omega (arith, n)))) ∙ answered-finite .1 i (omega (arith, answered-finite .0))) in
+        λ i h. as-true (sym (ap finite (List·getD-append samples angles nan i (omega (arith, n)))) ∙
+        answered-finite .1 i (omega (arith, answered-finite .0))) in
         let t = ring-tiny samples angles each (rw values-are at z) in
-        (t .number, t .small)
+        (t .number, t .above, t .small)
 
 -- ---- the disk
 module _ (D : DiskData) (base0 base1 : Float) where
@@ -197,7 +203,8 @@ module _ (D : DiskData) (base0 base1 : Float) where
   abbrev Counted : Type 0
   Counted = (eqb (D .n) 0 || ltb 320 (D .n)) ≡ false
 
-  -- exactly when each answer is given: 2 for the number of pixels, then 1 for lengths that differ, 3 for a value that is not finite, at the first such place, 4 where the search answers nothing, at the number of its trials; else its fit
+  -- exactly when each answer is given: 2 for the number of pixels, then 1 for lengths that differ, 3 for a value that is not finite, at the first
+  -- such place, 4 where the search answers nothing, at the number of its trials; else its fit
   pub data DiskCase (a : DiskAnswer) : Type 0 where
     wrong-count : (eqb (D .n) 0 || ltb 320 (D .n)) ≡ true → a ≡ Disks.Refused 2 0 → DiskCase a
     wrong-lengths : Counted → C.sameLengths D ≡ false → a ≡ Disks.Refused 1 0 → DiskCase a

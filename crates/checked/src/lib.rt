@@ -8,11 +8,10 @@ use solver_elimination::Errors;
 ghost use mathlib.Core.Path.{_≡_};
 ghost use Prim.Native.Nat.{_<_, _≤_};
 ghost use lib.ListN.{length};
-ghost use Rattle.robust.specs.Robust.{fitRing};
 ghost use lib.Ieee.{Float};
 ghost use Rattle.data.specs.Data.{diskOf, OfPixels};
 ghost use Rattle.checked.specs.Checked as C;
-ghost use Rattle.checked.specs.CheckedLaws.{Below, shiftedBy, loneAt};
+ghost use Rattle.checked.specs.Parts as P;
 
 // Where the first value stands that is not finite.
 pub enum Wild {
@@ -26,9 +25,29 @@ pub enum RingAnswer {
     Refused(u8, u16),
 }
 
-pub fn first_wild(xs: &[f32]) -> Wild
+fn still_fine(fine: bool, x: f32) -> bool
+    ensures { λ r. ⌜ r ≡ P.stillFine x fine ⌝ }
+{
+    if floats::is_finite(x) {
+        return fine;
+    }
+    false
+}
+
+fn all_finite(xs: &[f32]) -> bool
+    ensures { λ r. ⌜ r ≡ P.allFinite (now (xs .entry)) ⌝ }
+{
+    let n = xs.len();
+    let mut fine = true;
+    for i in 0..n {
+        fine = still_fine(fine, xs[i]);
+    }
+    fine
+}
+
+fn find_wild(xs: &[f32]) -> Wild
     requires { ⌜ length (now xs) < 4096 ⌝ }
-    ensures { λ r. ⌜ (r ≡ C.firstWild (now (xs .entry))) × Below (length (now (xs .entry))) r ⌝ }
+    ensures { λ r. ⌜ (r ≡ C.firstWild (now (xs .entry))) × P.Below (length (now (xs .entry))) r ⌝ }
 {
     let n = xs.len();
     for i in 0..n {
@@ -40,10 +59,21 @@ pub fn first_wild(xs: &[f32]) -> Wild
     Wild::Clean
 }
 
+// Whether all are finite is asked first: that loop becomes vector code, and the place is looked for only where it is needed.
+pub fn first_wild(xs: &[f32]) -> Wild
+    requires { ⌜ length (now xs) < 4096 ⌝ }
+    ensures { λ r. ⌜ (r ≡ C.firstWild (now (xs .entry))) × P.Below (length (now (xs .entry))) r ⌝ }
+{
+    if all_finite(xs) {
+        return Wild::Clean;
+    }
+    find_wild(xs)
+}
+
 // The place of a value that is not finite among all values, or what comes later.
 fn shifted(w: Wild, off: u16, next: Wild) -> Wild
-    requires { ⌜ Below 320 w × (off ≤ 4096) ⌝ }
-    ensures { λ r. ⌜ r ≡ shiftedBy w off next ⌝ }
+    requires { ⌜ P.Below 320 w × (off ≤ 4096) ⌝ }
+    ensures { λ r. ⌜ r ≡ P.shiftedBy w off next ⌝ }
 {
     let Wild::At(i) = w else {
         return next;
@@ -52,7 +82,7 @@ fn shifted(w: Wild, off: u16, next: Wild) -> Wild
 }
 
 fn lone(x: f32, place: u16, next: Wild) -> Wild
-    ensures { λ r. ⌜ r ≡ loneAt x place next ⌝ }
+    ensures { λ r. ⌜ r ≡ P.loneAt x place next ⌝ }
 {
     if floats::is_finite(x) {
         return next;
@@ -70,36 +100,11 @@ fn errors_known(e1: f32, e2: f32) -> bool
     true
 }
 
-// The fit of 16 samples, with its working buffers on this call's stack.
-fn fit_16(samples: &[f32], angles: &[f32]) -> RingFit
-    requires { ⌜ (length (now samples) ≡ 16) × (length (now angles) ≡ 16) ⌝ }
-    ensures { λ r. ⌜ r ≡ fitRing 16 (now (samples .entry)) (now (angles .entry)) ⌝ }
-{
-    let mut ss = [0.0f32; 16];
-    let mut cs = [0.0f32; 16];
-    let mut rs = [0.0f32; 16];
-    let mut qs = [0.0f32; 16];
-    let mut d1s = [0.0f32; 16];
-    let mut d2s = [0.0f32; 16];
-    let mut h = [0.0f32; 552];
-    robust::fit_samples(
-        samples,
-        angles,
-        &mut ss,
-        &mut cs,
-        &mut rs,
-        &mut qs,
-        &mut d1s,
-        &mut d2s,
-        &mut h,
-    )
-}
-
 fn ring_fitted(samples: &[f32], angles: &[f32]) -> RingAnswer
     requires { ⌜ (length (now samples) ≡ 16) × (length (now angles) ≡ 16) ⌝ }
     ensures { λ r. ⌜ r ≡ C.ringFitted (now (samples .entry)) (now (angles .entry)) ⌝ }
 {
-    let r = fit_16(samples, angles);
+    let r = robust::fit_ring(samples, angles);
     let f = r.fit;
     let known = errors_known(f.fit_std_error_theta1, f.fit_std_error_theta2);
     RingAnswer::Fitted(r, known)
@@ -160,8 +165,11 @@ fn disk_wild(
     grad_angles: &[f32],
     grad_weights: &[f32],
 ) -> Wild
-    requires { ⌜ (length (now xs) ≤ 320) × (length (now ys) ≡ length (now xs)) × (length (now «vals_centered») ≡ length (now xs)) × (length (now «grad_angles») ≡ length (now xs)) × (length (now «grad_weights») ≡ length (now xs)) ⌝ }
-    ensures { λ r. ⌜ r ≡ C.firstWild (C.diskInputs (diskOf «val_energy» (now (xs .entry)) (now (ys .entry)) (now («vals_centered» .entry)) (now («grad_angles» .entry)) (now («grad_weights» .entry))) base0 base1) ⌝ }
+    requires { ⌜ (length (now xs) ≤ 320) × (length (now ys) ≡ length (now xs)) × (length (now «vals_centered») ≡ length (now xs)) ×
+        (length (now «grad_angles») ≡ length (now xs)) × (length (now «grad_weights») ≡ length (now xs)) ⌝ }
+    ensures { λ r. ⌜ r ≡ C.firstWild
+        (C.diskInputs (diskOf «val_energy» (now (xs .entry)) (now (ys .entry)) (now («vals_centered» .entry)) (now («grad_angles» .entry))
+        (now («grad_weights» .entry))) base0 base1) ⌝ }
 {
     let n = xs.len() as u16;
     let e = shifted(first_wild(grad_weights), 3 + 4 * n, Wild::Clean);
@@ -198,8 +206,11 @@ fn disk_fitted(
     grad_angles: &[f32],
     grad_weights: &[f32],
 ) -> DiskAnswer
-    requires { ⌜ (length (now xs) ≤ 320) × (length (now ys) ≡ length (now xs)) × (length (now «vals_centered») ≡ length (now xs)) × (length (now «grad_angles») ≡ length (now xs)) × (length (now «grad_weights») ≡ length (now xs)) ⌝ }
-    ensures { λ r. ⌜ r ≡ C.diskFitted (diskOf «val_energy» (now (xs .entry)) (now (ys .entry)) (now («vals_centered» .entry)) (now («grad_angles» .entry)) (now («grad_weights» .entry))) base0 base1 ⌝ }
+    requires { ⌜ (length (now xs) ≤ 320) × (length (now ys) ≡ length (now xs)) × (length (now «vals_centered») ≡ length (now xs)) ×
+        (length (now «grad_angles») ≡ length (now xs)) × (length (now «grad_weights») ≡ length (now xs)) ⌝ }
+    ensures { λ r. ⌜ r ≡ C.diskFitted
+        (diskOf «val_energy» (now (xs .entry)) (now (ys .entry)) (now («vals_centered» .entry)) (now («grad_angles» .entry))
+        (now («grad_weights» .entry))) base0 base1 ⌝ }
 {
     let found = search::best_disk_fit(
         val_energy,
@@ -227,7 +238,8 @@ fn disk_looked(
     grad_angles: &[f32],
     grad_weights: &[f32],
 ) -> DiskAnswer
-    requires { ⌜ (length (now xs) ≤ 320) × (length (now ys) ≡ length (now xs)) × (length (now «vals_centered») ≡ length (now xs)) × (length (now «grad_angles») ≡ length (now xs)) × (length (now «grad_weights») ≡ length (now xs)) ⌝ }
+    requires { ⌜ (length (now xs) ≤ 320) × (length (now ys) ≡ length (now xs)) × (length (now «vals_centered») ≡ length (now xs)) ×
+        (length (now «grad_angles») ≡ length (now xs)) × (length (now «grad_weights») ≡ length (now xs)) ⌝ }
     ensures { λ r. ⌜ r ≡ C.diskLooked (diskOf «val_energy» (now (xs .entry)) (now (ys .entry)) (now («vals_centered» .entry)) (now («grad_angles» .entry)) (now («grad_weights» .entry))) base0 base1 (C.firstWild (C.diskInputs (diskOf «val_energy» (now (xs .entry)) (now (ys .entry)) (now («vals_centered» .entry)) (now («grad_angles» .entry)) (now («grad_weights» .entry))) base0 base1)) ⌝ }
 {
     let wild = disk_wild(

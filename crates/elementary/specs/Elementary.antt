@@ -5,6 +5,7 @@ use mathlib.Core.Bool.{Bool, cond, _||_}
 use Prim.Native.Nat.{_*_, _%_}
 use lib.Ieee.{Float, binary32, rem, neg, lt, eq, ofBits, toBits}
 use Rattle.elementary.specs.declared.SinCos.{SinCos}
+use Rattle.elementary.specs.declared.TwoSinCos.{TwoSinCos}
 use Rattle.floats.specs.Ops.{_⊕_, _⊖_, _⊗_, _⊘_, lit, minus, nought, one, pi, tau, halfPi}
 
 -- ---- selects, each one instruction of the machine
@@ -127,6 +128,11 @@ turn x = cond (lt (lit 0x4280_0000) x || lt x (minus 0x4280_0000)) (rem binary32
 unfoldable pub sinCos : Float → SinCos
 unfolding sinCosNear turn
 sinCos x = sinCosNear (turn x)
+
+-- of two angles
+unfoldable pub sinCosTwo : Float → Float → TwoSinCos
+unfolding sinCos
+sinCosTwo x y = record { s1 = sinCos x .s; s2 = sinCos y .s; c1 = sinCos x .c; c2 = sinCos y .c }
 
 unfoldable pub sin : Float → Float
 unfolding sinCos

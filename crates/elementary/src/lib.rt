@@ -189,6 +189,27 @@ pub fn sin_cos(x: f32) -> SinCos
     sin_cos_near(turn(x))
 }
 
+// Sine and cosine of two angles, in the order in which they are worked out side by side.
+pub struct TwoSinCos {
+    pub s1: f32,
+    pub s2: f32,
+    pub c1: f32,
+    pub c2: f32,
+}
+
+pub fn sin_cos_two(x: f32, y: f32) -> TwoSinCos
+    ensures { λ r. ⌜ r ≡ E.sinCosTwo x y ⌝ }
+{
+    let t = sin_cos_near(turn(x));
+    let u = sin_cos_near(turn(y));
+    TwoSinCos {
+        s1: t.s,
+        s2: u.s,
+        c1: t.c,
+        c2: u.c,
+    }
+}
+
 pub fn sin(x: f32) -> f32
     ensures { λ r. ⌜ r ≡ E.sin x ⌝ }
 {

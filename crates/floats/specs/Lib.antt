@@ -20,4 +20,5 @@ pub mod ProductLaws
 pub mod MaxMinLaws
 pub mod NanLaws
 pub mod RootRangeLaws
+pub mod RootOrderLaws
 pub mod DiscreteLaws

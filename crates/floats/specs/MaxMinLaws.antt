@@ -1,11 +1,13 @@
 -- The greater and the lesser of two values: a NaN is dropped, and +0 is above -0. Whatever x is, `min x y` is at most a y that is a number.
 -- Equal numbers differ at most in the sign of a zero, and a sum of two zeros has the sign that is wanted. Stated over the format. Assumes nothing.
 use mathlib.Core.Path.{_≡_, refl, sym, ap, _∙_, subst}
-use Prim.Native.Nat.{ℕ, zero, suc, _*_, _<_}
-use native.Mathlib.Nat.{le-refl, zero-mul}
+use Prim.Native.Nat.{ℕ, zero, suc, _+_, _*_, _<_, zero-le}
+use native.Mathlib.Nat.{le-refl, le-trans, le-of-eq, zero-mul, mul-pos, zero-lt-suc}
+use native.Mathlib.Omega.{arith}
 use mathlib.Core.Bool.{Bool, true, false, not, _&&_, _||_, Bool·beq, cond, true≢false, false≢true}
-use lib.IntN.{pos}
-use lib.Dec.{T, eqb, eqb→eq, eqb-refl}
+use lib.IntN.{ℤ, pos}
+use lib.Dec.{T, ltb, eqb, eqb→eq, eqb-refl, lit<}
+use lib.Ieee.Fits.{up-pos}
 use lib.Ieee.{Float, nan, inf, fin, Format, binary32, binary64, up, down, add, neg, lt, le, eq, ne, fits, isNan, ofBits, level}
 use lib.Ieee.Bits.{is-true}
 use lib.Ieee.Fits.{and-l, and-r, down-pos}
@@ -13,6 +15,8 @@ use lib.Ieee.Exact.{HasValue}
 use lib.Ieee.Back.{whole-unique}
 use Rattle.floats.specs.Ops.{nought}
 use Rattle.floats.specs.Library.{negative, before, max, min}
+use Rattle.floats.specs.UnitLaws.{eq-val, zero-val}
+use Rattle.floats.specs.NonNegLaws.{ltb-no, ltb-yes}
 use Rattle.floats.specs.FiniteLaws.{of-true}
 use Rattle.floats.specs.RankLaws.{rank, rank→le, le-of-not-lt, le-no-nan}
 
@@ -177,3 +181,45 @@ module _ (f : Format) (x y : Float) (p : T (fits f x)) (q : T (fits f y)) where
 
   pub min-zeros : eq y x ≡ true → eq y nought ≡ true → neg (add f (neg x) (neg y)) ≡ min x y
   min-zeros g z = subst (λ (u : Float). neg (add f (neg x) (neg u)) ≡ min x u) (sym (zero-is f y q z)) (subst (λ (u : Float). neg (add f (neg u) (neg (fin (negative y) 0 (pos 0)))) ≡ min u (fin (negative y) 0 (pos 0))) (sym (zero-is f x p (zero-across f y x q g z))) (turned-zeros f (negative x) (negative y)))
+
+-- ---- the greater of a value and 0 is the value where that is above 0, and else 0: of a NaN and of -0 too
+some : (m : ℕ) (e : ℤ) → 0 < suc m * up e * 1
+some m e = mul-pos (mul-pos (zero-lt-suc m) (up-pos e)) (lit< tt)
+
+pub max-nought : (f : Format) (x : Float) → T (fits f x) → max x nought ≡ cond (lt nought x) x nought
+unfolding max before lt eq isNan negative ofBits
+max-nought f nan p = refl
+max-nought f (inf true) p = refl
+max-nought f (inf false) p = refl
+max-nought f (fin s zero e) p = subst (λ (x : Float). max x nought ≡ cond (lt nought x) x nought) (sym (zero-is f (fin s zero e) p (equal s))) (zeros s)
+  where
+    equal : (s : Bool) → eq (fin s zero e) nought ≡ true
+    equal true = eq-val f (fin true zero e) nought true 0 false 0 (zero-val f true e) (zero-val f false (pos 0))
+    equal false = eq-val f (fin false zero e) nought false 0 false 0 (zero-val f false e) (zero-val f false (pos 0))
+
+    zeros : (s : Bool) → max (fin s 0 (pos 0)) nought ≡ cond (lt nought (fin s 0 (pos 0))) (fin s 0 (pos 0)) nought
+    zeros true = refl
+    zeros false = refl
+max-nought f (fin true (suc m) e) p = go (ltb 0 (a + 0 * down e)) (eqb a (0 * down e) && eqb a 0) (ltb-yes 0 (a + 0 * down e) (more a (0 * down e) (some m e)))
+  where
+    a : ℕ
+    a = suc m * up e * 1
+
+    more : (a b : ℕ) → 0 < a → 0 < a + b
+    more a b h = omega arith
+
+    go : (u v : Bool) → u ≡ true → cond (u || (v && true)) nought (fin true (suc m) e) ≡ nought
+    go true v h = refl
+    go false v h = absurd (false≢true h)
+max-nought f (fin false (suc m) e) p =
+    go (ltb a (0 * down e)) (eqb a (0 * down e) && true) (ltb (0 * down e) a) (ltb-no a (0 * down e) (le-trans (le-of-eq (zero-mul (down e))) zero-le))
+    (ltb-yes (0 * down e) a (subst (λ (z : ℕ). z < a) (sym (zero-mul (down e))) (some m e)))
+  where
+    a : ℕ
+    a = suc m * up e * 1
+
+    go : (u v w : Bool) → u ≡ false → w ≡ true → cond (u || (v && false)) nought (fin false (suc m) e) ≡ cond w (fin false (suc m) e) nought
+    go true v w h k = absurd (true≢false h)
+    go false true true h k = refl
+    go false false true h k = refl
+    go false v false h k = absurd (false≢true k)

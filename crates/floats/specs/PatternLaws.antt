@@ -62,6 +62,10 @@ write-val f (fin s m e) n v =
     ∙ ap (λ (z : Bool). cond z (top f) 0 + (size n - prec f) * hid f + n / 2 ^ (size n - prec f)) (v .0)
     ∙ ap (λ (z : ℕ). z + n / 2 ^ (size n - prec f)) (zero-add ((size n - prec f) * hid f))
 
+-- one number of units with a clear sign, one value
+pub same-clear : (f : Format) (x y : Float) (n : ℕ) → T (fits f x) → T (fits f y) → Val f x false n → Val f y false n → x ≡ y
+same-clear f x y n p q v w = sym (ofBits-toBits f x p) ∙ ap (ofBits f) (write-val f x n v ∙ sym (write-val f y n w)) ∙ ofBits-toBits f y q
+
 -- q * 2 ^ k units, q with all its digits: the pattern is k fields on, plus q
 full : (p k : ℕ) → 0 < p → suc (p - 1 + k) - p ≡ k
 full p k h = omega arith

@@ -14,6 +14,25 @@ use Rattle.floats.specs.UnitLaws.{Val}
 use Rattle.floats.specs.RankLaws.{Sized}
 use Rattle.floats.specs.NarrowOrderLaws.{G, fraction-sized}
 
+-- a product commutes, in every bit
+unlike-turned : (s t : Bool) → unlike s t ≡ unlike t s
+unlike-turned true true = refl
+unlike-turned true false = refl
+unlike-turned false true = refl
+unlike-turned false false = refl
+
+pub mul-turned : (f : Format) (x y : Float) → mul f x y ≡ mul f y x
+unfolding mul
+mul-turned f nan nan = refl
+mul-turned f nan (inf t) = refl
+mul-turned f nan (fin t n d) = refl
+mul-turned f (inf s) nan = refl
+mul-turned f (inf s) (inf t) = ap inf (unlike-turned s t)
+mul-turned f (inf s) (fin t n d) = ap (λ (u : Bool). cond (eqb n 0) nan (inf u)) (unlike-turned s t)
+mul-turned f (fin s m e) nan = refl
+mul-turned f (fin s m e) (inf t) = ap (λ (u : Bool). cond (eqb m 0) nan (inf u)) (unlike-turned s t)
+mul-turned f (fin s m e) (fin t n d) = rw (unlike-turned s t, mul-comm (m * up e) (n * up d), mul-comm (down e) (down d))
+
 pub mul-val : (f : Format) (x y : Float) (s : Bool) (a : ℕ) (t : Bool) (b : ℕ) → Val f x s a → Val f y t b → mul f x y ≡ round f (unlike s t) (a * b) (2 ^ low f * 2 ^ low f)
 unfolding mul
 mul-val f nan y s a t b v w = absurd v

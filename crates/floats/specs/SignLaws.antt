@@ -1,19 +1,21 @@
 -- `abs` clears the sign and `signum` is 1 with the sign; a program finds both by comparisons alone, with no look at the bits. Assumes nothing.
 use mathlib.Core.Path.{_≡_, refl, sym, ap, _∙_, subst}
-use Prim.Native.Nat.{ℕ, zero, suc, _*_, zero-le}
-use native.Mathlib.Nat.{le-trans, le-of-eq, not-le-of-lt, zero-mul}
-use mathlib.Core.Bool.{Bool, true, false, cond, true≢false, false≢true}
-use lib.IntN.{pos}
-use lib.Dec.{T, ltb→lt, eqb, eqb→eq}
-use lib.Ieee.{Float, nan, inf, fin, Format, binary32, up, down, neg, div, lt, eq, ne, fits, isNan, ofBits}
-use lib.Ieee.Fits.{and-l}
-use lib.Ieee.Exact.{HasValue}
-use lib.Ieee.Back.{whole-unique}
+use Prim.Native.Nat.{ℕ, zero, suc, _-_, _*_, _^_, _≤_, _<_, zero-le}
+use native.Mathlib.Nat.{le-trans, le-of-eq, not-le-of-lt, zero-add, zero-mul}
+use native.Mathlib.Omega.{arith}
+use mathlib.Core.Bool.{Bool, true, false, not, cond, true≢false, false≢true}
+use lib.IntN.{ℤ, pos}
+use lib.Dec.{T, ltb→lt, nltb→le}
+use lib.Ieee.{Float, nan, inf, fin, Format, binary32, low, up, down, round, neg, add, sub, div, lt, eq, ne, fits, isNan, ofBits}
+use lib.Ieee.Fits.{sub-fits}
+use lib.Ieee.Scale.{overflow}
 use lib.Ieee.Compare.{differs-from-itself}
 use Rattle.floats.specs.Ops.{_⊘_, nought, one}
 use Rattle.floats.specs.Library.{abs, signum, negative}
-use Rattle.floats.specs.UnitLaws.{Val}
-use Rattle.floats.specs.RoundingLaws.{counted}
+use Rattle.floats.specs.UnitLaws.{Val, lt-val, sub-val}
+use Rattle.floats.specs.RoundingLaws.{counted, Rep, R-exact}
+use Rattle.floats.specs.NonNegLaws.{sum-same, sum-pn-ge, rounded}
+use Rattle.floats.specs.PatternLaws.{same-clear}
 use Rattle.floats.specs.FiniteLaws.{of-true}
 use Rattle.floats.specs.PositiveLaws.{below-zero}
 use Rattle.floats.specs.MaxMinLaws.{zero-is}
@@ -34,39 +36,58 @@ abs-val f nan s n v = absurd v
 abs-val f (inf t) s n v = absurd v
 abs-val f (fin t m e) s n v = (refl, v .1)
 
--- how a program finds it
-pub abs-below : (x : Float) → lt x zero0 ≡ true → neg x ≡ abs x
-unfolding abs neg lt
-abs-below nan t = absurd (false≢true t)
-abs-below (inf true) t = refl
-abs-below (inf false) t = absurd (false≢true t)
-abs-below (fin true m e) t = refl
-abs-below (fin false m e) t = absurd (not-le-of-lt (ltb→lt (m * up e * 1) (0 * 1 * down e) (of-true t)) (le-trans (le-of-eq (zero-mul (down e))) zero-le))
+-- how a program finds it: x itself above zero, and 0 - x elsewhere, which has no unit where x has none
+pub abs-above : (x : Float) → lt zero0 x ≡ true → x ≡ abs x
+unfolding abs lt
+abs-above nan t = absurd (false≢true t)
+abs-above (inf true) t = absurd (false≢true t)
+abs-above (inf false) t = refl
+abs-above (fin true m e) t = absurd (false≢true t)
+abs-above (fin false m e) t = refl
 
-zero0-fits : T (fits binary32 zero0)
-unfolding fits
-zero0-fits = tt
-
-abs-none : (x : Float) → eq x zero0 ≡ true → HasValue (abs x) false 0 1
-unfolding eq abs
-abs-none nan t = absurd (false≢true t)
-abs-none (inf s) t = absurd (false≢true t)
-abs-none (fin true m e) t = (refl, eqb→eq (m * up e * 1) (0 * 1 * down e) (and-l (eqb (m * up e * 1) (0 * 1 * down e)) (eqb (m * up e * 1) 0) (of-true t)))
-abs-none (fin false m e) t = (refl, eqb→eq (m * up e * 1) (0 * 1 * down e) (and-l (eqb (m * up e * 1) (0 * 1 * down e)) true (of-true t)))
-
-pub abs-zero : (x : Float) → T (fits binary32 x) → eq x zero0 ≡ true → zero0 ≡ abs x
-abs-zero x p t = whole-unique binary32 zero0 (abs x) false 0 zero0-fits (abs-fits binary32 x p) (refl, refl) (abs-none x t)
-
-pub abs-above : (x : Float) → T (fits binary32 x) → lt x zero0 ≡ false → eq x zero0 ≡ false → x ≡ abs x
-abs-above nan p l e = unfold abs in refl
-abs-above (inf true) p l e = absurd (true≢false (unfold lt in l))
-abs-above (inf false) p l e = unfold abs in refl
-abs-above (fin false m k) p l e = unfold abs in refl
-abs-above (fin true m k) p l e = let c = counted binary32 (fin true m k) p tt in absurd (go (c .sign) (c .count) (c .val))
+pub abs-rest : (x : Float) → T (fits binary32 x) → lt zero0 x ≡ false → sub binary32 zero0 x ≡ abs x
+abs-rest nan p t = unfold sub add neg abs in refl
+abs-rest (inf true) p t = unfold sub add neg abs in refl
+abs-rest (inf false) p t = absurd (true≢false (unfold lt in t))
+abs-rest (fin s m e) p t = let c = counted binary32 (fin s m e) p tt in go (c .sign) (c .count) (c .val) (c .rep)
   where
-    go : (s : Bool) (n : ℕ) → Val binary32 (fin true m k) s n → ⊥
-    go true n v = below-zero (fin true m k) n v e l
-    go false n v = true≢false (v .0)
+    x : Float
+    x = fin s m e
+
+    Z : Val binary32 zero0 false 0
+    Z = (refl, refl)
+
+    less : (n : ℕ) → n ≤ 0 → 0 - n ≡ n
+    less n h = omega arith
+
+    y : Float
+    y = sub binary32 zero0 x
+
+    rounds : ℕ → Float
+    rounds n = round binary32 false n (2 ^ low binary32)
+
+    from : (n : ℕ) → y ≡ rounds n → Rep binary32 n → Val binary32 (abs x) false n → y ≡ abs x
+    from n e r v =
+        let k = R-exact binary32 n r in
+        let w = rounded binary32 y false n (subst (λ (z : ℕ). z < overflow binary32) (sym k) (r .4)) e in
+        same-clear binary32 y (abs x) n (sub-fits binary32 zero0 x) (abs-fits binary32 x p) (subst (Val binary32 y false) k w) v
+
+    go : (u : Bool) (n : ℕ) → Val binary32 x u n → Rep binary32 n → y ≡ abs x
+    go true n v r =
+        from n (sub-val binary32 zero0 x false 0 true n Z v ∙ sum-same binary32 0 n (2 ^ low binary32) false ∙ ap rounds (zero-add n)) r
+        (abs-val binary32 x true n v)
+    go false n v r =
+        let h : n ≤ 0 = nltb→le 0 n (subst (λ (b : Bool). T (not b)) (sym t ∙ lt-val binary32 zero0 x false 0 false n Z v) tt) in
+        from n (sub-val binary32 zero0 x false 0 false n Z v ∙ sum-pn-ge binary32 0 n (2 ^ low binary32) h ∙ ap rounds (less n h)) r
+        (abs-val binary32 x false n v)
+
+-- what is not above c in size lies between -c and c, or is a NaN
+pub abs-within : (m : ℕ) (d : ℤ) (x : Float) → lt (fin false m d) (abs x) ≡ false → (lt (fin false m d) x ≡ false) × (lt x (fin true m d) ≡ false)
+unfolding abs lt
+abs-within m d nan t = (refl, refl)
+abs-within m d (inf s) t = absurd (true≢false t)
+abs-within m d (fin true n e) t = (refl, t)
+abs-within m d (fin false n e) t = (t, refl)
 
 -- ---- signum
 pub signum-nan : (x : Float) → ne x x ≡ true → x ≡ signum x

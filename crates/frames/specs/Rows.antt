@@ -20,7 +20,8 @@ use Rattle.solver_elimination.specs.declared.Solved.the-variants.{Values, Faile
 use Rattle.solver_elimination.specs.declared.Errors.{Errors}
 use Rattle.solver.specs.Solver.{degenerateFit, degenerate, fitWithSeed}
 use Rattle.seed.specs.Seed.{wavedBy, waves, harmonic, secondHarmonic}
-use Rattle.robust.specs.Robust.{total, deviations, fitIsSuspicious, fitRing, gridAngle}
+use Rattle.robust_grid.specs.Grid.{gridAngle}
+use Rattle.robust.specs.Robust.{total, deviations, fitIsSuspicious, start, ring, fitRing}
 use Rattle.checked.specs.Checked.{wildFrom, firstWild, errorsKnown, ringFitted, ringLooked, checkedRing}
 use Rattle.candidates.specs.Candidates.{combineEdgePair}
 use Rattle.hex.specs.Hex.{isHex, allHex, byteOf, wordOf, valuesOf, byteText, countText, wordText, wordsText}
@@ -93,7 +94,7 @@ pub rows-to-prove : (
     ∷ (56 ∷ 49 ∷ 48 ∷ 48 ∷ 48 ∷ 48 ∷ 48 ∷ 48 ∷ 48 ∷ 48 ∷ 48 ∷ 48 ∷ 48 ∷ 48 ∷ 48 ∷ 48 ∷ 48 ∷ 48 ∷ 48 ∷ 48 ∷ 51 ∷ 102 ∷ 99 ∷ 57 ∷ 48 ∷ 102 ∷ 100 ∷ 98 ∷ 52 ∷ 48 ∷ 52 ∷ 57 ∷ 48 ∷ 102 ∷ 100 ∷ 98 ∷ 52 ∷ 48 ∷ 52 ∷ 57 ∷ 48 ∷ 102 ∷ 100 ∷ 98 ∷ 48 ∷ 48 ∷ 48 ∷ 48 ∷ 48 ∷ 48 ∷ 48 ∷ 48 ∷ 48 ∷ 49 ∷ 48 ∷ 48 ∷ 48 ∷ 48 ∷ 48 ∷ 48 ∷ [])
     ∷ []
     )
-unfolding combineEdgePair canonicalizeTrackingSwap settled placed wrapToTau arc remEuclid validPair lineSeparation lineDelta signedLineDelta abs negative before max min sqrt rootUnits wholeRoot degenerateFit iter range solve4x4 augmented larger pivotRow unusable reduced cleared clear topRow columned stopped axisError bothErrors axisStdErrors floor bin tab whole sinRest cosRest quadrant sinCosNear turn sinCos degenerate fitWithSeed wavedBy waves harmonic secondHarmonic total deviations fitIsSuspicious fitRing wildFrom firstWild errorsKnown ringFitted checkedRing isHex allHex byteOf wordOf valuesOf byteText countText wordText wordsText answerOf shapeOf typedShape ringShape ringText finite ltb eqb toUnsigned ofBits toBits ofInt add sub mul div rem neg lt le eq isNan round size toRadians ringLooked
+unfolding combineEdgePair canonicalizeTrackingSwap settled placed wrapToTau arc remEuclid validPair lineSeparation lineDelta signedLineDelta abs negative before max min sqrt rootUnits wholeRoot degenerateFit iter range solve4x4 augmented larger pivotRow unusable reduced cleared clear topRow columned stopped axisError bothErrors axisStdErrors floor bin tab whole sinRest cosRest quadrant sinCosNear turn sinCos degenerate fitWithSeed wavedBy waves harmonic secondHarmonic total deviations fitIsSuspicious start ring fitRing wildFrom firstWild errorsKnown ringFitted checkedRing isHex allHex byteOf wordOf valuesOf byteText countText wordText wordsText answerOf shapeOf typedShape ringShape ringText finite ltb eqb toUnsigned ofBits toBits ofInt add sub mul div rem neg lt le eq isNan round size toRadians ringLooked
 rows-to-prove = refl
 
 -- the two pairs of the grid that stand at 12 degrees: both are allowed

@@ -293,23 +293,17 @@ pub extern "C" fn fl_fit_with_seed(
         theta1: seed[0],
         theta2: seed[1],
     };
-    let mut ss = [0.0f32; 16];
-    let mut cs = [0.0f32; 16];
-    let mut rs = [0.0f32; 16];
-    let mut qs = [0.0f32; 16];
-    let mut d1s = [0.0f32; 16];
-    let mut d2s = [0.0f32; 16];
+    let mut sphi = [0.0f32; 16];
+    let mut cphi = [0.0f32; 16];
+    let mut js = [0.0f32; 64];
     start_of(solver::fit_with_seed(
         samples,
         ring_phi,
         p,
         centered_var,
-        &mut ss,
-        &mut cs,
-        &mut rs,
-        &mut qs,
-        &mut d1s,
-        &mut d2s,
+        &mut sphi,
+        &mut cphi,
+        &mut js,
     ))
 }
 
@@ -317,7 +311,10 @@ pub extern "C" fn fl_fit_with_seed(
 
 #[no_mangle]
 pub extern "C" fn fl_second_harmonic(samples: &[f32; 16], ring_phi: &[f32; 16], mean: f32) -> Two {
-    let h = seed::second_harmonic(samples, ring_phi, mean);
+    let mut turned = [0.0f32; 16];
+    let mut sphi = [0.0f32; 16];
+    let mut cphi = [0.0f32; 16];
+    let h = seed::second_harmonic(samples, ring_phi, mean, &mut turned, &mut sphi, &mut cphi);
     Two {
         values: [h.theta, h.mag],
     }
@@ -345,24 +342,7 @@ pub extern "C" fn fl_insert_seed_candidate(top: Seed5, candidate: &[f32; 5]) -> 
 
 #[no_mangle]
 pub extern "C" fn fl_fit_ring(samples: &[f32; 16], ring_phi: &[f32; 16]) -> Ring {
-    let mut ss = [0.0f32; 16];
-    let mut cs = [0.0f32; 16];
-    let mut rs = [0.0f32; 16];
-    let mut qs = [0.0f32; 16];
-    let mut d1s = [0.0f32; 16];
-    let mut d2s = [0.0f32; 16];
-    let mut h = [0.0f32; 552];
-    let r = robust::fit_samples(
-        samples,
-        ring_phi,
-        &mut ss,
-        &mut cs,
-        &mut rs,
-        &mut qs,
-        &mut d1s,
-        &mut d2s,
-        &mut h,
-    );
+    let r = robust::fit_ring(samples, ring_phi);
     let values = values_of(r.fit);
     Ring {
         values,
@@ -387,24 +367,18 @@ pub extern "C" fn fl_robust_grid_fit(
     mean: f32,
     centered_var: f32,
 ) -> Start {
-    let mut ss = [0.0f32; 16];
-    let mut cs = [0.0f32; 16];
-    let mut rs = [0.0f32; 16];
-    let mut qs = [0.0f32; 16];
-    let mut d1s = [0.0f32; 16];
-    let mut d2s = [0.0f32; 16];
-    let mut h = [0.0f32; 552];
+    let mut sphi = [0.0f32; 16];
+    let mut cphi = [0.0f32; 16];
+    let mut js = [0.0f32; 64];
+    let mut h = [0.0f32; 386];
     second_of(robust::robust_grid_fit(
         samples,
         ring_phi,
         mean,
         centered_var,
-        &mut ss,
-        &mut cs,
-        &mut rs,
-        &mut qs,
-        &mut d1s,
-        &mut d2s,
+        &mut sphi,
+        &mut cphi,
+        &mut js,
         &mut h,
     ))
 }
@@ -416,22 +390,16 @@ pub extern "C" fn fl_refine_seed_candidates(
     centered_var: f32,
     top: Seed5,
 ) -> Start {
-    let mut ss = [0.0f32; 16];
-    let mut cs = [0.0f32; 16];
-    let mut rs = [0.0f32; 16];
-    let mut qs = [0.0f32; 16];
-    let mut d1s = [0.0f32; 16];
-    let mut d2s = [0.0f32; 16];
+    let mut sphi = [0.0f32; 16];
+    let mut cphi = [0.0f32; 16];
+    let mut js = [0.0f32; 64];
     second_of(robust::refine_seed_candidates(
         samples,
         ring_phi,
         centered_var,
         top_of(top),
-        &mut ss,
-        &mut cs,
-        &mut rs,
-        &mut qs,
-        &mut d1s,
-        &mut d2s,
+        &mut sphi,
+        &mut cphi,
+        &mut js,
     ))
 }

@@ -23,7 +23,7 @@ use Rattle.floats.specs.UnitLaws.{Val, lt-val, neg-val, mod-scale}
 use Rattle.floats.specs.RoundingLaws.{R, Rep, Counted, counted, rep-of, R-exact, val-unique, finite-of-val}
 use Rattle.floats.specs.NonNegLaws.{rounded, ltb-yes, ltb-no}
 use Rattle.floats.specs.RemLaws.{rem-exact, pi-val, tau-val, pi-rep, tau-rep}
-use Rattle.floats.specs.PatternLaws.{write-val, read-low, read-high, pattern-neg}
+use Rattle.floats.specs.PatternLaws.{same-clear, read-low, read-high, pattern-neg}
 use Rattle.floats.specs.PositiveLaws.{pattern-below}
 use Rattle.floats.specs.ProductLaws.{mul-val}
 
@@ -50,9 +50,6 @@ neg-neg (inf true) = refl
 neg-neg (inf false) = refl
 neg-neg (fin true m e) = refl
 neg-neg (fin false m e) = refl
-
-same-clear : (f : Format) (x y : Float) (n : ℕ) → T (fits f x) → T (fits f y) → Val f x false n → Val f y false n → x ≡ y
-same-clear f x y n p q v w = sym (ofBits-toBits f x p) ∙ ap (ofBits f) (write-val f x n v ∙ sym (write-val f y n w)) ∙ ofBits-toBits f y q
 
 pub same-val : (f : Format) (x y : Float) (s : Bool) (n : ℕ) → T (fits f x) → T (fits f y) → Val f x s n → Val f y s n → x ≡ y
 same-val f x y false n p q v w = same-clear f x y n p q v w

@@ -1,4 +1,5 @@
 pub mod Robust
+pub mod Parts
 pub mod RobustLaws
 pub mod SoundLaws
 pub mod Residual

@@ -1,42 +1,41 @@
--- A residual of 0 is made of a sum that is a number and at most 2 ^ -146: only a zero has the root 0, and a sixteenth rounds to 0, or below, only from 8 units down.
--- Of finite samples the deviations are no NaN: what is added is never below zero, so no infinity meets one of the other sign. Assumes nothing.
+-- A residual of 0 is made of a sum that is a number, not below 0 and at most 2 ^ -146: only a zero has the root 0, a sixteenth rounds to 0, or below,
+-- only from 8 units down, and a sum of squares is a NaN or not below 0. Of finite samples the deviations are no NaN: what is added is never below
+-- zero, so no infinity meets one of the other sign. Assumes nothing.
 use mathlib.Core.Path.{_≡_, refl, sym, ap, _∙_, subst}
+use mathlib.Core.Logic.{_⊎_, inl, inr}
 use mathlib.Core.Bool.{Bool, true, false, cond, not, _&&_, _||_, Bool·beq, true≢false, false≢true}
-use Prim.Native.Nat.{ℕ, zero, suc, _+_, _-_, _*_, _^_, _≤_, _<_}
+use Prim.Native.Nat.{ℕ, zero, suc, _+_, _-_, _*_, _^_, _≤_, _<_, zero-le}
 use native.Mathlib.Nat.{lt-of-lt-of-le, lt-irrefl, mul-pos, mul-le-mul-right, zero-lt-suc, zero-mul}
 use native.Mathlib.Omega.{arith}
 use lib.IntN.{ℤ, pos, negsuc}
 use lib.Dec.{T, leb, ltb, eqb, leb→le, nleb→lt, eqb→eq, lt→ltb, lit<}
 use lib.Pow.{pow-pos}
-use lib.Ieee.{Float, nan, inf, fin, Format, binary32, prec, emax, low, up, down, unlike, odd, units, round, sum, add, sub, mul, div, neg, lt, le, eq, fits, isNan, ofInt, ofBits}
+use lib.Ieee.{Float, nan, inf, fin, Format, binary32, prec, emax, low, up, down, unlike, odd, units, round, sum, add, sub, mul, div, neg, lt, le, eq, fits}
+use lib.Ieee.{isNan, ofInt, ofBits}
 use lib.Ieee.Scale.{finite}
 use lib.Ieee.Order.{drop, kept, round-mono}
 use lib.Ieee.Fits.{and-l, down-pos, up-pos, add-fits, div-fits, neg-fits, cond-fits, round-fits, round-is}
 use lib.Ieee.Bits.{ofBits-fits}
 use Rattle.floats.specs.Ops.{_⊕_, _⊖_, _⊗_, _⊘_, lit, nought}
+use Rattle.floats.specs.Rows.{Row, at, count}
 use Rattle.floats.specs.Library.{negative, before, max, sqrt}
-use Rattle.floats.specs.UnitLaws.{Val, eq-val}
+use Rattle.floats.specs.UnitLaws.{Val, eq-val, le-val, zero-val}
 use Rattle.floats.specs.RoundingLaws.{Rep, counted, rep-of}
 use Rattle.floats.specs.NonNegLaws.{clear, le-of, or-r}
 use Rattle.floats.specs.RankLaws.{le-le}
 use Rattle.floats.specs.ProductLaws.{div-val}
 use Rattle.floats.specs.NearestRootLaws.{root-nearest}
+use Rattle.floats.specs.RemLaws.{nought-nn}
 use Rattle.floats.specs.FiniteLaws.{of-true}
 use Rattle.loops.specs.Loops.{iter}
 use Rattle.loops.specs.IterLaws.{iter-keeps}
 use Rattle.solver.specs.SolverLaws.{run-full, run-stay, run-to}
-use Rattle.solver.specs.Solver.{Normal, empty, added, pass, Step, stay, to, Final, updatesFrom, updates, sines, cosines, count, whole, degenerate, degenerateFit, finished, assembled, fitWithSeed}
+use Rattle.solver.specs.Solver.{Normal, empty, added, pass, Step, stay, to, Final, updatesFrom, updates, sines, cosines, whole}
+use Rattle.solver.specs.Solver.{degenerate, degenerateFit, finished, assembled, fitWithSeed}
 use Rattle.solver.specs.declared.Params.{Params}
-use Rattle.solver.specs.declared.Started.{Started}
-use Rattle.solver.specs.declared.TwoAxisFit.{TwoAxisFit}
-use Rattle.seed.specs.Seed.{Row, at, secondHarmonic}
-use Rattle.seed.specs.declared.Seed.{Seed}
-use Rattle.seed.specs.declared.Seed.the-variants.{Found, Nothing}
-use Rattle.robust.specs.declared.Second.{Second}
-use Rattle.robust.specs.declared.Second.the-variants.{Missing}
-use Rattle.robust.specs.declared.RingFit.{RingFit}
-use Rattle.robust.specs.Robust.{negativeZero, total, deviations, meanOf, centeredOf, squares, flatSquares, fitIsSuspicious, seeded, refineSeedCandidates, robustGridFit, single, lower, chosen, firstSeed, fitRing}
-use Rattle.robust.specs.Residual.{startSum, refinedSum, gridSum, ringSum, MadeOf, fitted, refused, Tiny}
+use Rattle.robust.specs.Robust.{negativeZero, total, deviations, meanOf, varianceOf, Squares, ofPass, ofMean, start, ring, fitRing, sumOf, ringSum}
+use Rattle.robust.specs.SoundLaws.{ring-each}
+use Rattle.robust.specs.Residual.{MadeOf, Tiny}
 
 -- ---- a root is 0 only of a zero
 nought-val : Val binary32 nought false 0
@@ -102,12 +101,17 @@ below-all m e = or-l (ltb 0 (m * up e * 2 ^ 146 + 1 * down e)) _ (lt→ltb 0 (m 
     more : (a b : ℕ) → 0 < b → 0 < a + 1 * b
     more a b h = omega arith
 
-sixteenth : (x : Float) → T (fits binary32 x) → T (le (x ⊘ count 16) nought) → Tiny x
+record Low (s : Float) : Type 0 where
+  number : T (not (isNan s))
+  small : T (le s (lit 0x0000_0008))
+
+sixteenth : (x : Float) → T (fits binary32 x) → T (le (x ⊘ count 16) nought) → Low x
 sixteenth nan p h = absurd (unfold div le lt eq in h)
 sixteenth (inf true) p h = record { number = unfold isNan in tt; small = unfold le lt ofBits in tt }
 sixteenth (inf false) p h = absurd (unfold div ofInt round le lt eq ofBits in h)
 sixteenth (fin true m e) p h = record { number = unfold isNan in tt; small = below-all m e }
-sixteenth (fin false m e) p h = let c = counted binary32 (fin false m e) p tt in record { number = unfold isNan in tt; small = go (c .sign) (c .count) (c .val) (c .rep) }
+sixteenth (fin false m e) p h =
+    let c = counted binary32 (fin false m e) p tt in record { number = unfold isNan in tt; small = go (c .sign) (c .count) (c .val) (c .rep) }
   where
     x : Float
     x = fin false m e
@@ -122,13 +126,17 @@ sixteenth (fin false m e) p h = let c = counted binary32 (fin false m e) p tt in
         large : 9 ≤ a → T (le unit (x ⊘ count 16))
         large l =
             subst (λ (z : Float). T (le z (x ⊘ count 16))) nine
-            (subst (λ (z : Float). T (le (round binary32 false 9 (2 ^ 153)) z)) (sym quotient) (round-mono binary32 9 (2 ^ 153) a (2 ^ 153) (pow-pos 153) (pow-pos 153) (mul-le-mul-right (2 ^ 153) l)))
+            (subst (λ (z : Float). T (le (round binary32 false 9 (2 ^ 153)) z)) (sym quotient)
+            (round-mono binary32 9 (2 ^ 153) a (2 ^ 153) (pow-pos 153) (pow-pos 153) (mul-le-mul-right (2 ^ 153) l)))
 
         pick : (b : Bool) → (T b → a ≤ 8) → (T (not b) → 8 < a) → T (le x (lit 8))
         pick true u w =
-            le-of binary32 x (lit 8) a 8 (clear binary32 x a v r) (clear binary32 (lit 8) 8 eight-val (rep-of binary32 (lit 8) false 8 (ofBits-fits binary32 8) eight-val)) (u tt)
+            le-of binary32 x (lit 8) a 8 (clear binary32 x a v r)
+            (clear binary32 (lit 8) 8 eight-val (rep-of binary32 (lit 8) false 8 (ofBits-fits binary32 8) eight-val)) (u tt)
         pick false u w =
-            absurd (unit-above (le-le binary32 unit (x ⊘ count 16) nought (subst (λ (z : Float). T (fits binary32 z)) nine (round-fits binary32 false 9 (2 ^ 153))) (div-fits binary32 x (count 16)) (ofBits-fits binary32 0) (large (w tt)) h))
+            absurd (unit-above (le-le binary32 unit (x ⊘ count 16) nought
+            (subst (λ (z : Float). T (fits binary32 z)) nine (round-fits binary32 false 9 (2 ^ 153))) (div-fits binary32 x (count 16))
+            (ofBits-fits binary32 0) (large (w tt)) h))
 
 -- the bound is met: a sum of 8 units has the residual 0
 pub eight-gives-zero : eq (sqrt binary32 (lit 8 ⊘ count 16)) nought ≡ true
@@ -281,6 +289,65 @@ add-upright (fin s m e) (fin false n d) h k = sum-clear s (m * up e * down d) (n
     none : m ≡ 0 → m * up e * down d ≡ 0
     none z = ap (λ (w : ℕ). w * up e * down d) z ∙ ap (λ (w : ℕ). w * down d) (zero-mul (up e)) ∙ zero-mul (down d)
 
+-- the same, or a NaN: what a sum of squares is, whatever is squared
+abbrev Level : Float → Type 0
+Level nan = 0 ≤ 0
+Level (inf s) = s ≡ false
+Level (fin s m e) = T s → m ≡ 0
+
+upright-level : (x : Float) → Upright x → Level x
+upright-level nan h = absurd h
+upright-level (inf s) h = h
+upright-level (fin s m e) h = h
+
+level-upright : (x : Float) → Number x → Level x → Upright x
+level-upright nan n h = absurd (unfold isNan in n)
+level-upright (inf s) n h = h
+level-upright (fin s m e) n h = h
+
+nought-level : Level nought
+unfolding ofBits
+nought-level = λ t. absurd t
+
+zero-above : (e : ℤ) → le nought (fin true zero e) ≡ true
+unfolding ofBits
+zero-above e = le-val binary32 nought (fin true zero e) false 0 true 0 (zero-val binary32 false (pos 0)) (zero-val binary32 true e)
+
+nan-right : (x : Float) → x ⊕ nan ≡ nan
+unfolding add
+nan-right nan = refl
+nan-right (inf s) = refl
+nan-right (fin s m e) = refl
+
+square-is : (r : Float) → (r ⊗ r ≡ nan) ⊎ Clear (r ⊗ r)
+square-is nan = inl (unfold mul in refl)
+square-is (inf s) = inr (square-clear (inf s) (unfold isNan in tt))
+square-is (fin s m e) = inr (square-clear (fin s m e) (unfold isNan in tt))
+
+sum-level : (x y : Float) → Level x → Clear y → Level (x ⊕ y)
+sum-level nan y h k = unfold add in omega arith
+sum-level (inf s) y h k = upright-level (inf s ⊕ y) (clear-upright (inf s ⊕ y) (add-upright (inf s) y h k))
+sum-level (fin s m e) y h k = upright-level (fin s m e ⊕ y) (clear-upright (fin s m e ⊕ y) (add-upright (fin s m e) y h k))
+
+add-level : (x r : Float) → Level x → Level (x ⊕ r ⊗ r)
+add-level x r h = go (square-is r)
+  where
+    go : (r ⊗ r ≡ nan) ⊎ Clear (r ⊗ r) → Level (x ⊕ r ⊗ r)
+    go (inl e) = subst (λ (y : Float). Level (x ⊕ y)) (sym e) (subst Level (sym (nan-right x)) (omega arith))
+    go (inr c) = sum-level x (r ⊗ r) h c
+
+-- what is upright is not below 0
+upright-above : (x : Float) → T (fits binary32 x) → Upright x → T (le nought x)
+upright-above nan p h = absurd h
+upright-above (inf true) p h = absurd (true≢false h)
+upright-above (inf false) p h = unfold le lt ofBits in tt
+upright-above (fin true m e) p h = subst (λ (k : ℕ). T (le nought (fin true k e))) (sym (h tt)) (subst T (sym (zero-above e)) tt)
+upright-above (fin false m e) p h = let c = counted binary32 (fin false m e) p tt in go (c .sign) (c .count) (c .val) (c .rep)
+  where
+    go : (s : Bool) (n : ℕ) → Val binary32 (fin false m e) s n → Rep binary32 n → T (le nought (fin false m e))
+    go true n v r = absurd (false≢true (v .0))
+    go false n v r = le-of binary32 nought (fin false m e) 0 n nought-nn (clear binary32 (fin false m e) n v r) zero-le
+
 -- ---- the sums over finite samples
 -- what every turn below n keeps, n turns keep
 turns-keep : (P : Float → Type 0) (f : ℕ → Float → Float) (s : Float) (n : ℕ) → P s → ((i : ℕ) → i < n → (x : Float) → P x → P (f i x)) → P (iter f s n)
@@ -299,24 +366,30 @@ total-number : (n : ℕ) (vs : Row) → Finite n vs → Number (total n vs)
 unfolding total
 total-number n vs h = turns-keep Number (λ i s. s ⊕ at vs i) negativeZero n (minus-zero .0) (λ i l x k. add-number x (at vs i) k (h i l))
 
-deviations-number : (n : ℕ) (vs : Row) (mean : Float) → Finite n vs → Number mean → Number (deviations n vs mean)
+deviations-upright : (n : ℕ) (vs : Row) (mean : Float) → Finite n vs → Number mean → Upright (deviations n vs mean)
 unfolding deviations
-deviations-number n vs mean h k =
-    upright-number _
+deviations-upright n vs mean h k =
     (turns-keep Upright (λ i s. s ⊕ (at vs i ⊖ mean) ⊗ (at vs i ⊖ mean)) negativeZero n (minus-zero .1)
     (λ i l x u. let d = at vs i ⊖ mean in clear-upright (x ⊕ d ⊗ d) (add-upright x (d ⊗ d) u (square-clear d (sub-number (at vs i) mean (h i l) k)))))
 
 deviations-fit : (n : ℕ) (vs : Row) (mean : Float) → T (fits binary32 (deviations n vs mean))
 unfolding deviations
-deviations-fit n vs mean = iter-keeps (λ (s : Float). T (fits binary32 s)) (λ i s. s ⊕ (at vs i ⊖ mean) ⊗ (at vs i ⊖ mean)) negativeZero n (neg-fits binary32 nought (ofBits-fits binary32 0)) (λ i s h. add-fits binary32 s _)
+deviations-fit n vs mean =
+    iter-keeps (λ (s : Float). T (fits binary32 s)) (λ i s. s ⊕ (at vs i ⊖ mean) ⊗ (at vs i ⊖ mean)) negativeZero n
+    (neg-fits binary32 nought (ofBits-fits binary32 0)) (λ i s h. add-fits binary32 s _)
 
 -- ---- an f32 holds the sum of a pass
 abbrev Fit : Float → Type 0
 Fit x = T (fits binary32 x)
 
-pass-fit : (n : ℕ) (p : Params) (vs ss cs : Row) → Fit (pass n p vs ss cs .ssr)
+abbrev Good : Float → Type 0
+Good x = Fit x × Level x
+
+pass-good : (n : ℕ) (p : Params) (vs ss cs : Row) → Good (pass n p vs ss cs .ssr)
 unfolding pass added
-pass-fit n p vs ss cs = iter-keeps (λ (l : Normal). Fit (l .ssr)) _ empty n (unfold empty in ofBits-fits binary32 0) (λ i l h. add-fits binary32 (l .ssr) _)
+pass-good n p vs ss cs =
+    iter-keeps (λ (l : Normal). Good (l .ssr)) _ empty n (unfold empty in
+    (ofBits-fits binary32 0, nought-level)) (λ i l h. (add-fits binary32 (l .ssr) _, add-level (l .ssr) _ (h .1)))
 
 -- either step that a pass's elimination asks for
 step-cases : {S : Type 0} {w : S} {f : S → Step} (P : Type 0) → ((s : S) → s ≡ w → f s ≡ stay → P) → ((s : S) → s ≡ w → (q : Params) → f s ≡ to q → P) → P
@@ -327,79 +400,70 @@ step-cases {S} {w} {f} P F G = go (f w) refl
     go (to q) e = G w refl q e
 
 module _ (n : ℕ) (vs ss cs : Row) where
-  from-fit : (fuel k : ℕ) (p : Params) → k + fuel ≡ 6 → Fit (updatesFrom n vs ss cs (6 - k) k p .last .ssr)
-  from-fit zero k p e = subst (λ (x : Final). Fit (x .last .ssr)) (run-full n vs ss cs k p (pass n p vs ss cs) refl (omega arith)) (pass-fit n p vs ss cs)
-  from-fit (suc fuel) k p e =
+  from-good : (fuel k : ℕ) (p : Params) → k + fuel ≡ 6 → Good (updatesFrom n vs ss cs (6 - k) k p .last .ssr)
+  from-good zero k p e = subst (λ (x : Final). Good (x .last .ssr)) (run-full n vs ss cs k p (pass n p vs ss cs) refl (omega arith)) (pass-good n p vs ss cs)
+  from-good (suc fuel) k p e =
       let less : k < 6 = omega arith in
       let next : k + 1 + fuel ≡ 6 = omega arith in
-      step-cases (Fit (updatesFrom n vs ss cs (6 - k) k p .last .ssr))
-      (λ s w h. subst (λ (x : Final). Fit (x .last .ssr)) (run-stay n vs ss cs k p (pass n p vs ss cs) s refl w less h) (pass-fit n p vs ss cs))
-      (λ s w q h. subst (λ (x : Final). Fit (x .last .ssr)) (run-to n vs ss cs k p q (pass n p vs ss cs) s refl w less h) (from-fit fuel (k + 1) q next))
+      step-cases (Good (updatesFrom n vs ss cs (6 - k) k p .last .ssr))
+      (λ s w h. subst (λ (x : Final). Good (x .last .ssr)) (run-stay n vs ss cs k p (pass n p vs ss cs) s refl w less h) (pass-good n p vs ss cs))
+      (λ s w q h. subst (λ (x : Final). Good (x .last .ssr)) (run-to n vs ss cs k p q (pass n p vs ss cs) s refl w less h) (from-good fuel (k + 1) q next))
 
-  updates-fit : (p : Params) → Fit (updates n vs ss cs p .last .ssr)
+  updates-good : (p : Params) → Good (updates n vs ss cs p .last .ssr)
   unfolding updates
-  updates-fit p = from-fit 6 0 p refl
+  updates-good p = from-good 6 0 p refl
 
 -- ---- how each rms is made
-start-made : (n : ℕ) (vs phis : Row) (p : Params) (dev : Float) → MadeOf n dev (fitWithSeed n vs phis p (dev ⊘ count n) .fit .rms) (startSum n vs phis p (dev ⊘ count n) dev)
-unfolding fitWithSeed startSum
-start-made n vs phis p dev = go (degenerate (p .amp) (dev ⊘ count n))
+start-made : (n : ℕ) (samples ringPhi : Row) (seed : Params) (centeredVar : Float)
+    → MadeOf n centeredVar (start n samples ringPhi seed centeredVar .fit .rms) (start n samples ringPhi seed centeredVar .squares)
+unfolding start fitWithSeed
+start-made n samples ringPhi seed centeredVar = go (degenerate (seed .amp) centeredVar)
   where
     end : Final
-    end = updates n vs (sines n phis) (cosines n phis) p
+    end = updates n samples (sines n ringPhi) (cosines n ringPhi) seed
 
-    held : Fit (end .last .ssr)
-    held = updates-fit n vs (sines n phis) (cosines n phis) p
+    go : (b : Bool) → MadeOf n centeredVar (cond b (record { fit = degenerateFit centeredVar; updates = 0 }) (whole n end) .fit .rms)
+        (cond b ofMean (ofPass (end .last .ssr)))
+    go true = unfold degenerateFit in refl
+    go false = unfold finished assembled in refl
 
-    go : (b : Bool) → MadeOf n dev (cond b (record { fit = degenerateFit (dev ⊘ count n); updates = 0 }) (whole n end) .fit .rms) (cond b dev (end .last .ssr))
-    go true = refused refl (unfold degenerateFit in refl)
-    go false = fitted held (unfold finished assembled in refl)
+-- a pass's sum fits f32, and is a NaN or not below zero
+abbrev Summed : Squares → Type 0
+Summed (ofPass ssr) = Good ssr
+Summed ofMean = 0 ≤ 0
 
-module _ (n : ℕ) (vs phis : Row) (dev : Float) (f : Started) (a : Float) (made : MadeOf n dev (f .fit .rms) a) where
-  refined-made : (s : Seed) → MadeOf n dev (chosen f (refineSeedCandidates n vs phis (dev ⊘ count n) s) .fit .rms) (refinedSum n vs phis (dev ⊘ count n) dev (f .fit) a s)
-  unfolding chosen refineSeedCandidates refinedSum lower
-  refined-made Nothing = made
-  refined-made (Found s) = go (lt (g .rms) (f .fit .rms ⊖ lit 0x3a83_126f))
-    where
-      g : TwoAxisFit
-      g = fitWithSeed n vs phis (seeded s) (dev ⊘ count n) .fit
-
-      go : (b : Bool) → MadeOf n dev (cond b g (f .fit) .rms) (cond b (startSum n vs phis (seeded s) (dev ⊘ count n) dev) a)
-      go true = start-made n vs phis (seeded s) dev
-      go false = made
-
-  grid-made : (mean : Float) → MadeOf n dev (chosen f (robustGridFit n vs phis mean (dev ⊘ count n)) .fit .rms) (gridSum n vs phis mean (dev ⊘ count n) dev (f .fit) a)
-  unfolding robustGridFit gridSum
-  grid-made mean = go (lt (dev ⊘ count n) (lit 0x3586_37bd) || flatSquares (squares n (centeredOf n vs mean))) _ (refined-made _)
-    where
-      go : (b : Bool) (s : Second) {x : Float} → MadeOf n dev (chosen f s .fit .rms) x → MadeOf n dev (chosen f (cond b Missing s) .fit .rms) (cond b a x)
-      go true s h = unfold chosen in made
-      go false s h = h
-
--- for every number of samples and all values: what `ringSum` says is what the answered rms was made of
-pub ring-made : (n : ℕ) (vs phis : Row) → MadeOf n (deviations n vs (meanOf n vs)) (fitRing n vs phis .fit .rms) (ringSum n vs phis)
-unfolding fitRing ringSum
-ring-made n vs phis =
-    let mean = meanOf n vs in
-    let dev = deviations n vs mean in
-    let p = firstSeed (secondHarmonic n vs phis mean) mean in
-    let made = start-made n vs phis p dev in
-    go (fitIsSuspicious (fitWithSeed n vs phis p (dev ⊘ count n) .fit)) _ _ (grid-made n vs phis dev _ _ made mean) made
+start-summed : (n : ℕ) (samples ringPhi : Row) (seed : Params) (centeredVar : Float) → Summed (start n samples ringPhi seed centeredVar .squares)
+unfolding start
+start-summed n samples ringPhi seed centeredVar = go (degenerate (seed .amp) centeredVar)
   where
-    go : (b : Bool) (r : RingFit) (f : Started) {dev x y : Float} → MadeOf n dev (r .fit .rms) x → MadeOf n dev (f .fit .rms) y → MadeOf n dev (cond b r (single f) .fit .rms) (cond b x y)
-    go true r f h k = h
-    go false r f h k = k
+    go : (b : Bool) → Summed (cond b ofMean (ofPass (updates n samples (sines n ringPhi) (cosines n ringPhi) seed .last .ssr)))
+    go true = omega arith
+    go false = updates-good n samples (sines n ringPhi) (cosines n ringPhi) seed
+
+-- for every number of samples and all values: what the answered rms was made of
+pub ring-made : (n : ℕ) (samples ringPhi : Row)
+    → MadeOf n (varianceOf n samples (meanOf n samples)) (fitRing n samples ringPhi .fit .rms) (ring n samples ringPhi .answered .squares)
+unfolding fitRing
+ring-made n samples ringPhi =
+    let centeredVar = varianceOf n samples (meanOf n samples) in
+    ring-each (λ s. MadeOf n centeredVar (s .fit .rms) (s .squares)) n samples ringPhi (λ seed h. start-made n samples ringPhi seed centeredVar)
 
 -- ---- 16 finite samples: an rms of 0
-made-tiny : (dev rms s : Float) → Fit dev → Number dev → MadeOf 16 dev rms s → eq rms nought ≡ true → Tiny s
-made-tiny dev rms s p n (fitted q e) z = sixteenth s q (zero-root (s ⊘ count 16) (div-fits binary32 s (count 16)) (subst (λ (r : Float). eq r nought ≡ true) e z))
-made-tiny dev rms s p n (refused d e) z =
-    let q : Fit s = subst Fit (sym d) p in
-    let m : Number s = subst Number (sym d) n in
-    let v = s ⊘ count 16 in
-    sixteenth s q (max-low v (sixteenth-number s m) (zero-root (max v nought) (max-fits v (div-fits binary32 s (count 16))) (subst (λ (r : Float). eq r nought ≡ true) e z)))
+made-tiny : (dev rms : Float) (s : Squares) → Fit dev → Upright dev → Summed s → MadeOf 16 (dev ⊘ count 16) rms s → eq rms nought ≡ true → Tiny (sumOf dev s)
+made-tiny dev rms (ofPass ssr) p u q e z =
+    let low = sixteenth ssr (q .0) (zero-root (ssr ⊘ count 16) (div-fits binary32 ssr (count 16)) (subst (λ (r : Float). eq r nought ≡ true) e z)) in
+    record { number = low .number; above = upright-above ssr (q .0) (level-upright ssr (low .number) (q .1)); small = low .small }
+made-tiny dev rms ofMean p u q e z =
+    let v = dev ⊘ count 16 in
+    let root = zero-root (max v nought) (max-fits v (div-fits binary32 dev (count 16))) (subst (λ (r : Float). eq r nought ≡ true) e z) in
+    let low = sixteenth dev p (max-low v (sixteenth-number dev (upright-number dev u)) root) in
+    record { number = low .number; above = upright-above dev p u; small = low .small }
 
-pub ring-tiny : (vs phis : Row) → Finite 16 vs → eq (fitRing 16 vs phis .fit .rms) nought ≡ true → Tiny (ringSum 16 vs phis)
-ring-tiny vs phis h z =
-    let mean = meanOf 16 vs in
-    made-tiny (deviations 16 vs mean) _ _ (deviations-fit 16 vs mean) (deviations-number 16 vs mean h (sixteenth-number (total 16 vs) (total-number 16 vs h))) (ring-made 16 vs phis) z
+pub ring-tiny : (samples ringPhi : Row) → Finite 16 samples → eq (fitRing 16 samples ringPhi .fit .rms) nought ≡ true → Tiny (ringSum 16 samples ringPhi)
+unfolding ringSum
+ring-tiny samples ringPhi h z =
+    let mean = meanOf 16 samples in
+    let upright = deviations-upright 16 samples mean h (sixteenth-number (total 16 samples) (total-number 16 samples h)) in
+    let summed = ring-each (λ s. Summed (s .squares)) 16 samples ringPhi (λ seed k. start-summed 16 samples ringPhi seed (varianceOf 16 samples mean)) in
+    made-tiny (deviations 16 samples mean) _ (ring 16 samples ringPhi .answered .squares) (deviations-fit 16 samples mean) upright summed
+    (ring-made 16 samples ringPhi) z

@@ -1,111 +1,211 @@
--- The rows of the grid stand side by side in one buffer, 24 places each: what is written of one row leaves the others. Assumes nothing.
-use mathlib.Core.Path.{_≡_, refl, sym, ap, _∙_}
-use mathlib.Core.Bool.{Bool, true, false, cond, _||_}
-use mathlib.Core.List.{List, _++_}
-use Prim.Native.Nat.{ℕ, _+_, _*_, _-_, _<_, _≤_}
+-- What the code's own steps come to: constants as they are derived, a refused start that is never suspicious, and the answers of one or two starts, which
+-- need no sum. Assumes nothing.
+use mathlib.Core.Path.{_≡_, refl, sym, ap, _∙_, subst}
+use mathlib.Core.Bool.{Bool, true, false, cond, not, _||_, false≢true}
+use mathlib.Core.List.{_++_}
+use mathlib.Core.Option.{Option, none, some}
+use Prim.Native.Nat.{ℕ, _+_, _-_, _*_, _≤_, zero-le}
 use native.Mathlib.Omega.{arith}
-use borrow.Author.Count.{below-none, below-more}
 use lib.ListN.{length, take, drop}
-use lib.Ieee.{Float, lt}
+use lib.Ieee.{Float, lt, mul, ofBits}
+use lib.Ieee.Scale.{finite}
 use Rattle.floats.specs.Ops.{lit}
-use Rattle.loops.specs.Loops.{range}
-use Rattle.loops.specs.IterLaws.{iter-same}
-use Rattle.loops.specs.TabLaws.{tab-length, part-kept, part-same}
-use Rattle.elementary.specs.Elementary.{sinCos, tanh}
-use Rattle.solver.specs.Solver.{sines, cosines}
-use Rattle.solver.specs.SolverLaws.{Prepared, prepared-length}
-use Rattle.seed.specs.Seed.{Row}
+use Rattle.floats.specs.Rows.{Row}
+use Rattle.floats.specs.Library.{toRadians}
+use Rattle.loops.specs.TabLaws.{tab-length, part-same}
+use Rattle.solver.specs.Solver.{sines, cosines, updates, whole, degenerate, degenerateFit, fitWithSeed}
+use Rattle.solver.specs.Buffers.{Prepared, Room}
+use Rattle.solver.specs.SolverLaws.{prepared-length, whole-prepared}
+use Rattle.solver.specs.declared.Params.{Params}
+use Rattle.solver.specs.declared.Started.{Started}
+use Rattle.solver.specs.declared.TwoAxisFit.{TwoAxisFit}
+use Rattle.seed.specs.Seed.{flat, secondHarmonic}
 use Rattle.seed.specs.declared.Seed.{Seed}
-use Rattle.seed.specs.declared.Seed.the-variants.{Nothing}
+use Rattle.seed.specs.declared.Seed.the-variants.{Found, Nothing}
+use Rattle.seed.specs.declared.SeedCandidate.{SeedCandidate}
+use Rattle.robust_grid.specs.Grid.{bestOf, bestSeed}
+use Rattle.robust_grid.specs.Places.{Grid, scoreAt}
+use Rattle.robust_grid.specs.PlaceLaws.{grid-best}
+use Rattle.robust.specs.declared.First.{First}
 use Rattle.robust.specs.declared.Second.{Second}
 use Rattle.robust.specs.declared.Second.the-variants.{Made, Missing}
-use Rattle.robust.specs.Robust.{gridRow, factors, gridAngle, scoredRows, pairAt, pairsFrom, bestOf, bestSeed, centeredOf, squares, flatSquares, refineSeedCandidates, robustGridFit}
+use Rattle.robust.specs.declared.RingFit.{RingFit}
+use Rattle.robust.specs.Robust as R
+use Rattle.robust.specs.Parts.{Ready, Rows, startedOf, secondOf, firstOf, Alone, Chosen}
 
--- row a of a buffer
-abbrev pub rowAt : ℕ → Row → ℕ → Row
-rowAt n l a = take n (drop (a * 24) l)
+-- ---- the literals of the code
+pub min-rad-is : R.robustSepTriggerMinRad ≡ lit 0x3f91_361e
+unfolding toRadians mul ofBits
+min-rad-is = refl
 
-pub record Grid (n : ℕ) (ss cs l : Row) (k : ℕ) : Type 0 where
-  pub row : (a : ℕ) → a < k → rowAt n l a ≡ gridRow n ss cs a
+pub max-rad-is : R.robustSepTriggerMaxRad ≡ lit 0x4000_74cc
+unfolding toRadians mul ofBits
+max-rad-is = refl
 
-module _ {n : ℕ} {ss cs : Row} where
-  pub grid-none : {l : Row} → Grid n ss cs l 0
-  grid-none = record { row = below-none _ }
+-- ---- a refused start has the amplitude 0, which is below the floor: it is never suspicious
+pub degenerate-calm : (centeredVar : Float) → R.fitIsSuspicious (degenerateFit centeredVar) ≡ false
+unfolding R.fitIsSuspicious degenerateFit lt ofBits
+degenerate-calm centeredVar = go (not (finite (degenerateFit centeredVar .rms)))
+  where
+    go : (b : Bool) → cond (b || true) false (R.triggered (degenerateFit centeredVar)) ≡ false
+    go true = refl
+    go false = refl
 
-  -- row k came back as r
-  pub grid-more : {l : Row} (r x : Row) {k : ℕ} → Grid n ss cs l k → k < 23 → n ≤ 24 → length l ≡ 552 → r ≡ gridRow n ss cs k → Grid n ss cs (take (k * 24) l ++ (r ++ x)) (k + 1)
-  unfolding gridRow factors
-  grid-more {l} r x {k} h kb nb e er =
-      let lr : length r ≡ n = rw er (tab-length _ n) in
-      record {
-        row = below-more (λ a. rowAt n (take (k * 24) l ++ (r ++ x)) a ≡ gridRow n ss cs a) k
-            (λ a ab. part-kept l (r ++ x) (k * 24) (a * 24) n (omega arith) (omega arith) ∙ h .row a ab)
-            (part-same l r x (k * 24) n (omega arith) lr ∙ er);
-      }
+pub refused-calm : {P : Type 0} (f : TwoAxisFit) (centeredVar : Float) → f ≡ degenerateFit centeredVar → R.fitIsSuspicious f ≡ true → P
+refused-calm f centeredVar e t = absurd (false≢true (sym (degenerate-calm centeredVar) ∙ sym (ap R.fitIsSuspicious e) ∙ t))
 
--- ---- the best seed from a buffer that holds the rows
-unfoldable pub bestOfRows : ℕ → Row → Row → Float → Float → Seed
-bestOfRows n l centered css mean = bestOf (λ a b. scoredRows n centered css mean (rowAt n l a) (rowAt n l b) a b)
+-- ---- the buffers of a start are those of the solver
+pub ready-room : {samples ringPhi sphi cphi js : Row} → Ready samples ringPhi sphi cphi js → Room samples sphi cphi js
+ready-room {samples} {ringPhi} {sphi} {cphi} r =
+    let l = prepared-length ringPhi sphi cphi (r .sines) in
+    let few = r .few in
+    record { few = omega arith; s = l .0 ∙ r .phi; c = l .1 ∙ r .phi; j = r .j }
 
-module _ (f g : ℕ → ℕ → Seed) (h : (a b : ℕ) → a < 23 → b < 23 → f a b ≡ g a b) where
-  pair-same : (a b : ℕ) → a < 23 → b < 23 → (top : Seed) → pairAt f a b top ≡ pairAt g a b top
-  unfolding pairAt
-  pair-same a b ha hb top = rw (h a b ha hb)
+pub ready-rows : {samples ringPhi sphi cphi js h : Row} → Ready samples ringPhi sphi cphi js → Rows samples h
+    → (length cphi ≡ length sphi) × (length sphi ≤ 24) × (length h ≡ 24 * length sphi + 2)
+ready-rows {samples} {ringPhi} {sphi} {cphi} r w =
+    let l = prepared-length ringPhi sphi cphi (r .sines) in
+    let n : length sphi ≡ length samples = l .0 ∙ r .phi in
+    (l .1 ∙ sym (l .0), omega (arith, n, r .few), w .places ∙ ap (λ (k : ℕ). 24 * k + 2) (sym n))
 
-  pairs-same : (a : ℕ) → a < 23 → (top : Seed) → pairsFrom f a top ≡ pairsFrom g a top
-  unfolding pairsFrom range
-  pairs-same a ha top = iter-same _ _ top (23 - (a + 1)) (λ d l s. pair-same a (a + 1 + d) ha (omega arith) s)
+-- ---- a start, where it is refused and where the sines and cosines are at hand
+module _ (n : ℕ) (samples ringPhi : Row) (seed : Params) (centeredVar : Float) where
+  pub start-refused : {b : Bool} {f : TwoAxisFit} → b ≡ degenerate (seed .amp) centeredVar → b ≡ true → f ≡ degenerateFit centeredVar
+      → _≡_ {A = Started} (record { fit = f; updates = 0 }) (fitWithSeed n samples ringPhi seed centeredVar)
+  unfolding fitWithSeed
+  start-refused d t e = rw (← d, t, e)
 
-  best-same : bestOf f ≡ bestOf g
-  unfolding bestOf
-  best-same = iter-same _ _ Nothing 23 (λ a l top. pairs-same a l top)
+  pub start-made : (sphi cphi : Row) {b : Bool} {s : Started} → b ≡ degenerate (seed .amp) centeredVar → b ≡ false → length ringPhi ≡ n
+      → Prepared ringPhi sphi cphi → s ≡ whole n (updates n samples sphi cphi seed) → s ≡ fitWithSeed n samples ringPhi seed centeredVar
+  unfolding fitWithSeed
+  start-made sphi cphi d t l p h = rw (← d, t) (h ∙ whole-prepared n samples ringPhi sphi cphi seed p l)
 
-pub grid-best : (n : ℕ) (ss cs l centered : Row) (css mean : Float) → Grid n ss cs l 23 → bestOfRows n l centered css mean ≡ bestSeed n ss cs centered css mean
-unfolding bestOfRows bestSeed
-grid-best n ss cs l centered css mean g = best-same _ _ (λ a b ha hb. rw (g .row a ha, g .row b hb))
+-- ---- the one seed's start
+module _ (n : ℕ) (samples ringPhi : Row) (centeredVar : Float) (top : Seed) where
+  pub refined-missing : top ≡ Nothing → Missing ≡ secondOf (R.refineSeedCandidates n samples ringPhi centeredVar top)
+  unfolding R.refineSeedCandidates
+  refined-missing e = rw e refl
 
--- ---- the buffers of the grid
-pub record Lent (phis centered turned ss cs h : Row) : Type 0 where
-  pub few : length phis ≤ 24
-  pub c : length centered ≡ length phis
-  pub t : length turned ≡ length phis
-  pub s : length ss ≡ length phis
-  pub k : length cs ≡ length phis
-  pub rows : length h ≡ 552
+  pub refined-made : (s : SeedCandidate) (f : Started) → top ≡ Found s → f ≡ fitWithSeed n samples ringPhi (R.seeded s) centeredVar
+      → Made f ≡ secondOf (R.refineSeedCandidates n samples ringPhi centeredVar top)
+  unfolding R.refineSeedCandidates R.start
+  refined-made s f e h = rw e (ap Made h)
 
-pub grid-seeds : (phis ss cs l centered : Row) (css mean : Float) (r : Seed) → length centered ≡ length phis → Prepared phis ss cs → Grid (length ss) ss cs l 23 → r ≡ bestOfRows (length centered) l centered css mean → r ≡ bestSeed (length phis) (sines (length phis) phis) (cosines (length phis) phis) centered css mean
-grid-seeds phis ss cs l centered css mean r e p g h =
-    let n : length ss ≡ length phis = prepared-length phis ss cs p .0 in
-    h ∙ ap (λ (k : ℕ). bestOfRows k l centered css mean) e
-    ∙ grid-best (length phis) ss cs l centered css mean (rw n at g)
-    ∙ ap (λ (x : Row). bestSeed (length phis) x cs centered css mean) (p .s)
-    ∙ ap (λ (x : Row). bestSeed (length phis) (sines (length phis) phis) x centered css mean) (p .c)
+-- ---- the grid's start: refused by the variance or the sum of squares, or made
+-- the centred samples stand at the front of js
+pub centered-part : (n : ℕ) (samples : Row) (mean : Float) (js row x : Row) → row ≡ R.centeredOf n samples mean
+    → take (n - 0) (drop 0 (take 0 js ++ (row ++ x))) ≡ R.centeredOf n samples mean
+centered-part n samples mean js row x e =
+    let l : n ≡ n - 0 = omega arith in
+    part-same js row x 0 (n - 0) zero-le (ap length e ∙ tab-length _ n ∙ l) ∙ e
 
--- ---- the grid's start: refused by the sum of squares, or made
-centered-length : (n : ℕ) (vs centered : Row) (mean : Float) → centered ≡ centeredOf n vs mean → length centered ≡ n
-centered-length n vs centered mean e = ap length e ∙ tab-length _ n
+pub grid-low : (n : ℕ) (samples ringPhi : Row) (mean centeredVar : Float) → lt centeredVar (lit 0x3586_37bd) ≡ true
+    → Missing ≡ secondOf (R.robustGridFit n samples ringPhi mean centeredVar)
+unfolding R.robustGridFit
+grid-low n samples ringPhi mean centeredVar e = rw e refl
 
-module _ (n : ℕ) (vs phis : Row) (mean var : Float) (centered : Row) (css : Float) where
-  pub grid-flat : {b : Bool} → centered ≡ centeredOf n vs mean → css ≡ squares (length centered) centered → b ≡ flatSquares css → b ≡ true → Missing ≡ robustGridFit n vs phis mean var
-  unfolding robustGridFit
-  grid-flat {b} ec es eb et =
-      let el = centered-length n vs centered mean ec in
-      let s : css ≡ squares n (centeredOf n vs mean) = es ∙ ap (λ (k : ℕ). squares k centered) el ∙ ap (squares n) ec in
-      let t : flatSquares (squares n (centeredOf n vs mean)) ≡ true = ap flatSquares (sym s) ∙ sym eb ∙ et in
-      rw t (sym (either (lt var (lit 0x3586_37bd)) _))
+module _ (n : ℕ) (samples ringPhi : Row) (mean centeredVar : Float) (centered : Row) (centeredSs : Float) where
+  sum-is : centered ≡ R.centeredOf n samples mean → centeredSs ≡ R.squares (length centered) centered → centeredSs ≡ R.squares n (R.centeredOf n samples mean)
+  sum-is ec es = es ∙ ap (λ (k : ℕ). R.squares k centered) (ap length ec ∙ tab-length _ n) ∙ ap (R.squares n) ec
+
+  pub grid-flat : {b : Bool} → centered ≡ R.centeredOf n samples mean → centeredSs ≡ R.squares (length centered) centered → b ≡ flat centeredSs → b ≡ true
+      → Missing ≡ secondOf (R.robustGridFit n samples ringPhi mean centeredVar)
+  unfolding R.robustGridFit
+  grid-flat ec es eb et =
+      let t : flat (R.squares n (R.centeredOf n samples mean)) ≡ true = ap flat (sym (sum-is ec es)) ∙ sym eb ∙ et in
+      rw t (sym (ap secondOf (either (lt centeredVar (lit 0x3586_37bd)) _)))
     where
-      either : (x : Bool) (r : Second) → cond (x || true) Missing r ≡ Missing
-      either true r = refl
-      either false r = refl
+      either : (x : Bool) (o : Option R.Start) → cond (x || true) none o ≡ none
+      either true o = refl
+      either false o = refl
 
-  pub grid-goes : (top : Seed) {b : Bool} {r : Second} → lt var (lit 0x3586_37bd) ≡ false → centered ≡ centeredOf n vs mean → css ≡ squares (length centered) centered → b ≡ flatSquares css → b ≡ false → length phis ≡ n → top ≡ bestSeed (length phis) (sines (length phis) phis) (cosines (length phis) phis) centered css mean → r ≡ refineSeedCandidates n vs phis var top → r ≡ robustGridFit n vs phis mean var
-  unfolding robustGridFit
-  grid-goes top {b} {r} ev ec es eb et ep eg er =
-      let el = centered-length n vs centered mean ec in
-      let s : css ≡ squares n (centeredOf n vs mean) = es ∙ ap (λ (k : ℕ). squares k centered) el ∙ ap (squares n) ec in
-      let t : flatSquares (squares n (centeredOf n vs mean)) ≡ false = ap flatSquares (sym s) ∙ sym eb ∙ et in
-      let g : top ≡ bestSeed n (sines n phis) (cosines n phis) (centeredOf n vs mean) (squares n (centeredOf n vs mean)) mean =
-      eg ∙ ap (λ (k : ℕ). bestSeed k (sines k phis) (cosines k phis) centered css mean) ep
-      ∙ ap (λ (x : Row). bestSeed n (sines n phis) (cosines n phis) x css mean) ec
-      ∙ ap (λ (x : Float). bestSeed n (sines n phis) (cosines n phis) (centeredOf n vs mean) x mean) s in
-      rw (ev, t) (er ∙ ap (refineSeedCandidates n vs phis var) g)
+  pub grid-goes : (sphi cphi h : Row) (top : Seed) {b : Bool} {r : Second} → lt centeredVar (lit 0x3586_37bd) ≡ false
+      → centered ≡ R.centeredOf n samples mean → centeredSs ≡ R.squares (length centered) centered → b ≡ flat centeredSs → b ≡ false
+      → length ringPhi ≡ n → Prepared ringPhi sphi cphi → Grid sphi cphi h (length sphi)
+      → top ≡ bestOf (scoreAt (length centered) h centered centeredSs mean)
+      → r ≡ secondOf (R.refineSeedCandidates n samples ringPhi centeredVar top) → r ≡ secondOf (R.robustGridFit n samples ringPhi mean centeredVar)
+  unfolding R.robustGridFit
+  grid-goes sphi cphi h top {b} {r} ev ec es eb et el p g eh er =
+      let s = sum-is ec es in
+      let t : flat (R.squares n (R.centeredOf n samples mean)) ≡ false = ap flat (sym s) ∙ sym eb ∙ et in
+      let ls : length sphi ≡ n = prepared-length ringPhi sphi cphi p .0 ∙ el in
+      let lc : length centered ≡ n = ap length ec ∙ tab-length _ n in
+      let best : top ≡ bestSeed n sphi cphi centered centeredSs mean =
+      eh ∙ ap (λ (k : ℕ). bestOf (scoreAt k h centered centeredSs mean)) lc ∙ grid-best (subst (Grid sphi cphi h) ls g) centered centeredSs mean in
+      let eS : sphi ≡ sines n ringPhi = p .s ∙ ap (λ (k : ℕ). sines k ringPhi) el in
+      let eC : cphi ≡ cosines n ringPhi = p .c ∙ ap (λ (k : ℕ). cosines k ringPhi) el in
+      rw (ev, t, ← s, ← ec, ← eS, ← eC, ← best) er
+
+-- ---- the answers of one start, and of two; the number of samples by its name
+pub chosen-at : (m n : ℕ) (samples ringPhi : Row) (mean centeredVar : Float) (primary : Started) (s : Second) (r : RingFit)
+    → s ≡ secondOf (R.robustGridFit m samples ringPhi mean centeredVar) → m ≡ n → Chosen primary s r
+    → Chosen primary (secondOf (R.robustGridFit n samples ringPhi mean centeredVar)) r
+chosen-at m n samples ringPhi mean centeredVar primary s r e l c = rw (← l, ← e) c
+
+pub first-at : (m n : ℕ) (samples ringPhi : Row) (f : First) → f ≡ firstOf m samples ringPhi → m ≡ n → f ≡ firstOf n samples ringPhi
+first-at m n samples ringPhi f e l = rw (← l) e
+
+pub alone-is : (primary : Started) → Alone primary (record { fit = primary .fit; starts = 1; first = primary .updates; second = 0 })
+alone-is primary = record { is = λ f e. rw e }
+
+module _ (primary : Started) (s : Second) where
+  pub chosen-alone : (r : RingFit) → s ≡ Missing → Alone primary r → Chosen primary s r
+  chosen-alone r e a = record { is = go e a }
+    where
+      go : s ≡ Missing → Alone primary r → (f : R.Start) (o : Option R.Start) → primary ≡ startedOf f → s ≡ secondOf o → r ≡ R.fitOf (R.chosen f o)
+      go e a f none p q = unfold R.chosen in a .is f p
+      go e a f (some g) p q = absurd (never (sym q ∙ e))
+        where
+          never : Made (startedOf g) ≡ Missing → ⊥
+          never e = let z : _≡_ {A = ℕ} 0 1 = cc in omega arith
+
+  pub chosen-two : (candidate : Started) (fit : TwoAxisFit) → s ≡ Made candidate
+      → fit ≡ cond (R.isLower (candidate .fit) (primary .fit)) (candidate .fit) (primary .fit)
+      → Chosen primary s (record { fit = fit; starts = 2; first = primary .updates; second = candidate .updates })
+  unfolding R.chosen
+  chosen-two candidate fit e h = record { is = go }
+    where
+      pick : (b : Bool) (f g : R.Start) → cond b (g .fit) (f .fit) ≡ cond b g f .fit
+      pick true f g = refl
+      pick false f g = refl
+
+      same : (g : R.Start) → Made candidate ≡ Made (startedOf g) → candidate ≡ startedOf g
+      same g e = cc
+
+      go : (f : R.Start) (o : Option R.Start) → primary ≡ startedOf f → s ≡ secondOf o
+          → record { fit = fit; starts = 2; first = primary .updates; second = candidate .updates } ≡ R.fitOf (R.chosen f o)
+      go f none p q = absurd (never (sym e ∙ q))
+        where
+          never : Made candidate ≡ Missing → ⊥
+          never e = let z : _≡_ {A = ℕ} 0 1 = cc in omega arith
+      go f (some g) p q =
+          rw (h, p, same g (sym e ∙ q))
+          (ap (λ (x : TwoAxisFit). answer x (f .updates) (g .updates)) (pick (R.isLower (g .fit) (f .fit)) f g))
+        where
+          answer : TwoAxisFit → ℕ → ℕ → RingFit
+          answer x m n = record { fit = x; starts = 2; first = m; second = n }
+
+-- ---- the whole fit: the first start is not suspicious, or is followed by the grid's
+module _ (n : ℕ) (samples ringPhi : Row) (f : First) (r : RingFit) (e : f ≡ firstOf n samples ringPhi) where
+  abbrev mean : Float
+  mean = R.meanOf n samples
+
+  abbrev centeredVar : Float
+  centeredVar = R.varianceOf n samples mean
+
+  abbrev primary : R.Start
+  primary = R.start n samples ringPhi (R.firstSeed (secondHarmonic n samples ringPhi mean) mean) centeredVar
+
+  pub ring-alone : R.fitIsSuspicious (f .primary .fit) ≡ false → Alone (f .primary) r → r ≡ R.fitRing n samples ringPhi
+  unfolding R.fitRing R.ring R.start
+  ring-alone t a =
+      let calm : R.fitIsSuspicious (primary .fit) ≡ false = ap (λ (x : First). R.fitIsSuspicious (x .primary .fit)) (sym e) ∙ t in
+      rw calm (subst (λ (x : First). Alone (x .primary) r) e a .is primary refl)
+
+  pub ring-chosen : R.fitIsSuspicious (f .primary .fit) ≡ true
+      → Chosen (f .primary) (secondOf (R.robustGridFit n samples ringPhi (f .mean) (f .«centered_var»))) r → r ≡ R.fitRing n samples ringPhi
+  unfolding R.fitRing R.ring R.start
+  ring-chosen t c =
+      let due : R.fitIsSuspicious (primary .fit) ≡ true = ap (λ (x : First). R.fitIsSuspicious (x .primary .fit)) (sym e) ∙ t in
+      let second : First → Second = λ x. secondOf (R.robustGridFit n samples ringPhi (x .mean) (x .«centered_var»)) in
+      rw due (subst (λ (x : First). Chosen (x .primary) (second x) r) e c .is primary _ refl refl)

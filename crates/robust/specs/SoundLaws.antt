@@ -1,35 +1,36 @@
--- Every ring fit is sound and keeps the bill, for any number of samples and any values: its starts are sound, a seed of the grid is held by f32, and one or two starts are made. Assumes nothing.
+-- Every ring fit is sound and keeps the bill, for any number of samples and any values: its starts are sound, a seed of the grid is held by f32, and
+-- one or two starts are made. Assumes nothing.
 use mathlib.Core.Path.{_≡_, refl}
-use mathlib.Core.Bool.{Bool, true, false, cond, not, _&&_, _||_}
+use mathlib.Core.Bool.{Bool, true, false, cond, _&&_, _||_}
+use mathlib.Core.Option.{Option, none, some}
 use Prim.Native.Nat.{ℕ, _+_, _/_, _≤_}
 use native.Mathlib.Omega.{arith}
 use lib.Ieee.{Float, binary32, lt}
 use lib.Ieee.Scale.{finite}
 use lib.Ieee.Fits.{add-fits, mul-fits, div-fits}
-use Rattle.floats.specs.Ops.{_⊕_, _⊖_, _⊗_, _⊘_, lit, quarterPi}
-use Rattle.loops.specs.Loops.{range}
+use Rattle.floats.specs.Ops.{_⊖_, _⊗_, _⊘_, lit, quarterPi}
+use Rattle.floats.specs.Rows.{Row, count}
+use Rattle.floats.specs.Library.{toRadians}
 use Rattle.loops.specs.IterLaws.{iter-keeps, range-keeps}
 use Rattle.geometry.specs.Geometry.{validPair}
-use Rattle.solver.specs.Solver.{sines, cosines, count, fitWithSeed}
+use Rattle.solver.specs.Solver.{sines, cosines}
 use Rattle.solver.specs.SoundLaws.{Held, Sound, start-sound, start-most}
-use Rattle.solver.specs.declared.Started.{Started}
-use Rattle.solver.specs.declared.TwoAxisFit.{TwoAxisFit}
-use Rattle.seed.specs.Seed.{Row, flat, kept, scored, scoreSeedPair, pairSums, insertSeedCandidate, secondHarmonic, harmonic, waves}
+use Rattle.solver.specs.declared.Params.{Params}
+use Rattle.seed.specs.Seed.{robustGridStepDeg, flat, kept, scored, scoreSeedPair, pairSums, insertSeedCandidate, secondHarmonic, harmonic}
 use Rattle.seed.specs.declared.Sums.{Sums}
 use Rattle.seed.specs.declared.Seed.{Seed}
 use Rattle.seed.specs.declared.Seed.the-variants.{Found, Nothing}
 use Rattle.seed.specs.declared.SeedCandidate.{SeedCandidate}
-use Rattle.robust.specs.declared.Second.{Second}
-use Rattle.robust.specs.declared.Second.the-variants.{Made, Missing}
+use Rattle.robust_grid.specs.Grid.{gridAngle, gridRow, inserted, pairAt, pairsFrom, bestOf, bestSeed}
 use Rattle.robust.specs.declared.RingFit.{RingFit}
-use Rattle.robust.specs.Robust.{meanOf, varianceOf, centeredOf, squares, flatSquares, fitIsSuspicious, seeded, refineSeedCandidates, gridAngle, gridStep, gridRow, inserted, scoredRows, pairAt, pairsFrom, bestOf, bestSeed, robustGridFit, single, lower, chosen, firstSeed, fitRing}
+use Rattle.robust.specs.Robust as R
 
 -- ---- a seed that f32 holds, or none
 abbrev SeedHeld : Seed → Type 0
 SeedHeld Nothing = 0 ≤ 0
-SeedHeld (Found s) = Held (seeded s)
+SeedHeld (Found s) = Held (R.seeded s)
 
-kept-held : (s : SeedCandidate) → Held (seeded s) → SeedHeld (kept s)
+kept-held : (s : SeedCandidate) → Held (R.seeded s) → SeedHeld (kept s)
 unfolding kept
 kept-held s h = go (finite (s .rms) && (finite (s .amp) && finite (s .mu)))
   where
@@ -40,14 +41,16 @@ kept-held s h = go (finite (s .rms) && (finite (s .amp) && finite (s .mu)))
 scored-held : (n css mean : Float) (s : Sums) (a b : ℕ) → SeedHeld (scored n css mean s (gridAngle a) (gridAngle b))
 unfolding scored
 scored-held n css mean s a b =
-    go (flat (s .q2 ⊖ s .q ⊗ (s .q ⊘ n))) _
-    (kept-held _ (record { amp = div-fits binary32 (s .num) (s .q2 ⊖ s .q ⊗ (s .q ⊘ n)); one = mul-fits binary32 (count a) gridStep; two = mul-fits binary32 (count b) gridStep }))
+    let denom = s .«q2_sum» ⊖ s .«q_sum» ⊗ (s .«q_sum» ⊘ n) in
+    let step = toRadians robustGridStepDeg in
+    go (flat denom) _
+    (kept-held _ (record { amp = div-fits binary32 (s .num) denom; one = mul-fits binary32 (count a) step; two = mul-fits binary32 (count b) step }))
   where
     go : (f : Bool) (c : SeedCandidate) → SeedHeld (kept c) → SeedHeld (cond f Nothing (kept c))
     go true c h = omega arith
     go false c h = h
 
-insert-held : (top : Seed) (c : SeedCandidate) → SeedHeld top → Held (seeded c) → SeedHeld (insertSeedCandidate top c)
+insert-held : (top : Seed) (c : SeedCandidate) → SeedHeld top → Held (R.seeded c) → SeedHeld (insertSeedCandidate top c)
 unfolding insertSeedCandidate
 insert-held Nothing c h g = g
 insert-held (Found s) c h g = go (lt (c .rms) (s .rms))
@@ -78,35 +81,71 @@ module _ (score : ℕ → ℕ → Seed) (sound : (a b : ℕ) → SeedHeld (score
   unfolding bestOf
   best-held = iter-keeps SeedHeld (pairsFrom score) Nothing 23 (omega arith) (λ a x g. pairs-held a x g)
 
-seed-held : (n : ℕ) (ss cs centered : Row) (css mean : Float) → SeedHeld (bestSeed n ss cs centered css mean)
-unfolding bestSeed scoredRows scoreSeedPair
-seed-held n ss cs centered css mean = best-held _ (λ a b. scored-held (count n) css mean (pairSums n centered (gridRow n ss cs a) (gridRow n ss cs b)) a b)
+seed-held : (n : ℕ) (sphi cphi centered : Row) (centeredSs mean : Float) → SeedHeld (bestSeed n sphi cphi centered centeredSs mean)
+unfolding bestSeed scoreSeedPair
+seed-held n sphi cphi centered centeredSs mean =
+    best-held _ (λ a b. scored-held (count n) centeredSs mean (pairSums n centered (gridRow n sphi cphi a) (gridRow n sphi cphi b)) a b)
 
--- ---- the second start
-pub record SoundStart (s : Started) : Type 0 where
-  pub fit : Sound (s .fit)
-  pub most : s .updates ≤ 6
+-- ---- what every start from a held seed has, the answered start has, and the second too
+module _ (P : R.Start → Type 0) where
+  abbrev Each : Option R.Start → Type 0
+  Each none = 0 ≤ 0
+  Each (some s) = P s
 
-abbrev SecondSound : Second → Type 0
-SecondSound Missing = 0 ≤ 0
-SecondSound (Made s) = SoundStart s
+  chosen-each : (f : R.Start) (o : Option R.Start) → P f → Each o → P (R.chosen f o .answered)
+  unfolding R.chosen
+  chosen-each f none h k = h
+  chosen-each f (some g) h k = go (R.isLower (g .fit) (f .fit))
+    where
+      go : (b : Bool) → P (cond b g f)
+      go true = k
+      go false = h
 
-refined-sound : (n : ℕ) (vs phis : Row) (var : Float) (s : Seed) → SeedHeld s → SecondSound (refineSeedCandidates n vs phis var s)
-unfolding refineSeedCandidates
-refined-sound n vs phis var Nothing h = omega arith
-refined-sound n vs phis var (Found s) h = record { fit = start-sound n vs phis (seeded s) var h; most = start-most n vs phis (seeded s) var }
+  module _ (n : ℕ) (samples ringPhi : Row) where
+    abbrev mean : Float
+    mean = R.meanOf n samples
 
-grid-sound : (n : ℕ) (vs phis : Row) (mean var : Float) → SecondSound (robustGridFit n vs phis mean var)
-unfolding robustGridFit
-grid-sound n vs phis mean var =
-    go (lt var (lit 0x3586_37bd) || flatSquares (squares n (centeredOf n vs mean))) _
-    (refined-sound n vs phis var _ (seed-held n (sines n phis) (cosines n phis) (centeredOf n vs mean) (squares n (centeredOf n vs mean)) mean))
-  where
-    go : (b : Bool) (s : Second) → SecondSound s → SecondSound (cond b Missing s)
-    go true s h = omega arith
-    go false s h = h
+    abbrev centeredVar : Float
+    centeredVar = R.varianceOf n samples mean
 
--- ---- the ring
+    abbrev primary : R.Start
+    primary = R.start n samples ringPhi (R.firstSeed (secondHarmonic n samples ringPhi mean) mean) centeredVar
+
+    module _ (all : (seed : Params) → Held seed → P (R.start n samples ringPhi seed centeredVar)) where
+      primary-each : P primary
+      unfolding secondHarmonic harmonic
+      primary-each =
+          let h = secondHarmonic n samples ringPhi mean in
+          let one = add-fits binary32 (h .theta) quarterPi in
+          let two = add-fits binary32 (h .theta) (lit 0x4040_0000 ⊗ quarterPi) in
+          all (R.firstSeed h mean) (record { amp = div-fits binary32 _ (count (n / 2)); one = one; two = two })
+
+      refined-each : (s : Seed) → SeedHeld s → Each (R.refineSeedCandidates n samples ringPhi centeredVar s)
+      unfolding R.refineSeedCandidates
+      refined-each Nothing h = omega arith
+      refined-each (Found s) h = all (R.seeded s) h
+
+      grid-each : Each (R.robustGridFit n samples ringPhi mean centeredVar)
+      unfolding R.robustGridFit
+      grid-each =
+          let centered = R.centeredOf n samples mean in
+          let centeredSs = R.squares n centered in
+          let held = seed-held n (sines n ringPhi) (cosines n ringPhi) centered centeredSs mean in
+          go (lt centeredVar (lit 0x3586_37bd) || flat centeredSs) _ (refined-each _ held)
+        where
+          go : (b : Bool) (o : Option R.Start) → Each o → Each (cond b none o)
+          go true o h = omega arith
+          go false o h = h
+
+      pub ring-each : P (R.ring n samples ringPhi .answered)
+      unfolding R.ring
+      ring-each = go (R.fitIsSuspicious (primary .fit)) _ (chosen-each primary _ primary-each grid-each)
+        where
+          go : (b : Bool) (x : R.Ring) → P (x .answered) → P (cond b x (R.single primary) .answered)
+          go true x h = h
+          go false x h = primary-each
+
+-- ---- the bill
 pub record Billed (r : RingFit) : Type 0 where
   pub some : 1 ≤ r .starts
   pub most : r .starts ≤ 2
@@ -114,41 +153,43 @@ pub record Billed (r : RingFit) : Type 0 where
   pub second : r .second ≤ 6
   pub alone : r .starts ≡ 1 → r .second ≡ 0
 
-pub record SoundRing (r : RingFit) : Type 0 where
-  pub fit : Sound (r .fit)
-  pub bill : Billed r
+abbrev Few : R.Start → Type 0
+Few s = s .updates ≤ 6
 
-single-sound : (f : Started) → SoundStart f → SoundRing (single f)
-single-sound f h = record { fit = h .fit; bill = record { some = omega arith; most = omega arith; first = h .most; second = omega arith; alone = λ e. refl } }
+single-billed : (f : R.Start) → Few f → Billed (R.fitOf (R.single f))
+single-billed f h = record { some = omega arith; most = omega arith; first = h; second = omega arith; alone = λ e. refl }
 
-lower-sound : (f g : TwoAxisFit) → Sound f → Sound g → Sound (lower f g)
-unfolding lower
-lower-sound f g h k = go (lt (g .rms) (f .rms ⊖ lit 0x3a83_126f))
-  where
-    go : (b : Bool) → Sound (cond b g f)
-    go true = k
-    go false = h
-
-chosen-sound : (f : Started) (s : Second) → SoundStart f → SecondSound s → SoundRing (chosen f s)
-unfolding chosen
-chosen-sound f Missing h k = single-sound f h
-chosen-sound f (Made g) h k = record { fit = lower-sound (f .fit) (g .fit) (h .fit) (k .fit); bill = record { some = omega arith; most = omega arith; first = h .most; second = k .most; alone = λ e. absurd (two e) } }
+chosen-billed : (f : R.Start) (o : Option R.Start) → Few f → Each Few o → Billed (R.fitOf (R.chosen f o))
+unfolding R.chosen
+chosen-billed f none h k = single-billed f h
+chosen-billed f (some g) h k = record { some = omega arith; most = omega arith; first = h; second = k; alone = λ e. absurd (two e) }
   where
     two : _≡_ {A = ℕ} 2 1 → ⊥
     two e = omega arith
 
+pub record SoundRing (r : RingFit) : Type 0 where
+  pub fit : Sound (r .fit)
+  pub bill : Billed r
+
 -- for every number of samples and all values, non-numbers included
-pub ring-sound : (n : ℕ) (vs phis : Row) → SoundRing (fitRing n vs phis)
-unfolding fitRing secondHarmonic harmonic
-ring-sound n vs phis =
-    let mean = meanOf n vs in
-    let var = varianceOf n vs mean in
-    let h = secondHarmonic n vs phis mean in
-    let p = firstSeed h mean in
-    let held : Held p = record { amp = div-fits binary32 _ (count (n / 2)); one = add-fits binary32 (h .theta) quarterPi; two = add-fits binary32 (h .theta) (lit 0x4016_cbe4) } in
-    let s : SoundStart (fitWithSeed n vs phis p var) = record { fit = start-sound n vs phis p var held; most = start-most n vs phis p var } in
-    go (fitIsSuspicious (fitWithSeed n vs phis p var .fit)) (chosen-sound _ _ s (grid-sound n vs phis mean var)) (single-sound _ s)
-  where
-    go : (b : Bool) {x y : RingFit} → SoundRing x → SoundRing y → SoundRing (cond b x y)
-    go true h k = h
-    go false h k = k
+module _ (n : ℕ) (samples ringPhi : Row) where
+  few : (seed : Params) → Held seed → Few (R.start n samples ringPhi seed (R.varianceOf n samples (R.meanOf n samples)))
+  unfolding R.start
+  few seed h = start-most n samples ringPhi seed _
+
+  ring-billed : Billed (R.fitOf (R.ring n samples ringPhi))
+  unfolding R.ring
+  ring-billed =
+      let one = primary-each Few n samples ringPhi few in
+      let two = grid-each Few n samples ringPhi few in
+      let f = primary Few n samples ringPhi in
+      let o = R.robustGridFit n samples ringPhi (mean Few n samples ringPhi) (centeredVar Few n samples ringPhi) in
+      go (R.fitIsSuspicious (f .fit)) (R.chosen f o) (R.single f) (chosen-billed f o one two) (single-billed f one)
+    where
+      go : (b : Bool) (x y : R.Ring) → Billed (R.fitOf x) → Billed (R.fitOf y) → Billed (R.fitOf (cond b x y))
+      go true x y h k = h
+      go false x y h k = k
+
+  pub ring-sound : SoundRing (R.fitRing n samples ringPhi)
+  unfolding R.fitRing R.start
+  ring-sound = record { fit = ring-each (λ s. Sound (s .fit)) n samples ringPhi (λ seed h. start-sound n samples ringPhi seed _ h); bill = ring-billed }

@@ -1,26 +1,26 @@
-// The whole ring fit: ring_fit/robust.rs, the suspicion gate and the grid search behind it.
-use elementary::SinCos;
+// The whole ring fit: ring_fit/robust.rs, the suspicion gate and the grid search behind it. The grid itself is the crate
+// robust_grid.
 use seed::Harmonic;
 use seed::Seed;
 use solver::Params;
 use solver::Started;
 use solver::TwoAxisFit;
 ghost use mathlib.Core.Path.{_≡_};
-ghost use Prim.Native.Nat.{_*_, _≤_, _<_};
-ghost use lib.ListN.{length, take, drop};
-ghost use Rattle.solver.specs.Solver.{sines, cosines, fitWithSeed};
-ghost use Rattle.solver.specs.SolverLaws.{Sized};
+ghost use mathlib.Core.Bool.{true, cond};
+ghost use lib.ListN.{length};
+ghost use Rattle.solver.specs.Solver.{fitWithSeed};
+ghost use Rattle.solver.specs.Buffers.{Prepared};
 ghost use Rattle.robust.specs.Robust as R;
-ghost use Rattle.robust.specs.RobustLaws.{Grid, Lent, rowAt, bestOfRows};
-
-const TANH_BETA: f32 = 4.0;
+ghost use Rattle.robust.specs.Parts as P;
 
 const AMP_FLOOR: f32 = 1.0;
 
-const ROBUST_GRID_STEPS: usize = 23;
+const ROBUST_REL_RMS_TRIGGER: f32 = 0.12;
 
-// 8 degrees.
-const GRID_STEP: f32 = 0.139626339;
+// 65 and 115 degrees, by `to_radians`.
+const ROBUST_SEP_TRIGGER_MIN_RAD: f32 = 1.13446403;
+
+const ROBUST_SEP_TRIGGER_MAX_RAD: f32 = 2.00712872;
 
 // The second start's fit, or that there was none.
 pub enum Second {
@@ -37,24 +37,24 @@ pub struct RingFit {
 }
 
 // Rust's `sum` begins at -0.
-fn total(vs: &[f32]) -> f32
-    ensures { λ r. ⌜ r ≡ R.total (length (now (vs .entry))) (now (vs .entry)) ⌝ }
+fn total(samples: &[f32]) -> f32
+    ensures { λ r. ⌜ r ≡ R.total (length (now (samples .entry))) (now (samples .entry)) ⌝ }
 {
-    let n = vs.len();
+    let n = samples.len();
     let mut s = -0.0f32;
     for i in 0..n {
-        s = s + vs[i];
+        s = s + samples[i];
     }
     s
 }
 
-fn deviations(vs: &[f32], mean: f32) -> f32
-    ensures { λ r. ⌜ r ≡ R.deviations (length (now (vs .entry))) (now (vs .entry)) mean ⌝ }
+fn deviations(samples: &[f32], mean: f32) -> f32
+    ensures { λ r. ⌜ r ≡ R.deviations (length (now (samples .entry))) (now (samples .entry)) mean ⌝ }
 {
-    let n = vs.len();
+    let n = samples.len();
     let mut s = -0.0f32;
     for i in 0..n {
-        s = s + (vs[i] - mean) * (vs[i] - mean);
+        s = s + (samples[i] - mean) * (samples[i] - mean);
     }
     s
 }
@@ -68,12 +68,11 @@ pub fn relative_rms(f: TwoAxisFit) -> f32
     1.0 / 0.0
 }
 
-// 65 to 115 degrees, both included.
 fn is_outside(sep: f32) -> bool
     ensures { λ r. ⌜ r ≡ R.outside sep ⌝ }
 {
-    if sep >= 1.13446403 {
-        if sep <= 2.00712872 {
+    if sep >= ROBUST_SEP_TRIGGER_MIN_RAD {
+        if sep <= ROBUST_SEP_TRIGGER_MAX_RAD {
             return false;
         }
     }
@@ -87,7 +86,7 @@ fn is_triggered(f: TwoAxisFit) -> bool
     if is_outside(geometry::line_separation(f.theta1, f.theta2)) {
         return true;
     }
-    relative_rms(f) >= 0.119999997
+    relative_rms(f) >= ROBUST_REL_RMS_TRIGGER
 }
 
 pub fn fit_is_suspicious(f: TwoAxisFit) -> bool
@@ -104,13 +103,13 @@ pub fn fit_is_suspicious(f: TwoAxisFit) -> bool
     false
 }
 
-fn center(vs: &[f32], mean: f32, centered: &mut [f32])
-    requires { ⌜ length (now centered) ≡ length (now vs) ⌝ }
-    ensures { λ _. ⌜ now (centered .exit) ≡ R.centeredOf (length (now (vs .entry))) (now (vs .entry)) mean ⌝ }
+fn center(samples: &[f32], mean: f32, centered: &mut [f32])
+    requires { ⌜ length (now centered) ≡ length (now samples) ⌝ }
+    ensures { λ _. ⌜ now (centered .exit) ≡ R.centeredOf (length (now (samples .entry))) (now (samples .entry)) mean ⌝ }
 {
-    let n = vs.len();
+    let n = samples.len();
     for i in 0..n {
-        centered[i] = vs[i] - mean;
+        centered[i] = samples[i] - mean;
     }
 }
 
@@ -125,206 +124,119 @@ fn squares(centered: &[f32]) -> f32
     s
 }
 
-fn has_flat_squares(css: f32) -> bool
-    ensures { λ r. ⌜ r ≡ R.flatSquares css ⌝ }
+// A start from a seed, with the sines and cosines of the angles at hand: solver.rs, fit_with_seed behind its sin_cos.
+fn started(
+    samples: &[f32],
+    ring_phi: &[f32],
+    seed: Params,
+    centered_var: f32,
+    sphi: &[f32],
+    cphi: &[f32],
+    js: &mut [f32],
+) -> Started
+    requires { ⌜ P.Ready (now samples) (now «ring_phi») (now sphi) (now cphi) (now js) ⌝ }
+    ensures { λ r. ⌜ r ≡ fitWithSeed (length (now (samples .entry))) (now (samples .entry)) (now («ring_phi» .entry)) seed «centered_var» ⌝ }
 {
-    if floats::is_finite(css) {
-        return css <= 1e-6;
+    if solver::is_degenerate(seed.amp, centered_var) {
+        let fit = solver::degenerate_fit(centered_var);
+        return Started { fit, updates: 0 };
     }
-    true
+    solver::fit_prepared(samples, seed, sphi, cphi, js)
 }
 
-fn grid_angle(a: usize) -> f32
-    requires { ⌜ a < 23 ⌝ }
-    ensures { λ r. ⌜ r ≡ R.gridAngle a ⌝ }
-{
-    floats::count_f32(a) * GRID_STEP
-}
-
-// The model's factor of each sample at one angle.
-fn grid_row(ss: &[f32], cs: &[f32], t: SinCos, row: &mut [f32])
-    requires { ⌜ (length (now row) ≡ length (now ss)) × (length (now cs) ≡ length (now ss)) ⌝ }
-    ensures { λ _. ⌜ now (row .exit) ≡ R.factors (length (now (ss .entry))) (now (ss .entry)) (now (cs .entry)) t ⌝ }
-{
-    let n = ss.len();
-    for i in 0..n {
-        row[i] = elementary::tanh(TANH_BETA * (ss[i] * t.c - cs[i] * t.s));
-    }
-}
-
-// All 23 rows, 24 places apart.
-fn fill_grid(ss: &[f32], cs: &[f32], h: &mut [f32])
-    requires { ⌜ (length (now h) ≡ 552) × (length (now cs) ≡ length (now ss)) × (length (now ss) ≤ 24) ⌝ }
-    ensures { λ _. ⌜ Grid (length (now (ss .entry))) (now (ss .entry)) (now (cs .entry)) (now (h .exit)) 23 ⌝ }
-{
-    let n = ss.len();
-    for a in 0..ROBUST_GRID_STEPS {
-        let t = elementary::sin_cos(grid_angle(a));
-        let b = a * 24;
-        let e = b + n;
-        grid_row(ss, cs, t, &mut h[b..e]);
-    }
-}
-
-fn score_at(h: &[f32], centered: &[f32], css: f32, mean: f32, a: usize, b: usize) -> Seed
-    requires { ⌜ (length (now h) ≡ 552) × (length (now centered) ≤ 24) × (a < 23) × (b < 23) ⌝ }
-    ensures { λ r. ⌜ r ≡ R.scoredRows (length (now (centered .entry))) (now (centered .entry)) css mean (rowAt (length (now (centered .entry))) (now (h .entry)) a) (rowAt (length (now (centered .entry))) (now (h .entry)) b) a b ⌝ }
-{
-    let n = centered.len();
-    let x = a * 24;
-    let xe = x + n;
-    let y = b * 24;
-    let ye = y + n;
-    seed::score_seed_pair(
-        centered,
-        css,
-        mean,
-        &h[x..xe],
-        &h[y..ye],
-        grid_angle(a),
-        grid_angle(b),
-    )
-}
-
-fn inserted(top: Seed, s: Seed) -> Seed
-    ensures { λ r. ⌜ r ≡ R.inserted top s ⌝ }
-{
-    let Seed::Found(c) = s else {
-        return top;
-    };
-    seed::insert_seed_candidate(top, c)
-}
-
-// The seed of least residual over all allowed pairs, the earlier on a tie.
-fn best_seed(h: &[f32], centered: &[f32], css: f32, mean: f32) -> Seed
-    requires { ⌜ (length (now h) ≡ 552) × (length (now centered) ≤ 24) ⌝ }
-    ensures { λ r. ⌜ r ≡ bestOfRows (length (now (centered .entry))) (now (h .entry)) (now (centered .entry)) css mean ⌝ }
-{
-    let mut top = Seed::Nothing;
-    for a in 0..ROBUST_GRID_STEPS {
-        'pairs: for b in a + 1..ROBUST_GRID_STEPS {
-            if geometry::valid_pair(grid_angle(a), grid_angle(b)) {} else {
-                continue 'pairs;
-            }
-            let s = score_at(h, centered, css, mean, a, b);
-            top = inserted(top, s);
-        }
-    }
-    top
-}
-
-// The best seed of the grid; the buffers are lent.
-fn grid_seed(
-    phis: &[f32],
-    centered: &[f32],
-    css: f32,
-    mean: f32,
-    turned: &mut [f32],
-    ss: &mut [f32],
-    cs: &mut [f32],
-    h: &mut [f32],
-) -> Seed
-    requires { ⌜ Lent (now phis) (now centered) (now turned) (now ss) (now cs) (now h) ⌝ }
-    ensures { λ r. ⌜ r ≡ R.bestSeed (length (now (phis .entry))) (sines (length (now (phis .entry))) (now (phis .entry))) (cosines (length (now (phis .entry))) (now (phis .entry))) (now (centered .entry)) css mean ⌝ }
-{
-    solver::prepare(phis, turned, ss, cs);
-    fill_grid(ss, cs, h);
-    best_seed(h, centered, css, mean)
-}
-
-// The one seed's fit, where there is a seed.
-pub fn refine_seed_candidates(
-    vs: &[f32],
-    phis: &[f32],
-    var: f32,
+// The one seed's fit, where there is a seed; the sines and cosines are at hand.
+fn refined(
+    samples: &[f32],
+    ring_phi: &[f32],
+    centered_var: f32,
     top: Seed,
-    ss: &mut [f32],
-    cs: &mut [f32],
-    rs: &mut [f32],
-    qs: &mut [f32],
-    d1s: &mut [f32],
-    d2s: &mut [f32],
+    sphi: &[f32],
+    cphi: &[f32],
+    js: &mut [f32],
 ) -> Second
-    requires { ⌜ Sized (now vs) (now phis) (now ss) (now cs) (now rs) (now qs) (now d1s) (now d2s) ⌝ }
-    ensures { λ r. ⌜ r ≡ R.refineSeedCandidates (length (now (vs .entry))) (now (vs .entry)) (now (phis .entry)) var top ⌝ }
+    requires { ⌜ P.Ready (now samples) (now «ring_phi») (now sphi) (now cphi) (now js) ⌝ }
+    ensures { λ r. ⌜ r ≡ P.secondOf (R.refineSeedCandidates (length (now (samples .entry))) (now (samples .entry)) (now («ring_phi» .entry))
+        «centered_var» top) ⌝ }
 {
     let Seed::Found(s) = top else {
         return Second::Missing;
     };
-    let p = Params {
+    let seed = Params {
         mu: s.mu,
         amp: s.amp,
         theta1: s.theta1,
         theta2: s.theta2,
     };
-    let f = solver::fit_with_seed(vs, phis, p, var, ss, cs, rs, qs, d1s, d2s);
+    let f = started(samples, ring_phi, seed, centered_var, sphi, cphi, js);
     Second::Made(f)
 }
 
-// The start behind the grid: `qs` holds the centred samples until the fit takes it.
-pub fn robust_grid_fit(
-    vs: &[f32],
-    phis: &[f32],
+// The start behind the grid, the sines and cosines at hand: `js` holds the centred samples until the fit takes it.
+fn grid_fit(
+    samples: &[f32],
+    ring_phi: &[f32],
     mean: f32,
-    var: f32,
-    ss: &mut [f32],
-    cs: &mut [f32],
-    rs: &mut [f32],
-    qs: &mut [f32],
-    d1s: &mut [f32],
-    d2s: &mut [f32],
+    centered_var: f32,
+    sphi: &[f32],
+    cphi: &[f32],
+    js: &mut [f32],
     h: &mut [f32],
 ) -> Second
-    requires { ⌜ Sized (now vs) (now phis) (now ss) (now cs) (now rs) (now qs) (now d1s) (now d2s) × (length (now vs) ≤ 24) × (length (now h) ≡ 552) ⌝ }
-    ensures { λ r. ⌜ r ≡ R.robustGridFit (length (now (vs .entry))) (now (vs .entry)) (now (phis .entry)) mean var ⌝ }
+    requires { ⌜ P.Ready (now samples) (now «ring_phi») (now sphi) (now cphi) (now js) × P.Rows (now samples) (now h) ⌝ }
+    ensures { λ r. ⌜ r ≡ P.secondOf (R.robustGridFit (length (now (samples .entry))) (now (samples .entry)) (now («ring_phi» .entry))
+        mean «centered_var») ⌝ }
 {
-    if var < 1e-6 {
+    if centered_var < 1e-6 {
         return Second::Missing;
     }
-    center(vs, mean, qs);
-    let css = squares(qs);
-    if has_flat_squares(css) {
+    let n = samples.len();
+    center(samples, mean, &mut js[0..n]);
+    let centered_ss = squares(&js[0..n]);
+    if seed::is_flat(centered_ss) {
         return Second::Missing;
     }
-    let top = grid_seed(phis, qs, css, mean, rs, ss, cs, h);
-    refine_seed_candidates(vs, phis, var, top, ss, cs, rs, qs, d1s, d2s)
+    robust_grid::fill_grid(sphi, cphi, h);
+    let top = robust_grid::best_seed(h, &js[0..n], centered_ss, mean);
+    refined(samples, ring_phi, centered_var, top, sphi, cphi, js)
 }
 
-fn single(f: Started) -> RingFit
-    ensures { λ r. ⌜ r ≡ R.single f ⌝ }
+// The buffers are lent: `sphi` and `cphi` as long as the samples, `js` four times that; of no meaning afterwards.
+pub fn refine_seed_candidates(
+    samples: &[f32],
+    ring_phi: &[f32],
+    centered_var: f32,
+    top: Seed,
+    sphi: &mut [f32],
+    cphi: &mut [f32],
+    js: &mut [f32],
+) -> Second
+    requires { ⌜ P.Lent (now samples) (now «ring_phi») (now sphi) (now cphi) (now js) ⌝ }
+    ensures { λ r. ⌜ r ≡ P.secondOf (R.refineSeedCandidates (length (now (samples .entry))) (now (samples .entry)) (now («ring_phi» .entry))
+        «centered_var» top) ⌝ }
 {
-    let fit = f.fit;
-    RingFit {
-        fit,
-        starts: 1,
-        first: f.updates,
-        second: 0,
-    }
+    let n = ring_phi.len();
+    solver::prepare(ring_phi, &mut js[0..n], sphi, cphi);
+    refined(samples, ring_phi, centered_var, top, sphi, cphi, js)
 }
 
-// Of two fits the second is answered only where its residual is lower by more than 1e-3.
-fn lower(f: TwoAxisFit, g: TwoAxisFit) -> TwoAxisFit
-    ensures { λ r. ⌜ r ≡ R.lower f g ⌝ }
+// `h` has 24 places for each sample, and two more.
+pub fn robust_grid_fit(
+    samples: &[f32],
+    ring_phi: &[f32],
+    mean: f32,
+    centered_var: f32,
+    sphi: &mut [f32],
+    cphi: &mut [f32],
+    js: &mut [f32],
+    h: &mut [f32],
+) -> Second
+    requires { ⌜ P.Lent (now samples) (now «ring_phi») (now sphi) (now cphi) (now js) × P.Rows (now samples) (now h) ⌝ }
+    ensures { λ r. ⌜ r ≡ P.secondOf (R.robustGridFit (length (now (samples .entry))) (now (samples .entry)) (now («ring_phi» .entry))
+        mean «centered_var») ⌝ }
 {
-    if g.rms < f.rms - 1e-3 {
-        return g;
-    }
-    f
-}
-
-fn chosen(f: Started, s: Second) -> RingFit
-    ensures { λ r. ⌜ r ≡ R.chosen f s ⌝ }
-{
-    let Second::Made(g) = s else {
-        return single(f);
-    };
-    let fit = lower(f.fit, g.fit);
-    RingFit {
-        fit,
-        starts: 2,
-        first: f.updates,
-        second: g.updates,
-    }
+    let n = ring_phi.len();
+    solver::prepare(ring_phi, &mut js[0..n], sphi, cphi);
+    grid_fit(samples, ring_phi, mean, centered_var, sphi, cphi, js, h)
 }
 
 // The axes lie PI/4 on either side of the sector's midpoint.
@@ -335,33 +247,147 @@ fn first_seed(h: Harmonic, mean: f32) -> Params
         mu: mean,
         amp: h.mag,
         theta1: h.theta + floats::QUARTER_PI,
-        theta2: h.theta + 2.3561945,
+        theta2: h.theta + 3.0 * floats::QUARTER_PI,
     }
 }
 
-// The fit of any number of samples up to 24, in lent buffers of that length; `h` has the grid's rows.
-pub fn fit_samples(
-    vs: &[f32],
-    phis: &[f32],
-    ss: &mut [f32],
-    cs: &mut [f32],
-    rs: &mut [f32],
-    qs: &mut [f32],
-    d1s: &mut [f32],
-    d2s: &mut [f32],
-    h: &mut [f32],
-) -> RingFit
-    requires { ⌜ Sized (now vs) (now phis) (now ss) (now cs) (now rs) (now qs) (now d1s) (now d2s) × (length (now vs) ≤ 24) × (length (now h) ≡ 552) ⌝ }
-    ensures { λ r. ⌜ r ≡ R.fitRing (length (now (vs .entry))) (now (vs .entry)) (now (phis .entry)) ⌝ }
+// The first start, with the mean and the variance of the samples.
+pub struct First {
+    pub primary: Started,
+    pub mean: f32,
+    pub centered_var: f32,
+}
+
+// What solver::fit_with_seed does. A start that is not refused leaves the sines and cosines for the grid, and no refused
+// start is suspicious.
+fn start(
+    samples: &[f32],
+    ring_phi: &[f32],
+    seed: Params,
+    centered_var: f32,
+    sphi: &mut [f32],
+    cphi: &mut [f32],
+    js: &mut [f32],
+) -> Started
+    requires { ⌜ P.Lent (now samples) (now «ring_phi») (now sphi) (now cphi) (now js) ⌝ }
+    ensures { λ r. ⌜ r ≡ fitWithSeed (length (now (samples .entry))) (now (samples .entry)) (now («ring_phi» .entry)) seed «centered_var» ⌝ }
+    ensures { λ r. ⌜ (R.fitIsSuspicious (r .fit) ≡ true → Prepared (now («ring_phi» .entry)) (now (sphi .exit)) (now (cphi .exit))) ⌝ }
 {
-    let count = floats::count_f32(vs.len());
-    let mean = total(vs) / count;
-    let var = deviations(vs, mean) / count;
-    let p = first_seed(seed::second_harmonic(vs, phis, mean), mean);
-    let f = solver::fit_with_seed(vs, phis, p, var, ss, cs, rs, qs, d1s, d2s);
-    if fit_is_suspicious(f.fit) {
-        let s = robust_grid_fit(vs, phis, mean, var, ss, cs, rs, qs, d1s, d2s, h);
-        return chosen(f, s);
+    if solver::is_degenerate(seed.amp, centered_var) {
+        let fit = solver::degenerate_fit(centered_var);
+        return Started { fit, updates: 0 };
     }
-    single(f)
+    let n = ring_phi.len();
+    solver::prepare(ring_phi, &mut js[0..n], sphi, cphi);
+    solver::fit_prepared(samples, seed, sphi, cphi, js)
+}
+
+fn first_start(
+    samples: &[f32],
+    ring_phi: &[f32],
+    sphi: &mut [f32],
+    cphi: &mut [f32],
+    js: &mut [f32],
+) -> First
+    requires { ⌜ P.Lent (now samples) (now «ring_phi») (now sphi) (now cphi) (now js) ⌝ }
+    ensures { λ r. ⌜ r ≡ P.firstOf (length (now (samples .entry))) (now (samples .entry)) (now («ring_phi» .entry)) ⌝ }
+    ensures { λ r. ⌜ (R.fitIsSuspicious (r .primary .fit) ≡ true → Prepared (now («ring_phi» .entry)) (now (sphi .exit)) (now (cphi .exit))) ⌝ }
+{
+    let n = samples.len();
+    let count = floats::count_f32(n);
+    let mean = total(samples) / count;
+    let centered_var = deviations(samples, mean) / count;
+    let h = seed::second_harmonic(samples, ring_phi, mean, &mut js[0..n], sphi, cphi);
+    let seed = first_seed(h, mean);
+    let primary = start(samples, ring_phi, seed, centered_var, sphi, cphi, js);
+    First {
+        primary,
+        mean,
+        centered_var,
+    }
+}
+
+// The answer without the grid.
+fn alone(primary: Started) -> RingFit
+    ensures { λ r. ⌜ P.Alone primary r ⌝ }
+{
+    let fit = primary.fit;
+    RingFit {
+        fit,
+        starts: 1,
+        first: primary.updates,
+        second: 0,
+    }
+}
+
+// Of two fits the second is answered only where its residual is lower by more than 1e-3.
+fn lower(f: TwoAxisFit, g: TwoAxisFit) -> TwoAxisFit
+    ensures { λ r. ⌜ r ≡ cond (R.isLower g f) g f ⌝ }
+{
+    if g.rms < f.rms - 1e-3 {
+        return g;
+    }
+    f
+}
+
+// The answer with a second start.
+fn chosen(primary: Started, s: Second) -> RingFit
+    ensures { λ r. ⌜ P.Chosen primary s r ⌝ }
+{
+    let Second::Made(candidate) = s else {
+        return alone(primary);
+    };
+    let f = primary.fit;
+    let g = candidate.fit;
+    let fit = lower(f, g);
+    RingFit {
+        fit,
+        starts: 2,
+        first: primary.updates,
+        second: candidate.updates,
+    }
+}
+
+// The answer behind a suspicious first start. The grid's rows are on this call's stack, so they are cleared only where the
+// grid is reached.
+fn with_grid_16(
+    samples: &[f32],
+    ring_phi: &[f32],
+    f: First,
+    sphi: &[f32],
+    cphi: &[f32],
+    js: &mut [f32],
+) -> RingFit
+    requires { ⌜ (length (now samples) ≡ 16) × P.Ready (now samples) (now «ring_phi») (now sphi) (now cphi) (now js) ⌝ }
+    ensures { λ r. ⌜ P.Chosen (f .primary) (P.secondOf (R.robustGridFit 16 (now (samples .entry)) (now («ring_phi» .entry))
+        (f .mean) (f .«centered_var»))) r ⌝ }
+{
+    let mut h = [0.0f32; 386];
+    let s = grid_fit(
+        samples,
+        ring_phi,
+        f.mean,
+        f.centered_var,
+        sphi,
+        cphi,
+        js,
+        &mut h,
+    );
+    chosen(f.primary, s)
+}
+
+// The fit of 16 samples, with its working buffers on this call's stack.
+pub fn fit_ring(samples: &[f32], ring_phi: &[f32]) -> RingFit
+    requires { ⌜ (length (now samples) ≡ 16) × (length (now «ring_phi») ≡ 16) ⌝ }
+    ensures { λ r. ⌜ r ≡ R.fitRing 16 (now (samples .entry)) (now («ring_phi» .entry)) ⌝ }
+{
+    let mut sphi = [0.0f32; 16];
+    let mut cphi = [0.0f32; 16];
+    let mut js = [0.0f32; 64];
+    let f = first_start(samples, ring_phi, &mut sphi, &mut cphi, &mut js);
+    let primary = f.primary;
+    if fit_is_suspicious(primary.fit) {
+        return with_grid_16(samples, ring_phi, f, &sphi, &cphi, &mut js);
+    }
+    alone(primary)
 }

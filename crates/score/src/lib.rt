@@ -2,13 +2,11 @@
 use candidates::CandidateSet;
 use elementary::SinCos;
 use solver_elimination::Errors;
-use solver_elimination::Solved;
 ghost use mathlib.Core.Path.{_≡_};
 ghost use Prim.Native.Nat.{_≤_};
 ghost use lib.Ieee.{Float};
 ghost use lib.ListN.{length};
 ghost use Rattle.data.specs.Data.{OfPixels, OfValues, OfGradients, maxTanhPixels};
-ghost use Rattle.solver_elimination.specs.Solve as E;
 ghost use Rattle.score.specs.Score as S;
 
 pub const WIDTHS_PX: [f32; 4] = [0.35, 0.70, 1.40, 2.80];
@@ -345,49 +343,6 @@ fn normal(n: usize, m: Moments) -> [[f32; 4]; 4]
     ]
 }
 
-fn unknown() -> Errors
-    ensures { λ r. ⌜ r ≡ E.unknown ⌝ }
-{
-    Errors {
-        error1: floats::PI,
-        error2: floats::PI,
-    }
-}
-
-fn axis_error(v: f32, c: f32) -> f32
-    ensures { λ r. ⌜ r ≡ E.axisError v c ⌝ }
-{
-    floats::min(roots::sqrt(v * floats::max(c, 0.0)), floats::PI)
-}
-
-// Both columns of the inverse that matter, as in `solver_elimination`. With a second caller the compiler no longer
-// puts that function into the ring fit, whose stack would pass 4096 bytes; so the disk has its own.
-fn both_errors(jtj: &[[f32; 4]; 4], v: f32) -> Errors
-    ensures { λ r. ⌜ r ≡ E.bothErrors v (E.solve4x4 (now (jtj .entry)) E.unit2) (E.solve4x4 (now (jtj .entry)) E.unit3) ⌝ }
-{
-    let e2 = [0.0f32, 0.0, 1.0, 0.0];
-    let Solved::Values(_, _, c2, _) = solver_elimination::solve_4x4(jtj, &e2) else {
-        return unknown();
-    };
-    let e3 = [0.0f32, 0.0, 0.0, 1.0];
-    let Solved::Values(_, _, _, c3) = solver_elimination::solve_4x4(jtj, &e3) else {
-        return unknown();
-    };
-    let error1 = axis_error(v, c2);
-    let error2 = axis_error(v, c3);
-    Errors { error1, error2 }
-}
-
-fn errors_of(jtj: &[[f32; 4]; 4], ssr: f32, n: usize) -> Errors
-    requires { ⌜ n ≤ 320 ⌝ }
-    ensures { λ r. ⌜ r ≡ E.axisStdErrors (now (jtj .entry)) ssr n ⌝ }
-{
-    if n <= 4 {
-        return unknown();
-    }
-    both_errors(jtj, ssr / floats::count_f32(n - 4))
-}
-
 // The standard errors of a fit's two axes, from one pass at its own angles and width.
 pub fn fit_std_errors(xs: &[f32], ys: &[f32], vals_centered: &[f32], fit: Fit) -> Errors
     requires { ⌜ (length (now ys) ≡ length (now xs)) × (length (now «vals_centered») ≡ length (now xs))
@@ -399,5 +354,5 @@ pub fn fit_std_errors(xs: &[f32], ys: &[f32], vals_centered: &[f32], fit: Fit) -
     let m = moments_of(xs, ys, vals_centered, fit);
     let jtj = normal(n, m);
     let ssr = narrowing::narrow(residual(n, fit.amp, m));
-    errors_of(&jtj, ssr, n)
+    solver_elimination::axis_std_errors(&jtj, ssr, n)
 }

@@ -1,1 +1,3 @@
 pub mod Seed
+pub mod Buffers
+pub mod BufferLaws

@@ -4,6 +4,7 @@ ghost use mathlib.Core.Path.{_≡_};
 ghost use Prim.Native.Nat.{_≤_};
 ghost use lib.ListN.{length};
 ghost use Rattle.seed.specs.Seed as S;
+ghost use Rattle.seed.specs.Buffers as B;
 
 // The sums of the second harmonic.
 pub struct Waves {
@@ -19,8 +20,8 @@ pub struct Harmonic {
 
 // The sums of a pair: of q, of its square, and of its product with the centred samples.
 pub struct Sums {
-    pub q: f32,
-    pub q2: f32,
+    pub q_sum: f32,
+    pub q2_sum: f32,
     pub num: f32,
 }
 
@@ -38,25 +39,50 @@ pub enum Seed {
     Nothing,
 }
 
-fn waved(w: Waves, v: f32, phi: f32, mean: f32) -> Waves
-    ensures { λ r. ⌜ r ≡ S.wavedBy v phi mean w ⌝ }
+fn double_near(ring_phi: &[f32], turned: &mut [f32])
+    requires { ⌜ length (now turned) ≡ length (now «ring_phi») ⌝ }
+    ensures { λ _. ⌜ now (turned .exit) ≡ B.doubledNear (length (now («ring_phi» .entry))) (now («ring_phi» .entry)) ⌝ }
 {
-    let d = v - mean;
-    let t = elementary::sin_cos(2.0 * phi);
-    Waves {
-        c2: w.c2 + d * t.c,
-        s2: w.s2 + d * t.s,
+    let n = ring_phi.len();
+    for i in 0..n {
+        turned[i] = 2.0 * ring_phi[i];
     }
 }
 
-fn wave_sums(vs: &[f32], phis: &[f32], mean: f32) -> Waves
-    requires { ⌜ length (now phis) ≡ length (now vs) ⌝ }
-    ensures { λ r. ⌜ r ≡ S.waves (length (now (vs .entry))) (now (vs .entry)) (now (phis .entry)) mean ⌝ }
+fn double_each(ring_phi: &[f32], turned: &mut [f32])
+    requires { ⌜ length (now turned) ≡ length (now «ring_phi») ⌝ }
+    ensures { λ _. ⌜ now (turned .exit) ≡ B.doubled (length (now («ring_phi» .entry))) (now («ring_phi» .entry)) ⌝ }
 {
-    let n = vs.len();
+    let n = ring_phi.len();
+    for i in 0..n {
+        turned[i] = elementary::turn(2.0 * ring_phi[i]);
+    }
+}
+
+// Twice each angle, brought to at most 64 in size: the remainder in `turn` is a call, and would keep the loop of sines from
+// being vector code.
+fn double_all(ring_phi: &[f32], turned: &mut [f32])
+    requires { ⌜ length (now turned) ≡ length (now «ring_phi») ⌝ }
+    ensures { λ _. ⌜ now (turned .exit) ≡ B.doubled (length (now («ring_phi» .entry))) (now («ring_phi» .entry)) ⌝ }
+{
+    double_near(ring_phi, turned);
+    if solver::all_near(turned) {
+        return;
+    }
+    double_each(ring_phi, turned);
+}
+
+// The ordered sums, once the sines and cosines of the doubled angles are there.
+fn wave_sums(samples: &[f32], mean: f32, sphi: &[f32], cphi: &[f32]) -> Waves
+    requires { ⌜ (length (now sphi) ≡ length (now samples)) × (length (now cphi) ≡ length (now samples)) ⌝ }
+    ensures { λ r. ⌜ r ≡ B.wavesFrom (length (now (samples .entry))) (now (samples .entry)) mean (now (sphi .entry)) (now (cphi .entry)) ⌝ }
+{
+    let n = samples.len();
     let mut w = Waves { c2: 0.0, s2: 0.0 };
     for i in 0..n {
-        w = waved(w, vs[i], phis[i], mean);
+        let v = samples[i] - mean;
+        w.c2 += v * cphi[i];
+        w.s2 += v * sphi[i];
     }
     w
 }
@@ -70,12 +96,22 @@ fn settled(theta: f32) -> f32
     0.0
 }
 
-pub fn second_harmonic(vs: &[f32], phis: &[f32], mean: f32) -> Harmonic
-    requires { ⌜ (length (now phis) ≡ length (now vs)) × (length (now vs) ≤ 320) ⌝ }
-    ensures { λ r. ⌜ r ≡ S.secondHarmonic (length (now (vs .entry))) (now (vs .entry)) (now (phis .entry)) mean ⌝ }
+// `turned`, `sphi` and `cphi` are lent: as long as the samples, and of no meaning afterwards.
+pub fn second_harmonic(
+    samples: &[f32],
+    ring_phi: &[f32],
+    mean: f32,
+    turned: &mut [f32],
+    sphi: &mut [f32],
+    cphi: &mut [f32],
+) -> Harmonic
+    requires { ⌜ B.Room (now samples) (now «ring_phi») (now turned) (now sphi) (now cphi) ⌝ }
+    ensures { λ r. ⌜ r ≡ S.secondHarmonic (length (now (samples .entry))) (now (samples .entry)) (now («ring_phi» .entry)) mean ⌝ }
 {
-    let w = wave_sums(vs, phis, mean);
-    let n = vs.len();
+    double_all(ring_phi, turned);
+    solver::sin_cos_all(turned, sphi, cphi);
+    let w = wave_sums(samples, mean, sphi, cphi);
+    let n = samples.len();
     let theta = settled(0.5 * elementary::atan2(w.s2, w.c2));
     let root = roots::sqrt(w.c2 * w.c2 + w.s2 * w.s2);
     Harmonic {
@@ -90,14 +126,14 @@ fn pair_sums(centered: &[f32], h1: &[f32], h2: &[f32]) -> Sums
 {
     let n = centered.len();
     let mut s = Sums {
-        q: 0.0,
-        q2: 0.0,
+        q_sum: 0.0,
+        q2_sum: 0.0,
         num: 0.0,
     };
     for i in 0..n {
         let q = h1[i] * h2[i];
-        s.q += q;
-        s.q2 += q * q;
+        s.q_sum += q;
+        s.q2_sum += q * q;
         s.num += centered[i] * q;
     }
     s
@@ -116,7 +152,7 @@ fn kept(s: SeedCandidate) -> Seed
     Seed::Nothing
 }
 
-fn is_flat(denom: f32) -> bool
+pub fn is_flat(denom: f32) -> bool
     ensures { λ r. ⌜ r ≡ S.flat denom ⌝ }
 {
     if floats::is_finite(denom) {
@@ -125,16 +161,17 @@ fn is_flat(denom: f32) -> bool
     true
 }
 
-fn scored(n: f32, css: f32, mean: f32, s: Sums, theta1: f32, theta2: f32) -> Seed
-    ensures { λ r. ⌜ r ≡ S.scored n css mean s theta1 theta2 ⌝ }
+// The score of a pair from its sums; `n` is the number of samples.
+pub fn score_sums(n: f32, centered_ss: f32, mean: f32, s: Sums, theta1: f32, theta2: f32) -> Seed
+    ensures { λ r. ⌜ r ≡ S.scored n «centered_ss» mean s theta1 theta2 ⌝ }
 {
-    let q_mean = s.q / n;
-    let denom = s.q2 - s.q * q_mean;
+    let q_mean = s.q_sum / n;
+    let denom = s.q2_sum - s.q_sum * q_mean;
     if is_flat(denom) {
         return Seed::Nothing;
     }
     let amp = s.num / denom;
-    let ssr = floats::max(css - s.num * s.num / denom, 0.0);
+    let ssr = floats::max(centered_ss - s.num * s.num / denom, 0.0);
     let rms = roots::sqrt(ssr / n);
     kept(SeedCandidate {
         theta1,
@@ -147,7 +184,7 @@ fn scored(n: f32, css: f32, mean: f32, s: Sums, theta1: f32, theta2: f32) -> See
 
 pub fn score_seed_pair(
     centered: &[f32],
-    css: f32,
+    centered_ss: f32,
     mean: f32,
     h1: &[f32],
     h2: &[f32],
@@ -155,11 +192,12 @@ pub fn score_seed_pair(
     theta2: f32,
 ) -> Seed
     requires { ⌜ (length (now h1) ≡ length (now centered)) × (length (now h2) ≡ length (now centered)) × (length (now centered) ≤ 320) ⌝ }
-    ensures { λ r. ⌜ r ≡ S.scoreSeedPair (length (now (centered .entry))) (now (centered .entry)) css mean (now (h1 .entry)) (now (h2 .entry)) theta1 theta2 ⌝ }
+    ensures { λ r. ⌜ r ≡ S.scoreSeedPair (length (now (centered .entry))) (now (centered .entry)) «centered_ss» mean
+        (now (h1 .entry)) (now (h2 .entry)) theta1 theta2 ⌝ }
 {
     let s = pair_sums(centered, h1, h2);
     let n = centered.len();
-    scored(floats::count_f32(n), css, mean, s, theta1, theta2)
+    score_sums(floats::count_f32(n), centered_ss, mean, s, theta1, theta2)
 }
 
 // One place: the candidate takes it where it is empty, or where its residual is lower.

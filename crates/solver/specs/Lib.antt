@@ -1,3 +1,4 @@
 pub mod Solver
+pub mod Buffers
 pub mod SolverLaws
 pub mod SoundLaws

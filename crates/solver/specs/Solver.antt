@@ -1,7 +1,7 @@
 -- The Gauss-Newton fit from a seed: ring_fit/solver.rs, fit_with_seed and degenerate_fit. Definitions only.
--- `n` is the number of samples throughout; `vs` are the samples, `phis` their angles on the ring.
-use mathlib.Core.Bool.{Bool, true, false, cond, not, _&&_, _||_}
-use mathlib.Core.List.{List, [], _∷_}
+-- `n` is the number of samples throughout, and `ringPhi` has their angles on the ring; `sphi` and `cphi` are the angles' sines and cosines.
+use mathlib.Core.Bool.{Bool, cond, not, _&&_, _||_}
+use mathlib.Core.List.{[], _∷_}
 use Prim.Native.Nat.{ℕ, zero, suc, _+_}
 use lib.IntN.{pos}
 use lib.ListN.{getD, set, replicate}
@@ -23,15 +23,29 @@ use Rattle.solver.specs.declared.Sample.{Sample}
 use Rattle.solver.specs.declared.TwoAxisFit.{TwoAxisFit}
 use Rattle.solver.specs.declared.Started.{Started}
 
--- mod.rs: TANH_BETA, the slope of the model; solver.rs: GN_MAX_ANGLE_STEP, GN_TOL
+-- mod.rs: TANH_BETA, the slope of the model
 abbrev pub tanhBeta : Float
 tanhBeta = lit 0x4080_0000
 
-abbrev pub maxAngleStep : Float
-maxAngleStep = lit 0x3f00_0000
+-- solver.rs: GN_MAX_ITERS, GN_MAX_ANGLE_STEP (0.5) and GN_TOL (1e-4), the bound on the angle steps
+abbrev pub gnMaxIters : ℕ
+gnMaxIters = 6
 
-abbrev pub tolerance : Float
-tolerance = lit 0x38d1_b717
+abbrev pub gnMaxAngleStep : Float
+gnMaxAngleStep = lit 0x3f00_0000
+
+abbrev pub gnTol : Float
+gnTol = lit 0x38d1_b717
+
+-- solver.rs has these as bare numbers: 1e-4, the bound on the amplitude step; 1e-4 and 1e-6, below which a start is degenerate
+abbrev pub ampTol : Float
+ampTol = lit 0x38d1_b717
+
+abbrev pub minAmpSeed : Float
+minAmpSeed = lit 0x38d1_b717
+
+abbrev pub minCenteredVar : Float
+minCenteredVar = lit 0x3586_37bd
 
 abbrev pub count : ℕ → Float
 count n = ofInt binary32 (pos n)
@@ -79,26 +93,24 @@ unfoldable pub added : Sample → Normal → Normal
 added t n = record { m = grown (jacobian t) (n .m); v = pushed (jacobian t) (t .r) (n .v); ssr = n .ssr ⊕ t .r ⊗ t .r }
 
 unfoldable pub pass : ℕ → Params → Row → Row → Row → Normal
-pass n p vs ss cs =
+pass n p samples sphi cphi =
     let t1 = sinCos (p .theta1) in
     let t2 = sinCos (p .theta2) in
-    iter (λ i. added (sampleAt p t1 t2 (at vs i) (at ss i) (at cs i))) empty n
+    iter (λ i. added (sampleAt p t1 t2 (at samples i) (at sphi i) (at cphi i))) empty n
 
 -- ---- the updates
 -- an angle step of more than 0.5 in size is cut to 0.5
 unfoldable pub cut : Float → Float
-cut d = cond (lt maxAngleStep (abs d)) (signum d ⊗ maxAngleStep) d
-
-abbrev pub tiny : Float → Bool
-tiny d = lt (abs d) tolerance
+cut d = cond (lt gnMaxAngleStep (abs d)) (signum d ⊗ gnMaxAngleStep) d
 
 -- what a pass's elimination asks: stop here, or go on with new parameters
 pub data Step : Type 0 where
   stay : Step
   to : Params → Step
 
+-- both angle steps and the amplitude step
 unfoldable pub small : Float → Float → Float → Bool
-small d1 d2 d3 = tiny d2 && (tiny d3 && tiny d1)
+small d1 d2 d3 = lt (abs d2) gnTol && (lt (abs d3) gnTol && lt (abs d1) ampTol)
 
 abbrev pub moved : Params → Float → Float → Float → Float → Params
 moved p d0 d1 d2 d3 = record { mu = p .mu ⊕ d0; amp = p .amp ⊕ d1; theta1 = p .theta1 ⊕ d2; theta2 = p .theta2 ⊕ d3 }
@@ -117,25 +129,32 @@ pub record Final : Type 0 where
   pub last : Normal
   pub updates : ℕ
 
-module _ (n : ℕ) (vs ss cs : Row) where
+module _ (n : ℕ) (samples sphi cphi : Row) where
   -- at most `fuel` updates more, after `k`
   unfoldable pub updatesFrom : ℕ → ℕ → Params → Final
-  updatesFrom zero k p = record { p = p; last = pass n p vs ss cs; updates = k }
+  updatesFrom zero k p = record { p = p; last = pass n p samples sphi cphi; updates = k }
   updatesFrom (suc fuel) k p =
-      let l = pass n p vs ss cs in
+      let l = pass n p samples sphi cphi in
       after (stepOf p (solve4x4 (l .m) (l .v))) (record { p = p; last = l; updates = k }) (λ q. updatesFrom fuel (k + 1) q)
 
-  -- GN_MAX_ITERS is 6
   unfoldable pub updates : Params → Final
-  updates p = updatesFrom 6 0 p
+  updates seed = updatesFrom gnMaxIters 0 seed
 
 -- ---- solver.rs: degenerate_fit
 unfoldable pub degenerateFit : Float → TwoAxisFit
-degenerateFit var = record { amp = nought; theta1 = nought; theta2 = halfPi; «fit_std_error_theta1» = pi; «fit_std_error_theta2» = pi; rms = sqrt binary32 (max var nought) }
+degenerateFit centeredVar =
+    record {
+      amp = nought;
+      theta1 = nought;
+      theta2 = halfPi;
+      «fit_std_error_theta1» = pi;
+      «fit_std_error_theta2» = pi;
+      rms = sqrt binary32 (max centeredVar nought);
+    }
 
 -- solver.rs: fit_with_seed refuses such a start
 unfoldable pub degenerate : Float → Float → Bool
-degenerate amp var = not (finite amp) || (lt (abs amp) tolerance || lt var (lit 0x3586_37bd))
+degenerate amp centeredVar = not (finite amp) || (lt (abs amp) minAmpSeed || lt centeredVar minCenteredVar)
 
 -- the errors follow their axes where these were exchanged
 unfoldable pub assembled : Axes → Errors → Float → TwoAxisFit
@@ -158,15 +177,16 @@ finished n p m ssr =
     assembled a e rms
 
 abbrev pub sines : ℕ → Row → Row
-sines n phis = tab (λ i. sinCos (at phis i) .s) n
+sines n ringPhi = tab (λ i. sinCos (at ringPhi i) .s) n
 
 abbrev pub cosines : ℕ → Row → Row
-cosines n phis = tab (λ i. sinCos (at phis i) .c) n
+cosines n ringPhi = tab (λ i. sinCos (at ringPhi i) .c) n
 
 abbrev pub whole : ℕ → Final → Started
 whole n f = record { fit = finished n (f .p) (f .last .m) (f .last .ssr); updates = f .updates }
 
 -- solver.rs: fit_with_seed, with the number of updates that it made
 unfoldable pub fitWithSeed : ℕ → Row → Row → Params → Float → Started
-fitWithSeed n vs phis p var =
-    cond (degenerate (p .amp) var) (record { fit = degenerateFit var; updates = 0 }) (whole n (updates n vs (sines n phis) (cosines n phis) p))
+fitWithSeed n samples ringPhi seed centeredVar =
+    cond (degenerate (seed .amp) centeredVar) (record { fit = degenerateFit centeredVar; updates = 0 })
+    (whole n (updates n samples (sines n ringPhi) (cosines n ringPhi) seed))

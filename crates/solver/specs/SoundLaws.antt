@@ -1,5 +1,5 @@
--- Every start's fit is sound, whatever went in: its axes and errors lie in their ranges and its amplitude is NaN or not below zero; and a start makes at most six updates. Assumes nothing.
-use mathlib.Core.Path.{_≡_, refl, sym, subst}
+-- Every start's fit is sound, whatever went in: its axes and errors lie in their ranges and its amplitude is NaN or not below zero.
+-- A start makes at most six updates. Assumes nothing.
 use mathlib.Core.Bool.{Bool, true, false, cond, _||_}
 use Prim.Native.Nat.{ℕ, zero, suc, _+_, _≤_}
 use native.Mathlib.Omega.{arith}
@@ -7,7 +7,6 @@ use lib.Dec.{T}
 use lib.Ieee.{Float, binary32, lt, le, eq, fits, isNan, ofBits}
 use lib.Ieee.Fits.{add-fits}
 use Rattle.floats.specs.Ops.{nought, pi, tau}
-use Rattle.floats.specs.RootRangeLaws.{pi-between}
 use Rattle.solver_elimination.specs.Solve.{Row, Matrix, solve4x4, axisStdErrors}
 use Rattle.solver_elimination.specs.SolveLaws.{Bounded, errors-bounded}
 use Rattle.solver_elimination.specs.declared.Solved.{Solved}
@@ -18,32 +17,36 @@ use Rattle.solver_axes.specs.CanonicalLaws.{canonical-range}
 use Rattle.solver_axes.specs.declared.Axes.{Axes}
 use Rattle.solver.specs.declared.Params.{Params}
 use Rattle.solver.specs.declared.TwoAxisFit.{TwoAxisFit}
-use Rattle.solver.specs.declared.Started.{Started}
-use Rattle.solver.specs.Solver.{pass, cut, small, moved, Step, stay, to, stepOf, after, Final, updatesFrom, updates, degenerateFit, degenerate, assembled, finished, whole, sines, cosines, fitWithSeed}
+use Rattle.solver.specs.Solver.{pass, cut, small, moved, Step, stay, to, stepOf, after, Final, updatesFrom, updates}
+use Rattle.solver.specs.Solver.{degenerateFit, degenerate, assembled, finished, whole, sines, cosines, fitWithSeed}
 
 -- ---- at most six updates
 after-most : (s : Step) (k m : ℕ) (a : Final) (f : Params → Final) → a .updates ≤ m → ((q : Params) → f q .updates ≤ m) → after s a f .updates ≤ m
 after-most stay k m a f h g = h
 after-most (to q) k m a f h g = g q
 
-from-most : (n : ℕ) (vs ss cs : Row) (fuel k : ℕ) (p : Params) → updatesFrom n vs ss cs fuel k p .updates ≤ k + fuel
+from-most : (n : ℕ) (samples sphi cphi : Row) (fuel k : ℕ) (p : Params) → updatesFrom n samples sphi cphi fuel k p .updates ≤ k + fuel
 unfolding updatesFrom
-from-most n vs ss cs zero k p = omega arith
-from-most n vs ss cs (suc fuel) k p =
-    after-most (stepOf p (solve4x4 (pass n p vs ss cs .m) (pass n p vs ss cs .v))) k (k + suc fuel) _ (λ q. updatesFrom n vs ss cs fuel (k + 1) q) (omega arith)
-    (λ q. let h = from-most n vs ss cs fuel (k + 1) q in omega arith)
+from-most n samples sphi cphi zero k p = omega arith
+from-most n samples sphi cphi (suc fuel) k p =
+    let l = pass n p samples sphi cphi in
+    after-most (stepOf p (solve4x4 (l .m) (l .v))) k (k + suc fuel) _ (λ q. updatesFrom n samples sphi cphi fuel (k + 1) q) (omega arith)
+    (λ q. let h = from-most n samples sphi cphi fuel (k + 1) q in omega arith)
 
-pub updates-most : (n : ℕ) (vs ss cs : Row) (p : Params) → updates n vs ss cs p .updates ≤ 6
+pub updates-most : (n : ℕ) (samples sphi cphi : Row) (p : Params) → updates n samples sphi cphi p .updates ≤ 6
 unfolding updates
-updates-most n vs ss cs p = from-most n vs ss cs 6 0 p
+updates-most n samples sphi cphi p = from-most n samples sphi cphi 6 0 p
 
-pub start-most : (n : ℕ) (vs phis : Row) (p : Params) (var : Float) → fitWithSeed n vs phis p var .updates ≤ 6
+pub start-most : (n : ℕ) (samples ringPhi : Row) (p : Params) (centeredVar : Float) → fitWithSeed n samples ringPhi p centeredVar .updates ≤ 6
 unfolding fitWithSeed
-start-most n vs phis p var = go (degenerate (p .amp) var)
+start-most n samples ringPhi p centeredVar = go (degenerate (p .amp) centeredVar)
   where
-    go : (b : Bool) → cond b (record { fit = degenerateFit var; updates = 0 }) (whole n (updates n vs (sines n phis) (cosines n phis) p)) .updates ≤ 6
+    end : Final
+    end = updates n samples (sines n ringPhi) (cosines n ringPhi) p
+
+    go : (b : Bool) → cond b (record { fit = degenerateFit centeredVar; updates = 0 }) (whole n end) .updates ≤ 6
     go true = omega arith
-    go false = updates-most n vs (sines n phis) (cosines n phis) p
+    go false = updates-most n samples (sines n ringPhi) (cosines n ringPhi) p
 
 -- ---- parameters that an f32 holds
 pub record Held (p : Params) : Type 0 where
@@ -54,7 +57,8 @@ pub record Held (p : Params) : Type 0 where
 moved-held : (p : Params) (d0 d1 d2 d3 : Float) → Held (moved p d0 d1 d2 d3)
 moved-held p d0 d1 d2 d3 = record { amp = add-fits binary32 (p .amp) d1; one = add-fits binary32 (p .theta1) d2; two = add-fits binary32 (p .theta2) d3 }
 
-after-held : (p : Params) (s : Solved) (a : Final) (f : Params → Final) → Held (a .p) → ((q : Params) → Held q → Held (f q .p)) → Held (after (stepOf p s) a f .p)
+after-held : (p : Params) (s : Solved) (a : Final) (f : Params → Final) → Held (a .p) → ((q : Params) → Held q → Held (f q .p)) →
+    Held (after (stepOf p s) a f .p)
 after-held p Failed a f h g = h
 after-held p (Values d0 d1 d2 d3) a f h g = go (small d1 (cut d2) (cut d3))
   where
@@ -62,11 +66,13 @@ after-held p (Values d0 d1 d2 d3) a f h g = go (small d1 (cut d2) (cut d3))
     go true = h
     go false = g (moved p d0 d1 (cut d2) (cut d3)) (moved-held p d0 d1 (cut d2) (cut d3))
 
-from-held : (n : ℕ) (vs ss cs : Row) (fuel k : ℕ) (p : Params) → Held p → Held (updatesFrom n vs ss cs fuel k p .p)
+from-held : (n : ℕ) (samples sphi cphi : Row) (fuel k : ℕ) (p : Params) → Held p → Held (updatesFrom n samples sphi cphi fuel k p .p)
 unfolding updatesFrom
-from-held n vs ss cs zero k p h = h
-from-held n vs ss cs (suc fuel) k p h =
-    after-held p (solve4x4 (pass n p vs ss cs .m) (pass n p vs ss cs .v)) _ (λ q. updatesFrom n vs ss cs fuel (k + 1) q) h (λ q g. from-held n vs ss cs fuel (k + 1) q g)
+from-held n samples sphi cphi zero k p h = h
+from-held n samples sphi cphi (suc fuel) k p h =
+    let l = pass n p samples sphi cphi in
+    after-held p (solve4x4 (l .m) (l .v)) _ (λ q. updatesFrom n samples sphi cphi fuel (k + 1) q) h
+    (λ q g. from-held n samples sphi cphi fuel (k + 1) q g)
 
 -- ---- a sound fit
 pub record Sound (f : TwoAxisFit) : Type 0 where
@@ -81,12 +87,26 @@ pub record Sound (f : TwoAxisFit) : Type 0 where
   pub size : T (isNan (f .amp) || le nought (f .amp))
 
 assembled-sound : (a : Axes) (e : Errors) (rms : Float) → CanonicalRange (a .theta1) (a .theta2) (a .amp) → Bounded e → Sound (assembled a e rms)
-unfolding assembled
-assembled-sound a e rms r b = go (a .swapped)
+assembled-sound a e rms r b = unfold assembled in go (a .swapped)
   where
-    go : (w : Bool) → Sound (record { amp = a .amp; theta1 = a .theta1; theta2 = a .theta2; «fit_std_error_theta1» = cond w (e .error2) (e .error1); «fit_std_error_theta2» = cond w (e .error1) (e .error2); rms = rms })
-    go true = record { low = r .low; first = r .first; order = r .order; second = r .second; low1 = b .low2; high1 = b .high2; low2 = b .low1; high2 = b .high1; size = r .size }
-    go false = record { low = r .low; first = r .first; order = r .order; second = r .second; low1 = b .low1; high1 = b .high1; low2 = b .low2; high2 = b .high2; size = r .size }
+    given : Float → Float → TwoAxisFit
+    given e1 e2 =
+        record {
+          amp = a .amp;
+          theta1 = a .theta1;
+          theta2 = a .theta2;
+          «fit_std_error_theta1» = e1;
+          «fit_std_error_theta2» = e2;
+          rms = rms;
+        }
+
+    with-errors : (e1 e2 : Float) → T (le nought e1) → T (le e1 pi) → T (le nought e2) → T (le e2 pi) → Sound (given e1 e2)
+    with-errors e1 e2 l1 h1 l2 h2 =
+        record { low = r .low; first = r .first; order = r .order; second = r .second; low1 = l1; high1 = h1; low2 = l2; high2 = h2; size = r .size }
+
+    go : (w : Bool) → Sound (given (cond w (e .error2) (e .error1)) (cond w (e .error1) (e .error2)))
+    go true = with-errors (e .error2) (e .error1) (b .low2) (b .high2) (b .low1) (b .high1)
+    go false = with-errors (e .error1) (e .error2) (b .low1) (b .high1) (b .low2) (b .high2)
 
 finished-sound : (n : ℕ) (p : Params) (m : Matrix) (ssr : Float) → Held p → Sound (finished n p m ssr)
 unfolding finished
@@ -94,20 +114,20 @@ finished-sound n p m ssr h =
     assembled-sound (canonicalizeTrackingSwap (p .theta1) (p .theta2) (p .amp)) (axisStdErrors m ssr n) _
     (canonical-range (p .theta1) (p .theta2) (p .amp) (h .one) (h .two) (h .amp)) (errors-bounded m ssr n)
 
-pub degenerate-sound : (var : Float) → Sound (degenerateFit var)
+pub degenerate-sound : (centeredVar : Float) → Sound (degenerateFit centeredVar)
 unfolding degenerateFit le lt eq isNan ofBits
-degenerate-sound var = record { low = tt; first = tt; order = tt; second = tt; low1 = tt; high1 = tt; low2 = tt; high2 = tt; size = tt }
+degenerate-sound centeredVar = record { low = tt; first = tt; order = tt; second = tt; low1 = tt; high1 = tt; low2 = tt; high2 = tt; size = tt }
 
-pub start-sound : (n : ℕ) (vs phis : Row) (p : Params) (var : Float) → Held p → Sound (fitWithSeed n vs phis p var .fit)
+pub start-sound : (n : ℕ) (samples ringPhi : Row) (p : Params) (centeredVar : Float) → Held p → Sound (fitWithSeed n samples ringPhi p centeredVar .fit)
 unfolding fitWithSeed
-start-sound n vs phis p var h = go (degenerate (p .amp) var)
+start-sound n samples ringPhi p centeredVar h = go (degenerate (p .amp) centeredVar)
   where
     end : Final
-    end = updates n vs (sines n phis) (cosines n phis) p
+    end = updates n samples (sines n ringPhi) (cosines n ringPhi) p
 
     held : Held (end .p)
-    held = unfold updates in from-held n vs (sines n phis) (cosines n phis) 6 0 p h
+    held = unfold updates in from-held n samples (sines n ringPhi) (cosines n ringPhi) 6 0 p h
 
-    go : (b : Bool) → Sound (cond b (record { fit = degenerateFit var; updates = 0 }) (whole n end) .fit)
-    go true = degenerate-sound var
+    go : (b : Bool) → Sound (cond b (record { fit = degenerateFit centeredVar; updates = 0 }) (whole n end) .fit)
+    go true = degenerate-sound centeredVar
     go false = finished-sound n (end .p) (end .last .m) (end .last .ssr) held

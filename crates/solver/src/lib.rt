@@ -4,11 +4,12 @@ use solver_axes::Axes;
 use solver_elimination::Errors;
 use solver_elimination::Solved;
 ghost use mathlib.Core.Path.{_≡_};
-ghost use Prim.Native.Nat.{_≤_, _<_};
+ghost use mathlib.Core.Bool.{true};
+ghost use Prim.Native.Nat.{_*_, _≤_};
 ghost use lib.ListN.{length};
-ghost use Rattle.elementary.specs.Elementary.{sinCos, sinCosNear, turn};
 ghost use Rattle.solver.specs.Solver as S;
-ghost use Rattle.solver.specs.SolverLaws.{TurnedTo, Sines, Filled, Summed, Sized, Room, Prepared};
+ghost use Rattle.elementary.specs.Elementary.{turn};
+ghost use Rattle.solver.specs.Buffers as B;
 
 const TANH_BETA: f32 = 4.0;
 
@@ -17,6 +18,11 @@ const GN_MAX_ITERS: usize = 6;
 const GN_MAX_ANGLE_STEP: f32 = 0.5;
 
 const GN_TOL: f32 = 1e-4;
+
+// A start below either of these has no contrast to fit.
+const MIN_AMP_SEED: f32 = 1e-4;
+
+const MIN_CENTERED_VAR: f32 = 1e-6;
 
 // Result of the parametric two-axis intensity fit: the amplitude, both axes, their standard errors
 // and the residual.
@@ -51,6 +57,26 @@ pub struct Sample {
     pub d2: f32,
 }
 
+// The sums that a pass leaves: of r and the row; of r times each; of the row's products; and of 1,
+// the number of samples. Four fields that stand together are one sum of vector code.
+pub struct Sums {
+    pub r: f32,
+    pub q: f32,
+    pub d1: f32,
+    pub d2: f32,
+    pub rr: f32,
+    pub rq: f32,
+    pub rd1: f32,
+    pub rd2: f32,
+    pub qq: f32,
+    pub qd1: f32,
+    pub qd2: f32,
+    pub d1d1: f32,
+    pub d1d2: f32,
+    pub d2d2: f32,
+    pub n: f32,
+}
+
 fn sample_at(p: Params, t1: SinCos, t2: SinCos, v: f32, s: f32, c: f32) -> Sample
     ensures { λ t. ⌜ t ≡ S.sampleAt p t1 t2 v s c ⌝ }
 {
@@ -70,139 +96,183 @@ fn sample_at(p: Params, t1: SinCos, t2: SinCos, v: f32, s: f32, c: f32) -> Sampl
     }
 }
 
-// The angles brought below 64 in size first: the remainder in `turn` is a call, and would keep the
-// next loop from being vector code.
-fn turn_all(phis: &[f32], turned: &mut [f32])
-    requires { ⌜ length (now turned) ≡ length (now phis) ⌝ }
-    ensures { λ _. ⌜ TurnedTo (now (phis .entry)) (now (turned .exit)) ⌝ }
+// Whether all were near so far, and x is at most 64 in size too.
+fn near_too(near: bool, x: f32) -> bool
+    ensures { λ r. ⌜ (r ≡ true → (near ≡ true) × (turn x ≡ x)) ⌝ }
 {
-    let n = phis.len();
+    if floats::abs(x) > 64.0 {
+        return false;
+    }
+    near
+}
+
+// No early return, so that the loop becomes vector code.
+pub fn all_near(ring_phi: &[f32]) -> bool
+    ensures { λ r. ⌜ (r ≡ true → B.AllNear (length (now («ring_phi» .entry))) (now («ring_phi» .entry))) ⌝ }
+{
+    let n = ring_phi.len();
+    let mut near = true;
     for i in 0..n {
-        turned[i] = elementary::turn(phis[i]);
+        near = near_too(near, ring_phi[i]);
+    }
+    near
+}
+
+fn turn_all(ring_phi: &[f32], turned: &mut [f32])
+    requires { ⌜ length (now turned) ≡ length (now «ring_phi») ⌝ }
+    ensures { λ _. ⌜ B.TurnedTo (now («ring_phi» .entry)) (now (turned .exit)) ⌝ }
+{
+    let n = ring_phi.len();
+    for i in 0..n {
+        turned[i] = elementary::turn(ring_phi[i]);
     }
 }
 
-fn sin_cos_all(turned: &[f32], ss: &mut [f32], cs: &mut [f32])
-    requires { ⌜ (length (now ss) ≡ length (now turned)) × (length (now cs) ≡ length (now turned)) ⌝ }
-    ensures { λ _. ⌜ Sines (now (turned .entry)) (now (ss .exit)) (now (cs .exit)) ⌝ }
+pub fn sin_cos_all(turned: &[f32], sphi: &mut [f32], cphi: &mut [f32])
+    requires { ⌜ (length (now sphi) ≡ length (now turned)) × (length (now cphi) ≡ length (now turned)) ⌝ }
+    ensures { λ _. ⌜ B.Sines (now (turned .entry)) (now (sphi .exit)) (now (cphi .exit)) ⌝ }
 {
     let n = turned.len();
     for i in 0..n {
         let t = elementary::sin_cos_near(turned[i]);
-        ss[i] = t.s;
-        cs[i] = t.c;
+        sphi[i] = t.s;
+        cphi[i] = t.c;
     }
 }
 
-// The residual and the Jacobian's row of each sample, a list for each part: this loop has no running
-// sum, so it becomes vector code.
+// The trigonometric functions of the angles depend on the ring alone, so they are worked out once.
+// Angles are brought below 64 in size first, in a loop of their own: the remainder in `turn` is a
+// call, and would keep the other loop from being vector code.
+pub fn prepare(ring_phi: &[f32], turned: &mut [f32], sphi: &mut [f32], cphi: &mut [f32])
+    requires { ⌜ (length (now turned) ≡ length (now «ring_phi»)) × (length (now sphi) ≡ length (now «ring_phi»)) ×
+        (length (now cphi) ≡ length (now «ring_phi»)) ⌝ }
+    ensures { λ _. ⌜ B.Prepared (now («ring_phi» .entry)) (now (sphi .exit)) (now (cphi .exit)) ⌝ }
+{
+    if all_near(ring_phi) {
+        sin_cos_all(ring_phi, sphi, cphi);
+        return;
+    }
+    turn_all(ring_phi, turned);
+    sin_cos_all(turned, sphi, cphi);
+}
+
+// The residual and the Jacobian's row of each sample, side by side in four places: this loop has no
+// running sum, so it becomes vector code.
 fn fill(
-    vs: &[f32],
-    ss: &[f32],
-    cs: &[f32],
+    samples: &[f32],
+    sphi: &[f32],
+    cphi: &[f32],
     p: Params,
     t1: SinCos,
     t2: SinCos,
-    rs: &mut [f32],
-    qs: &mut [f32],
-    d1s: &mut [f32],
-    d2s: &mut [f32],
+    js: &mut [f32],
 )
-    requires { ⌜ (length (now ss) ≡ length (now vs)) × (length (now cs) ≡ length (now vs)) × Room (now vs) (now rs) (now qs) (now d1s) (now d2s) ⌝ }
-    ensures { λ _. ⌜ Filled p t1 t2 (now (vs .entry)) (now (ss .entry)) (now (cs .entry)) (now (rs .exit)) (now (qs .exit)) (now (d1s .exit)) (now (d2s .exit)) ⌝ }
+    requires { ⌜ B.Room (now samples) (now sphi) (now cphi) (now js) ⌝ }
+    ensures { λ _. ⌜ B.Filled p t1 t2 (now (samples .entry)) (now (sphi .entry)) (now (cphi .entry)) (now (js .exit)) ⌝ }
 {
-    let n = vs.len();
+    let n = samples.len();
     for i in 0..n {
-        let t = sample_at(p, t1, t2, vs[i], ss[i], cs[i]);
-        rs[i] = t.r;
-        qs[i] = t.q;
-        d1s[i] = t.d1;
-        d2s[i] = t.d2;
+        let t = sample_at(p, t1, t2, samples[i], sphi[i], cphi[i]);
+        let k = 4 * i;
+        js[k] = t.r;
+        js[k + 1] = t.q;
+        js[k + 2] = t.d1;
+        js[k + 3] = t.d2;
     }
 }
 
-fn grown_row(m: [f32; 4], jk: f32, j: [f32; 4]) -> [f32; 4]
-    ensures { λ x. ⌜ x ≡ S.grownRow j jk m ⌝ }
+// One sample more. The normal matrix is symmetric, so each entry is summed once.
+fn packed(s: Sums, t: Sample) -> Sums
+    ensures { λ x. ⌜ x ≡ B.packed t s ⌝ }
 {
-    [
-        m[0] + jk * j[0],
-        m[1] + jk * j[1],
-        m[2] + jk * j[2],
-        m[3] + jk * j[3],
-    ]
-}
-
-fn grow(m: &mut [[f32; 4]; 4], j: [f32; 4])
-    ensures { λ _. ⌜ now (m .exit) ≡ S.grown j (now (m .entry)) ⌝ }
-{
-    for k in 0..4 {
-        let row = m[k];
-        let jk = j[k];
-        let next = grown_row(row, jk, j);
-        m[k] = next;
+    Sums {
+        r: s.r + 1.0 * t.r,
+        q: s.q + 1.0 * t.q,
+        d1: s.d1 + 1.0 * t.d1,
+        d2: s.d2 + 1.0 * t.d2,
+        rr: s.rr + t.r * t.r,
+        rq: s.rq + t.r * t.q,
+        rd1: s.rd1 + t.r * t.d1,
+        rd2: s.rd2 + t.r * t.d2,
+        qq: s.qq + t.q * t.q,
+        qd1: s.qd1 + t.q * t.d1,
+        qd2: s.qd2 + t.q * t.d2,
+        d1d1: s.d1d1 + t.d1 * t.d1,
+        d1d2: s.d1d2 + t.d1 * t.d2,
+        d2d2: s.d2d2 + t.d2 * t.d2,
+        n: s.n + 1.0 * 1.0,
     }
 }
 
-fn pushed(v: [f32; 4], j: [f32; 4], r: f32) -> [f32; 4]
-    ensures { λ x. ⌜ x ≡ S.pushed j r v ⌝ }
+fn no_sums() -> Sums
+    ensures { λ x. ⌜ x ≡ B.noSums ⌝ }
 {
-    [
-        v[0] + j[0] * r,
-        v[1] + j[1] * r,
-        v[2] + j[2] * r,
-        v[3] + j[3] * r,
-    ]
+    Sums {
+        r: 0.0,
+        q: 0.0,
+        d1: 0.0,
+        d2: 0.0,
+        rr: 0.0,
+        rq: 0.0,
+        rd1: 0.0,
+        rd2: 0.0,
+        qq: 0.0,
+        qd1: 0.0,
+        qd2: 0.0,
+        d1d1: 0.0,
+        d1d2: 0.0,
+        d2d2: 0.0,
+        n: 0.0,
+    }
 }
 
-// The normal matrix and the right-hand side of a pass, made anew, sample by sample in their order;
-// the result is the sum of squared residuals.
-fn add_up(
-    rs: &[f32],
-    qs: &[f32],
-    d1s: &[f32],
-    d2s: &[f32],
-    jtj: &mut [[f32; 4]; 4],
-    jtr: &mut [f32; 4],
-) -> f32
-    requires { ⌜ (length (now qs) ≡ length (now rs)) × (length (now d1s) ≡ length (now rs)) × (length (now d2s) ≡ length (now rs)) ⌝ }
-    ensures { λ r. ⌜ Summed (length (now (rs .entry))) (now (rs .entry)) (now (qs .entry)) (now (d1s .entry)) (now (d2s .entry)) (now (jtj .exit)) (now (jtr .exit)) r ⌝ }
+// The sums of all samples, in their order.
+fn add_up(js: &[f32], n: usize) -> Sums
+    requires { ⌜ (n ≤ 320) × (length (now js) ≡ 4 * n) ⌝ }
+    ensures { λ r. ⌜ B.spread r ≡ B.summed n (now (js .entry)) ⌝ }
 {
-    *jtj = [[0.0f32; 4]; 4];
-    *jtr = [0.0f32; 4];
-    let mut ssr = 0.0f32;
-    let n = rs.len();
+    let mut s = no_sums();
     for i in 0..n {
-        let r = rs[i];
-        let j = [1.0, qs[i], d1s[i], d2s[i]];
-        ssr += r * r;
-        let next = pushed(*jtr, j, r);
-        *jtr = next;
-        grow(jtj, j);
+        let k = 4 * i;
+        let t = Sample {
+            r: js[k],
+            q: js[k + 1],
+            d1: js[k + 2],
+            d2: js[k + 3],
+        };
+        s = packed(s, t);
     }
-    ssr
+    s
 }
 
 // One pass over the samples at the parameters p.
-fn pass(
-    vs: &[f32],
-    ss: &[f32],
-    cs: &[f32],
-    p: Params,
-    rs: &mut [f32],
-    qs: &mut [f32],
-    d1s: &mut [f32],
-    d2s: &mut [f32],
-    jtj: &mut [[f32; 4]; 4],
-    jtr: &mut [f32; 4],
-) -> f32
-    requires { ⌜ (length (now ss) ≡ length (now vs)) × (length (now cs) ≡ length (now vs)) × Room (now vs) (now rs) (now qs) (now d1s) (now d2s) ⌝ }
-    ensures { λ r. ⌜ _≡_ {A = S.Normal} (record { m = now (jtj .exit); v = now (jtr .exit); ssr = r }) (S.pass (length (now (vs .entry))) p (now (vs .entry)) (now (ss .entry)) (now (cs .entry))) ⌝ }
-    ensures { λ _. ⌜ Room (now (vs .entry)) (now (rs .exit)) (now (qs .exit)) (now (d1s .exit)) (now (d2s .exit)) ⌝ }
+fn pass(samples: &[f32], sphi: &[f32], cphi: &[f32], p: Params, js: &mut [f32]) -> Sums
+    requires { ⌜ B.Room (now samples) (now sphi) (now cphi) (now js) ⌝ }
+    ensures { λ r. ⌜ B.spread r ≡ S.pass (length (now (samples .entry))) p (now (samples .entry)) (now (sphi .entry)) (now (cphi .entry)) ⌝ }
 {
-    let t1 = elementary::sin_cos(p.theta1);
-    let t2 = elementary::sin_cos(p.theta2);
-    fill(vs, ss, cs, p, t1, t2, rs, qs, d1s, d2s);
-    add_up(rs, qs, d1s, d2s, jtj, jtr)
+    let t = elementary::sin_cos_two(p.theta1, p.theta2);
+    let t1 = SinCos { s: t.s1, c: t.c1 };
+    let t2 = SinCos { s: t.s2, c: t.c2 };
+    fill(samples, sphi, cphi, p, t1, t2, js);
+    add_up(js, samples.len())
+}
+
+// The normal matrix: a mirrored entry is the same sum, since a product commutes.
+fn matrix_of(s: Sums) -> [[f32; 4]; 4]
+    ensures { λ m. ⌜ m ≡ B.spread s .m ⌝ }
+{
+    [
+        [s.n, s.q, s.d1, s.d2],
+        [s.q, s.qq, s.qd1, s.qd2],
+        [s.d1, s.qd1, s.d1d1, s.d1d2],
+        [s.d2, s.qd2, s.d1d2, s.d2d2],
+    ]
+}
+
+fn right_of(s: Sums) -> [f32; 4]
+    ensures { λ v. ⌜ v ≡ B.spread s .v ⌝ }
+{
+    [s.r, s.rq, s.rd1, s.rd2]
 }
 
 fn cut(d: f32) -> f32
@@ -219,7 +289,7 @@ fn is_small(d1: f32, d2: f32, d3: f32) -> bool
 {
     if floats::abs(d2) < GN_TOL {
         if floats::abs(d3) < GN_TOL {
-            return floats::abs(d1) < GN_TOL;
+            return floats::abs(d1) < 1e-4;
         }
     }
     false
@@ -236,39 +306,40 @@ fn moved(p: Params, d0: f32, d1: f32, d2: f32, d3: f32) -> Params
     }
 }
 
-// Where the updates stopped: the parameters, the last pass's sum of squares, and the count.
+// Where the updates stopped: the parameters, the last pass's sums, and the count.
 struct Run {
     p: Params,
-    ssr: f32,
+    s: Sums,
     count: usize,
 }
 
 // Passes until six updates were made, the elimination fails or the steps are small. The last pass
-// belongs to the final parameters.
+// belongs to the final parameters, and leaves its matrix in `jtj`.
 fn run_updates(
-    vs: &[f32],
-    ss: &[f32],
-    cs: &[f32],
-    p0: Params,
-    rs: &mut [f32],
-    qs: &mut [f32],
-    d1s: &mut [f32],
-    d2s: &mut [f32],
+    samples: &[f32],
+    sphi: &[f32],
+    cphi: &[f32],
+    seed: Params,
+    js: &mut [f32],
     jtj: &mut [[f32; 4]; 4],
-    jtr: &mut [f32; 4],
 ) -> Run
-    requires { ⌜ (length (now ss) ≡ length (now vs)) × (length (now cs) ≡ length (now vs)) × Room (now vs) (now rs) (now qs) (now d1s) (now d2s) ⌝ }
-    ensures { λ r. ⌜ _≡_ {A = S.Final} (record { p = r .p; last = record { m = now (jtj .exit); v = now (jtr .exit); ssr = r .ssr }; updates = r .count }) (S.updates (length (now (vs .entry))) (now (vs .entry)) (now (ss .entry)) (now (cs .entry)) p0) ⌝ }
+    requires { ⌜ B.Room (now samples) (now sphi) (now cphi) (now js) ⌝ }
+    ensures { λ r. ⌜ B.Stopped (r .p) (now (jtj .exit)) (r .s .rr) (r .count)
+        (S.updates (length (now (samples .entry))) (now (samples .entry)) (now (sphi .entry)) (now (cphi .entry)) seed) ⌝ }
 {
-    let mut p = p0;
+    let mut p = seed;
     let mut count = 0usize;
-    let mut ssr = 0.0f32;
+    // Two calls, here and at the loop's end, keep `pass` a function of its own: put into the loop, its
+    // sums would be packed as the matrix is, at 47 instructions a sample and not 21.
+    let mut s = pass(samples, sphi, cphi, p, js);
     loop {
-        ssr = pass(vs, ss, cs, p, rs, qs, d1s, d2s, jtj, jtr);
+        let m = matrix_of(s);
+        *jtj = m;
+        let jtr = right_of(s);
         if count >= GN_MAX_ITERS {
             break;
         }
-        let Solved::Values(d0, d1, d2, d3) = solver_elimination::solve_4x4(jtj, jtr) else {
+        let Solved::Values(d0, d1, d2, d3) = solver_elimination::solve_4x4(jtj, &jtr) else {
             break;
         };
         let c2 = cut(d2);
@@ -278,12 +349,13 @@ fn run_updates(
         }
         p = moved(p, d0, d1, c2, c3);
         count += 1;
+        s = pass(samples, sphi, cphi, p, js);
     }
-    Run { p, ssr, count }
+    Run { p, s, count }
 }
 
-pub fn degenerate_fit(var: f32) -> TwoAxisFit
-    ensures { λ r. ⌜ r ≡ S.degenerateFit var ⌝ }
+pub fn degenerate_fit(centered_var: f32) -> TwoAxisFit
+    ensures { λ r. ⌜ r ≡ S.degenerateFit «centered_var» ⌝ }
 {
     TwoAxisFit {
         amp: 0.0,
@@ -291,18 +363,18 @@ pub fn degenerate_fit(var: f32) -> TwoAxisFit
         theta2: floats::HALF_PI,
         fit_std_error_theta1: floats::PI,
         fit_std_error_theta2: floats::PI,
-        rms: roots::sqrt(floats::max(var, 0.0)),
+        rms: roots::sqrt(floats::max(centered_var, 0.0)),
     }
 }
 
-fn is_degenerate(amp: f32, var: f32) -> bool
-    ensures { λ r. ⌜ r ≡ S.degenerate amp var ⌝ }
+pub fn is_degenerate(amp: f32, centered_var: f32) -> bool
+    ensures { λ r. ⌜ r ≡ S.degenerate amp «centered_var» ⌝ }
 {
     if floats::is_finite(amp) {
-        if floats::abs(amp) < 1e-4 {
+        if floats::abs(amp) < MIN_AMP_SEED {
             return true;
         }
-        return var < 1e-6;
+        return centered_var < MIN_CENTERED_VAR;
     }
     true
 }
@@ -341,60 +413,47 @@ fn finished(p: Params, jtj: &[[f32; 4]; 4], ssr: f32, n: usize) -> TwoAxisFit
     assembled(a, e, rms)
 }
 
-// The trigonometric functions of the angles depend on the ring alone, so they are worked out once.
-pub fn prepare(phis: &[f32], turned: &mut [f32], ss: &mut [f32], cs: &mut [f32])
-    requires { ⌜ (length (now turned) ≡ length (now phis)) × (length (now ss) ≡ length (now phis)) × (length (now cs) ≡ length (now phis)) ⌝ }
-    ensures { λ _. ⌜ Prepared (now (phis .entry)) (now (ss .exit)) (now (cs .exit)) ⌝ }
-{
-    turn_all(phis, turned);
-    sin_cos_all(turned, ss, cs);
-}
-
-// The start that is not degenerate.
-fn fit_started(
-    vs: &[f32],
-    phis: &[f32],
-    p: Params,
-    ss: &mut [f32],
-    cs: &mut [f32],
-    rs: &mut [f32],
-    qs: &mut [f32],
-    d1s: &mut [f32],
-    d2s: &mut [f32],
+// A start that is not degenerate, once the sines and cosines are there. `js` is lent: four places a
+// sample, and of no meaning afterwards.
+pub fn fit_prepared(
+    samples: &[f32],
+    seed: Params,
+    sphi: &[f32],
+    cphi: &[f32],
+    js: &mut [f32],
 ) -> Started
-    requires { ⌜ Sized (now vs) (now phis) (now ss) (now cs) (now rs) (now qs) (now d1s) (now d2s) ⌝ }
-    ensures { λ r. ⌜ r ≡ S.whole (length (now (vs .entry))) (S.updates (length (now (vs .entry))) (now (vs .entry)) (S.sines (length (now (vs .entry))) (now (phis .entry))) (S.cosines (length (now (vs .entry))) (now (phis .entry))) p) ⌝ }
+    requires { ⌜ B.Room (now samples) (now sphi) (now cphi) (now js) ⌝ }
+    ensures { λ r. ⌜ r ≡ S.whole (length (now (samples .entry)))
+        (S.updates (length (now (samples .entry))) (now (samples .entry)) (now (sphi .entry)) (now (cphi .entry)) seed) ⌝ }
 {
     let mut jtj = [[0.0f32; 4]; 4];
-    let mut jtr = [0.0f32; 4];
-    prepare(phis, rs, ss, cs);
-    let run = run_updates(vs, ss, cs, p, rs, qs, d1s, d2s, &mut jtj, &mut jtr);
-    let fit = finished(run.p, &jtj, run.ssr, vs.len());
+    let run = run_updates(samples, sphi, cphi, seed, js, &mut jtj);
+    let s = run.s;
+    let fit = finished(run.p, &jtj, s.rr, samples.len());
     Started {
         fit,
         updates: run.count,
     }
 }
 
-// The buffers are lent: as long as the samples, and of no meaning afterwards.
+// The buffers are lent: as long as the samples, `js` four times that, and of no meaning afterwards.
 pub fn fit_with_seed(
-    vs: &[f32],
-    phis: &[f32],
-    p: Params,
-    var: f32,
-    ss: &mut [f32],
-    cs: &mut [f32],
-    rs: &mut [f32],
-    qs: &mut [f32],
-    d1s: &mut [f32],
-    d2s: &mut [f32],
+    samples: &[f32],
+    ring_phi: &[f32],
+    seed: Params,
+    centered_var: f32,
+    sphi: &mut [f32],
+    cphi: &mut [f32],
+    js: &mut [f32],
 ) -> Started
-    requires { ⌜ Sized (now vs) (now phis) (now ss) (now cs) (now rs) (now qs) (now d1s) (now d2s) ⌝ }
-    ensures { λ r. ⌜ r ≡ S.fitWithSeed (length (now (vs .entry))) (now (vs .entry)) (now (phis .entry)) p var ⌝ }
+    requires { ⌜ (length (now «ring_phi») ≡ length (now samples)) × B.Room (now samples) (now sphi) (now cphi) (now js) ⌝ }
+    ensures { λ r. ⌜ r ≡ S.fitWithSeed (length (now (samples .entry))) (now (samples .entry)) (now («ring_phi» .entry)) seed «centered_var» ⌝ }
 {
-    if is_degenerate(p.amp, var) {
-        let fit = degenerate_fit(var);
+    if is_degenerate(seed.amp, centered_var) {
+        let fit = degenerate_fit(centered_var);
         return Started { fit, updates: 0 };
     }
-    fit_started(vs, phis, p, ss, cs, rs, qs, d1s, d2s)
+    let n = ring_phi.len();
+    prepare(ring_phi, &mut js[0..n], sphi, cphi);
+    fit_prepared(samples, seed, sphi, cphi, js)
 }

@@ -1,6 +1,6 @@
 -- Elimination of a 4 by 4 system, and the standard errors that two eliminations give: ring_fit/solver.rs. Definitions only.
 -- A matrix is the list of its rows.
-use mathlib.Core.Bool.{Bool, true, false, cond, not, _||_}
+use mathlib.Core.Bool.{Bool, cond, not, _||_}
 use mathlib.Core.List.{List, [], _∷_}
 use Prim.Native.Nat.{ℕ, _+_, _-_}
 use lib.IntN.{pos}

@@ -1,21 +1,22 @@
--- A column with a usable pivot is one turn more, and one without ends the elimination whatever follows; errors lie from 0 to PI for every matrix. Assumes nothing.
-use mathlib.Core.Path.{_≡_, refl, sym, ap, _∙_}
+-- A column with a usable pivot is one turn more, and one without ends the elimination whatever follows.
+-- Errors lie from 0 to PI for every matrix. Assumes nothing.
+use mathlib.Core.Path.{_≡_, refl}
 use mathlib.Core.Bool.{Bool, true, false, cond}
-use mathlib.Core.List.{List, [], _∷_}
 use Prim.Native.Nat.{ℕ, _+_, _-_, _<_}
 use native.Mathlib.Omega.{arith}
 use lib.Dec.{T, leb}
 use lib.IntN.{pos}
 use lib.Ieee.{Float, binary32, le, ofInt}
 use Rattle.floats.specs.Ops.{_⊗_, _⊘_, nought, pi}
-use Rattle.floats.specs.Library.{max, min, sqrt}
+use Rattle.floats.specs.Library.{max}
 use Rattle.floats.specs.RootRangeLaws.{capped-root, pi-between}
 use Rattle.loops.specs.Loops.{iter}
 use Rattle.loops.specs.IterLaws.{iter-next, iter-stuck}
 use Rattle.solver_elimination.specs.declared.Solved.{Solved}
 use Rattle.solver_elimination.specs.declared.Solved.the-variants.{Values, Failed}
 use Rattle.solver_elimination.specs.declared.Errors.{Errors}
-use Rattle.solver_elimination.specs.Solve.{Matrix, Row, Elim, gone, going, column, stopped, columned, augmented, solve4x4, axisError, bothErrors, axisStdErrors, unit2, unit3}
+use Rattle.solver_elimination.specs.Solve.{Matrix, Row, Elim, gone, going, column, stopped, columned, augmented, solve4x4}
+use Rattle.solver_elimination.specs.Solve.{axisError, unknown, bothErrors, axisStdErrors, unit2, unit3}
 
 pub goes-on : (s : Elim) (i : ℕ) (m : Matrix) → going m ≡ iter column s i → stopped m i ≡ false → going (columned m i) ≡ iter column s (i + 1)
 goes-on s i m e t = rw (iter-next, ← e, t)
@@ -48,6 +49,9 @@ pub errors-bounded : (m : Matrix) (ssr : Float) (n : ℕ) → Bounded (axisStdEr
 unfolding axisStdErrors
 errors-bounded m ssr n = go (leb n 4)
   where
-    go : (b : Bool) → Bounded (cond b (record { error1 = pi; error2 = pi }) (bothErrors (ssr ⊘ ofInt binary32 (pos (n - 4))) (solve4x4 m unit2) (solve4x4 m unit3)))
+    both : Errors
+    both = bothErrors (ssr ⊘ ofInt binary32 (pos (n - 4))) (solve4x4 m unit2) (solve4x4 m unit3)
+
+    go : (b : Bool) → Bounded (cond b unknown both)
     go true = let p = pi-between in record { low1 = p .0; high1 = p .1; low2 = p .0; high2 = p .1 }
     go false = both-bounded (ssr ⊘ ofInt binary32 (pos (n - 4))) (solve4x4 m unit2) (solve4x4 m unit3)

@@ -1,11 +1,9 @@
 // Elimination of a 4 by 4 system, and the standard errors that two eliminations give:
 // ring_fit/solver.rs, solve_4x4 and axis_std_errors.
 ghost use mathlib.Core.Path.{_≡_};
-ghost use mathlib.Core.Bool.{true, false};
+ghost use mathlib.Core.Bool.{false};
 ghost use Prim.Native.Nat.{_≤_, _<_};
-ghost use lib.ListN.{length};
 ghost use Rattle.solver_elimination.specs.Solve as S;
-ghost use Rattle.solver_elimination.specs.SolveLaws.{Bounded};
 
 // The four values of a solution, or that the elimination failed.
 pub enum Solved {
@@ -89,15 +87,14 @@ fn reduced(r: [f32; 5], p: [f32; 5], f: f32) -> [f32; 5]
     ]
 }
 
-// Row k after column i was cleared by the pivot row p, which stays.
-fn cleared(row: [f32; 5], p: [f32; 5], i: usize, k: usize) -> [f32; 5]
-    requires { ⌜ i < 4 ⌝ }
+// Row k after column i was cleared by the pivot row p, which stays; f is the row's entry there.
+fn cleared(row: [f32; 5], p: [f32; 5], f: f32, i: usize, k: usize) -> [f32; 5]
+    requires { ⌜ f ≡ S.at row i ⌝ }
     ensures { λ r. ⌜ r ≡ S.cleared i p k row ⌝ }
 {
     if k == i {
         return row;
     }
-    let f = row[i];
     reduced(row, p, f)
 }
 
@@ -106,8 +103,9 @@ fn clear(m: &mut [[f32; 5]; 4], i: usize, p: [f32; 5])
     ensures { λ _. ⌜ now (m .exit) ≡ S.clear (now (m .entry)) i p ⌝ }
 {
     for k in 0..4 {
+        let f = m[k][i];
         let row = m[k];
-        let next = cleared(row, p, i, k);
+        let next = cleared(row, p, f, i, k);
         m[k] = next;
     }
 }
@@ -119,11 +117,11 @@ fn column_stops(m: &mut [[f32; 5]; 4], i: usize) -> bool
     ensures { λ r. ⌜ (r ≡ S.stopped (now (m .entry)) i) × (r ≡ false → now (m .exit) ≡ S.columned (now (m .entry)) i) ⌝ }
 {
     let p = pivot_row(m, i);
+    let pivot = m[p][i];
     let old = m[i];
     let top = m[p];
     m[i] = top;
     m[p] = old;
-    let pivot = top[i];
     if is_unusable(pivot) {
         return true;
     }

@@ -16,7 +16,11 @@ returns c =
 
 returns-2 : tie.Need-returns-2
 unfolding C.diskFitted C.diskMeasured
-returns-2 c = let m = missing-trials _ _ _ _ (sym (c .before .before .before .best-disk-fit .ensures) ∙ c .before .found2 .given .1) in rw (← c .before .before .before .best-disk-fit .ensures, c .before .found2 .given .1) (refused-place _ m)
+returns-2 c =
+    let at-best-disk-fit = c .before .before .before .best-disk-fit in
+    let at-found2 = c .before .found2 in
+    let m = missing-trials _ _ _ _ (sym (at-best-disk-fit .ensures) ∙ at-found2 .given .1) in
+    rw (← at-best-disk-fit .ensures, at-found2 .given .1) (refused-place _ m)
 
 pub disk-fitted-spec : {M : Type 1} → statement M
 disk-fitted-spec =

@@ -1,10 +1,8 @@
+-- The two tests. Assumes nothing.
 use Rattle.checked.specs.Checked as C
 use mathlib.Core.Logic.{⊎-elim}
-use borrow.Author.Needs.{needs}
 use Rattle.checked.proofs.errors_known.Statement.{statement}
 use Rattle.checked.proofs.errors_known.Tie as tie
-use Rattle.checked.proofs.errors_known.Reads as reads
-use Rattle.checked.proofs.errors_known.Lts as lts
 
 returns : tie.Need-returns
 unfolding C.errorsKnown
@@ -15,4 +13,7 @@ unfolding C.errorsKnown
 returns-2 c = ⊎-elim (λ w. rw (w .0 .taken, w .1 .left)) (λ w. rw (w .left)) (c .if1 .came)
 
 pub errors-known-spec : {M : Type 1} → statement M
-errors-known-spec = tie.close (tie.spec returns returns-2)
+errors-known-spec =
+    tie.close
+    (tie.spec
+    returns returns-2)

@@ -22,19 +22,57 @@ returns-2 c = rw (ne-eqb _ _ (c .before .if1 .left), lt-ltb _ _ (c .if2 .taken))
 
 returns-3 : tie.Need-returns-3
 unfolding C.checkedDisk C.sameLengths
-returns-3 c = rw (ne-eqb _ _ (c .before .before .before .before .before .before .if1 .left), le-ltb _ _ (c .before .before .before .before .before .if2 .left), xs-same _, eq-eqb _ _ (c .before .before .before .before .if3 .taken), eq-eqb _ _ (c .before .before .before .if4 .taken), eq-eqb _ _ (c .before .before .if5 .taken), eq-eqb _ _ (c .before .if6 .taken)) (c .disk-looked .ensures)
+returns-3 c =
+    let at-if1 = c .before .before .before .before .before .before .if1 in
+    let at-if2 = c .before .before .before .before .before .if2 in
+    let at-if3 = c .before .before .before .before .if3 in
+    let at-if4 = c .before .before .before .if4 in
+    let at-if5 = c .before .before .if5 in
+    let at-if6 = c .before .if6 in
+    rw (
+      ne-eqb _ _ (at-if1 .left),
+      le-ltb _ _ (at-if2 .left),
+      xs-same _,
+      eq-eqb _ _ (at-if3 .taken),
+      eq-eqb _ _ (at-if4 .taken),
+      eq-eqb _ _ (at-if5 .taken),
+      eq-eqb _ _ (at-if6 .taken),
+    ) (c .disk-looked .ensures)
 
 returns-4 : tie.Need-returns-4
 unfolding C.checkedDisk C.sameLengths
-returns-4 c = rw (ne-eqb _ _ (c .before .before .before .before .before .if1 .left), le-ltb _ _ (c .before .before .before .before .if2 .left), xs-same _, eq-eqb _ _ (c .before .before .before .if3 .taken), eq-eqb _ _ (c .before .before .if4 .taken), eq-eqb _ _ (c .before .if5 .taken), ne-eqb _ _ (c .if6 .left))
+returns-4 c =
+    let at-if1 = c .before .before .before .before .before .if1 in
+    let at-if2 = c .before .before .before .before .if2 in
+    let at-if3 = c .before .before .before .if3 in
+    let at-if4 = c .before .before .if4 in
+    let at-if5 = c .before .if5 in
+    rw (
+      ne-eqb _ _ (at-if1 .left),
+      le-ltb _ _ (at-if2 .left),
+      xs-same _,
+      eq-eqb _ _ (at-if3 .taken),
+      eq-eqb _ _ (at-if4 .taken),
+      eq-eqb _ _ (at-if5 .taken),
+      ne-eqb _ _ (c .if6 .left),
+    )
 
 returns-5 : tie.Need-returns-5
 unfolding C.checkedDisk C.sameLengths
-returns-5 c = rw (ne-eqb _ _ (c .before .before .before .before .if1 .left), le-ltb _ _ (c .before .before .before .if2 .left), xs-same _, eq-eqb _ _ (c .before .before .if3 .taken), eq-eqb _ _ (c .before .if4 .taken), ne-eqb _ _ (c .if5 .left))
+returns-5 c =
+    let at-if1 = c .before .before .before .before .if1 in
+    let at-if2 = c .before .before .before .if2 in
+    let at-if3 = c .before .before .if3 in
+    let at-if4 = c .before .if4 in
+    rw (ne-eqb _ _ (at-if1 .left), le-ltb _ _ (at-if2 .left), xs-same _, eq-eqb _ _ (at-if3 .taken), eq-eqb _ _ (at-if4 .taken), ne-eqb _ _ (c .if5 .left))
 
 returns-6 : tie.Need-returns-6
 unfolding C.checkedDisk C.sameLengths
-returns-6 c = rw (ne-eqb _ _ (c .before .before .before .if1 .left), le-ltb _ _ (c .before .before .if2 .left), xs-same _, eq-eqb _ _ (c .before .if3 .taken), ne-eqb _ _ (c .if4 .left))
+returns-6 c =
+    let at-if1 = c .before .before .before .if1 in
+    let at-if2 = c .before .before .if2 in
+    let at-if3 = c .before .if3 in
+    rw (ne-eqb _ _ (at-if1 .left), le-ltb _ _ (at-if2 .left), xs-same _, eq-eqb _ _ (at-if3 .taken), ne-eqb _ _ (c .if4 .left))
 
 returns-7 : tie.Need-returns-7
 unfolding C.checkedDisk C.sameLengths

@@ -1,21 +1,12 @@
+-- The fit, and then whether its errors are known. Assumes nothing.
 use Rattle.checked.specs.Checked as C
 use borrow.Author.Needs.{needs}
 use Rattle.checked.proofs.ring_fitted.Statement.{statement}
 use Rattle.checked.proofs.ring_fitted.Tie as tie
-use Rattle.checked.proofs.ring_fitted.Reads as reads
-use Rattle.checked.proofs.ring_fitted.Lts as lts
-use Rattle.checked.proofs.errors_known.Reads as errors-known-reads
-use Rattle.checked.proofs.fit_16.Reads as fit-16-reads
-
-fit-16-requires : tie.Need-fit-16-requires
-fit-16-requires c κs = search needs
-
-errors-known-requires : tie.Need-errors-known-requires
-errors-known-requires c κs = search needs
 
 returns : tie.Need-returns
 unfolding C.ringFitted
-returns c = rw (c .errors-known .ensures, c .before .before .fit-16 .ensures)
+returns c = rw (c .errors-known .ensures, c .before .before .fit-ring .ensures)
 
 pub ring-fitted-spec : {M : Type 1} → statement M
-ring-fitted-spec = tie.close (tie.spec fit-16-requires errors-known-requires returns)
+ring-fitted-spec = tie.close (tie.spec (λ c κs. search needs) (λ c κs. search needs) returns)

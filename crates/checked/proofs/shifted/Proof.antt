@@ -1,17 +1,10 @@
+-- A place below 320 behind one of at most 4096 fits its 16 bits. Assumes nothing.
 use mathlib.Core.Path.{subst}
 use native.Mathlib.Omega.{arith}
-use Rattle.checked.specs.CheckedLaws.{Below}
+use Rattle.checked.specs.Parts.{Below}
 use borrow.Author.Needs.{needs}
 use Rattle.checked.proofs.shifted.Statement.{statement}
 use Rattle.checked.proofs.shifted.Tie as tie
-use Rattle.checked.proofs.shifted.Reads as reads
-use Rattle.checked.proofs.shifted.Lts as lts
-
-enum-known-w : tie.Need-enum-known-w
-enum-known-w c = search needs
-
-enum-told : tie.Need-enum-told
-enum-told c = search needs
 
 returns : tie.Need-returns
 returns c = rw (c .enum-told .given .1)
@@ -23,4 +16,7 @@ returns-2 : tie.Need-returns-2
 returns-2 c = rw (c .before .w .given .1)
 
 pub shifted-spec : {M : Type 1} → statement M
-shifted-spec = tie.close (tie.spec enum-known-w enum-told returns add-t5 returns-2)
+shifted-spec =
+    tie.close
+    (tie.spec
+    (λ c. search needs) (λ c. search needs) returns add-t5 returns-2)

@@ -11,10 +11,10 @@ use Rattle.robust.proofs.center.Statement.{statement}
 use Rattle.robust.proofs.center.Tie as tie
 
 abbrev Inv-loop : tie.InvT-loop
-Inv-loop vs mean centered₀ n i₀ centered i = (i ≤ n) × Stores (λ k. getD vs k nan ⊖ mean) centered₀ centered i
+Inv-loop samples mean centered₀ n i₀ centered i = (i ≤ n) × Stores (λ k. getD samples k nan ⊖ mean) centered₀ centered i
 
 abbrev μ-loop : tie.MeasureT-loop
-μ-loop vs mean centered₀ n i₀ centered i = n - i
+μ-loop samples mean centered₀ n i₀ centered i = n - i
 
 loop-holds : tie.Need-loop-holds Inv-loop μ-loop
 loop-holds c = (search needs, stores-none _ _)
@@ -23,7 +23,10 @@ loop-again : tie.Need-loop-again Inv-loop μ-loop
 loop-again c = (search needs, stores-next _ _ _ _ _ (c .before .before .loop .inv .1) refl)
 
 returns : tie.Need-returns Inv-loop μ-loop
-returns c = stores-all _ _ _ nan _ (let h : c .before .loop .i ≡ length (c .before .before .args .vs .now) = omega arith in rw h at (c .before .loop .inv .1)) (omega arith)
+returns c =
+    let at-loop = c .before .loop in
+    let at-args = c .before .before .args in
+    stores-all _ _ _ nan _ (let h : at-loop .i ≡ length (at-args .samples .now) = omega arith in rw h at (at-loop .inv .1)) (omega arith)
 
 pub center-spec : {M : Type 1} → statement M
 center-spec =

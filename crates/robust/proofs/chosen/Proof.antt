@@ -1,16 +1,16 @@
--- No second start, or two. Assumes nothing.
-use Rattle.robust.specs.Robust as R
+-- Without a second start the first is answered, with one the lower. Assumes nothing.
+use Rattle.robust.specs.RobustLaws.{chosen-alone, chosen-two}
 use borrow.Author.Needs.{needs}
 use Rattle.robust.proofs.chosen.Statement.{statement}
 use Rattle.robust.proofs.chosen.Tie as tie
 
 returns : tie.Need-returns
-unfolding R.chosen
-returns c = rw (c .before .enum-told .given .1) (c .single .ensures)
+returns c = chosen-alone _ _ _ (c .before .enum-told .given .1) (c .alone .ensures)
 
 returns-2 : tie.Need-returns-2
-unfolding R.chosen
-returns-2 c = rw (c .before .before .s .given .1, c .lower .ensures)
+returns-2 c =
+    let c4 = c .before .before .before .before in
+    chosen-two _ _ _ _ (c4 .s .given .1) (c .lower .ensures)
 
 pub chosen-spec : {M : Type 1} → statement M
 chosen-spec =

@@ -10,10 +10,10 @@ use Rattle.robust.proofs.deviations.Statement.{statement}
 use Rattle.robust.proofs.deviations.Tie as tie
 
 abbrev Inv-loop : tie.InvT-loop
-Inv-loop vs mean n s₀ i₀ s i = (i ≤ n) × (s ≡ R.deviations i vs mean)
+Inv-loop samples mean n s₀ i₀ s i = (i ≤ n) × (s ≡ R.deviations i samples mean)
 
 abbrev μ-loop : tie.MeasureT-loop
-μ-loop vs mean n s₀ i₀ s i = n - i
+μ-loop samples mean n s₀ i₀ s i = n - i
 
 loop-holds : tie.Need-loop-holds Inv-loop μ-loop
 unfolding R.deviations
@@ -24,7 +24,7 @@ unfolding R.deviations
 loop-again c = (search needs, rw (iter-next, ← c .before .before .before .loop .inv .1))
 
 returns : tie.Need-returns Inv-loop μ-loop
-returns c = let h : c .before .loop .i ≡ length (c .before .before .args .vs .now) = omega arith in rw h at (c .before .loop .inv .1)
+returns c = let h : c .before .loop .i ≡ length (c .before .before .args .samples .now) = omega arith in rw h at (c .before .loop .inv .1)
 
 pub deviations-spec : {M : Type 1} → statement M
 deviations-spec =

@@ -6,11 +6,22 @@ use Rattle.robust.proofs.fit_is_suspicious.Tie as tie
 
 returns : tie.Need-returns
 unfolding R.fitIsSuspicious
-returns c = rw (← c .before .before .before .before .before .is-finite .ensures, c .before .before .before .before .if1 .taken, ← c .before .before .before .is-finite2 .ensures, c .before .before .if2 .taken, c .if3 .taken)
+returns c =
+    let at-is-finite = c .before .before .before .before .before .is-finite in
+    let at-if1 = c .before .before .before .before .if1 in
+    let at-is-finite2 = c .before .before .before .is-finite2 in
+    let at-if2 = c .before .before .if2 in
+    rw (← at-is-finite .ensures, at-if1 .taken, ← at-is-finite2 .ensures, at-if2 .taken, c .if3 .taken)
 
 returns-2 : tie.Need-returns-2
 unfolding R.fitIsSuspicious
-returns-2 c = rw (← c .before .before .before .before .before .before .is-finite .ensures, c .before .before .before .before .before .if1 .taken, ← c .before .before .before .before .is-finite2 .ensures, c .before .before .before .if2 .taken, c .before .if3 .left) (c .is-triggered .ensures)
+returns-2 c =
+    let at-is-finite = c .before .before .before .before .before .before .is-finite in
+    let at-if1 = c .before .before .before .before .before .if1 in
+    let at-is-finite2 = c .before .before .before .before .is-finite2 in
+    let at-if2 = c .before .before .before .if2 in
+    let at-if3 = c .before .if3 in
+    rw (← at-is-finite .ensures, at-if1 .taken, ← at-is-finite2 .ensures, at-if2 .taken, at-if3 .left) (c .is-triggered .ensures)
 
 returns-3 : tie.Need-returns-3
 unfolding R.fitIsSuspicious

@@ -10,7 +10,11 @@ returns c = rw (← c .before .before .line-separation .ensures .0, ← c .befor
 
 returns-2 : tie.Need-returns-2
 unfolding R.triggered
-returns-2 c = rw (← c .before .before .before .line-separation .ensures .0, ← c .before .before .is-outside .ensures, c .before .if1 .left, ← c .relative-rms .ensures)
+returns-2 c =
+    let at-line-separation = c .before .before .before .line-separation in
+    let at-is-outside = c .before .before .is-outside in
+    let at-if1 = c .before .if1 in
+    rw (← at-line-separation .ensures .0, ← at-is-outside .ensures, at-if1 .left, ← c .relative-rms .ensures)
 
 pub is-triggered-spec : {M : Type 1} → statement M
 is-triggered-spec =

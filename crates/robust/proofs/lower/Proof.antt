@@ -1,14 +1,11 @@
--- The test is the definition's. Assumes nothing.
-use Rattle.robust.specs.Robust as R
+-- The test of the two residuals. Assumes nothing.
 use Rattle.robust.proofs.lower.Statement.{statement}
 use Rattle.robust.proofs.lower.Tie as tie
 
 returns : tie.Need-returns
-unfolding R.lower
 returns c = rw (c .if1 .taken)
 
 returns-2 : tie.Need-returns-2
-unfolding R.lower
 returns-2 c = rw (c .if1 .left)
 
 pub lower-spec : {M : Type 1} → statement M

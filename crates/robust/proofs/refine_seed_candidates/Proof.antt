@@ -1,20 +1,17 @@
--- No seed, or the fit from it. Assumes nothing.
-use Rattle.robust.specs.Robust as R
+-- The sines and cosines are prepared, and then the start is made. Assumes nothing.
 use borrow.Author.Needs.{needs}
 use Rattle.robust.proofs.refine_seed_candidates.Statement.{statement}
 use Rattle.robust.proofs.refine_seed_candidates.Tie as tie
 
-returns : tie.Need-returns
-unfolding R.refineSeedCandidates
-returns c = rw (c .enum-told .given .1)
-
-returns-2 : tie.Need-returns-2
-unfolding R.refineSeedCandidates
-returns-2 c = rw (c .before .before .before .before .before .before .before .before .before .before .before .before .before .before .before .before .before .before .before .before .top .given .1, c .before .before .before .before .before .before .before .before .before .before .before .before .fit-with-seed .ensures)
+refined-requires : tie.Need-refined-requires
+refined-requires c κs =
+    let c9 = c .before .before .before .before .before .before .before .before .before in
+    let c18 = c9 .before .before .before .before .before .before .before .before .before in
+    record { few = c18 .pre .few; phi = c18 .pre .phi; sines = c9 .prepare .ensures; j = search needs }
 
 pub refine-seed-candidates-spec : {M : Type 1} → statement M
 refine-seed-candidates-spec =
     tie.close
     (tie.spec
-    (λ c. search needs) (λ c. search needs) returns (λ c κs. search needs) (λ c. search needs) (λ c. search needs)
-    (λ c. search needs) (λ c. search needs) (λ c. search needs) (λ c. search needs) returns-2)
+    (λ c. search needs) (λ c. search needs) (λ c. search needs) (λ c κs. search needs) refined-requires
+    (λ c. search needs) (λ c. search needs) (λ c. search needs) (λ c. search needs))

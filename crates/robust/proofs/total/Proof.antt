@@ -10,10 +10,10 @@ use Rattle.robust.proofs.total.Statement.{statement}
 use Rattle.robust.proofs.total.Tie as tie
 
 abbrev Inv-loop : tie.InvT-loop
-Inv-loop vs n s₀ i₀ s i = (i ≤ n) × (s ≡ R.total i vs)
+Inv-loop samples n s₀ i₀ s i = (i ≤ n) × (s ≡ R.total i samples)
 
 abbrev μ-loop : tie.MeasureT-loop
-μ-loop vs n s₀ i₀ s i = n - i
+μ-loop samples n s₀ i₀ s i = n - i
 
 loop-holds : tie.Need-loop-holds Inv-loop μ-loop
 unfolding R.total
@@ -24,7 +24,7 @@ unfolding R.total
 loop-again c = (search needs, rw (iter-next, ← c .before .before .loop .inv .1))
 
 returns : tie.Need-returns Inv-loop μ-loop
-returns c = let h : c .before .loop .i ≡ length (c .before .before .args .vs .now) = omega arith in rw h at (c .before .loop .inv .1)
+returns c = let h : c .before .loop .i ≡ length (c .before .before .args .samples .now) = omega arith in rw h at (c .before .loop .inv .1)
 
 pub total-spec : {M : Type 1} → statement M
 total-spec =

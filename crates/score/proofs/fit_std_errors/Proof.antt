@@ -15,7 +15,7 @@ returns c =
       ← c4 .normal .ensures,
       ← c3 .residual .ensures,
       ← c .before .before .narrow .ensures,
-    ) (c .errors-of .ensures)
+    ) (c .axis-std-errors .ensures)
 
 pub fit-std-errors-spec : {M : Type 1} → statement M
 fit-std-errors-spec =

@@ -6,11 +6,23 @@ use Rattle.seed.proofs.kept.Tie as tie
 
 returns : tie.Need-returns
 unfolding S.kept
-returns c = rw (← c .before .before .before .before .before .is-finite .ensures, c .before .before .before .before .if1 .taken, ← c .before .before .before .is-finite2 .ensures, c .before .before .if2 .taken, ← c .before .is-finite3 .ensures, c .if3 .taken)
+returns c =
+    let at-is-finite = c .before .before .before .before .before .is-finite in
+    let at-if1 = c .before .before .before .before .if1 in
+    let at-is-finite2 = c .before .before .before .is-finite2 in
+    let at-if2 = c .before .before .if2 in
+    let at-is-finite3 = c .before .is-finite3 in
+    rw (← at-is-finite .ensures, at-if1 .taken, ← at-is-finite2 .ensures, at-if2 .taken, ← at-is-finite3 .ensures, c .if3 .taken)
 
 returns-2 : tie.Need-returns-2
 unfolding S.kept
-returns-2 c = rw (← c .before .before .before .before .before .is-finite .ensures, c .before .before .before .before .if1 .taken, ← c .before .before .before .is-finite2 .ensures, c .before .before .if2 .taken, ← c .before .is-finite3 .ensures, c .if3 .left)
+returns-2 c =
+    let at-is-finite = c .before .before .before .before .before .is-finite in
+    let at-if1 = c .before .before .before .before .if1 in
+    let at-is-finite2 = c .before .before .before .is-finite2 in
+    let at-if2 = c .before .before .if2 in
+    let at-is-finite3 = c .before .is-finite3 in
+    rw (← at-is-finite .ensures, at-if1 .taken, ← at-is-finite2 .ensures, at-if2 .taken, ← at-is-finite3 .ensures, c .if3 .left)
 
 returns-3 : tie.Need-returns-3
 unfolding S.kept

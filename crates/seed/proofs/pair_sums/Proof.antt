@@ -1,9 +1,9 @@
 -- The loop keeps the sums so far. Assumes nothing.
-use mathlib.Core.Path.{_≡_}
+use mathlib.Core.Path.{_≡_, refl}
 use Prim.Native.Nat.{_≤_, _-_}
 use native.Mathlib.Omega.{arith}
 use lib.ListN.{length}
-use Rattle.loops.specs.IterLaws.{iter-zero, iter-next}
+use Rattle.loops.specs.IterLaws.{iter-zero, iter-more}
 use Rattle.seed.specs.Seed as S
 use borrow.Author.Needs.{needs}
 use Rattle.seed.proofs.pair_sums.Statement.{statement}
@@ -20,8 +20,10 @@ unfolding S.pairSums
 loop-holds c = (search needs, rw iter-zero)
 
 loop-again : tie.Need-loop-again Inv-loop μ-loop
-unfolding S.pairSums S.summed
-loop-again c = (search needs, rw iter-next (cc))
+unfolding S.pairSums S.summedBy
+loop-again c =
+    let c7 = c .before .before .before .before .before .before .before in
+    (search needs, iter-more _ _ _ _ _ (c7 .loop .inv .1) refl)
 
 returns : tie.Need-returns Inv-loop μ-loop
 returns c = let h : c .before .loop .i ≡ length (c .before .before .args .centered .now) = omega arith in rw h at (c .before .loop .inv .1)

@@ -6,7 +6,7 @@ use Rattle.seed.proofs.score_seed_pair.Tie as tie
 
 returns : tie.Need-returns
 unfolding S.scoreSeedPair
-returns c = rw (← c .before .before .pair-sums .ensures, ← c .before .count-f32 .ensures) (c .scored .ensures)
+returns c = rw (← c .before .before .pair-sums .ensures, ← c .before .count-f32 .ensures) (c .score-sums .ensures)
 
 pub score-seed-pair-spec : {M : Type 1} → statement M
 score-seed-pair-spec =

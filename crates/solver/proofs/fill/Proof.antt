@@ -1,30 +1,46 @@
--- Four lists of stores, all made of one call. Assumes nothing.
-use mathlib.Core.Path.{_≡_, ap}
-use Prim.Native.Nat.{_≤_, _-_}
+-- Four stores a turn put the sample into its places. Assumes nothing.
+use mathlib.Core.Path.{_≡_}
+use Prim.Native.Nat.{ℕ, _+_, _*_, _≤_, _<_, _-_}
 use native.Mathlib.Omega.{arith}
-use lib.ListN.{length, getD}
+use lib.ListN.{length, getD, length-set}
 use lib.Ieee.{nan}
-use Rattle.loops.specs.TabLaws.{Stores, stores-none, stores-next, stores-all}
-use Rattle.solver.specs.Solver as S
-use Rattle.solver.specs.declared.Sample.{Sample}
+use Rattle.solver.specs.Solver.{sampleAt}
+use Rattle.solver.specs.Buffers.{sampleFrom}
+use Rattle.solver.specs.SolverLaws.{filled-next}
 use borrow.Author.Needs.{needs}
 use Rattle.solver.proofs.fill.Statement.{statement}
 use Rattle.solver.proofs.fill.Tie as tie
 
 abbrev Inv-loop : tie.InvT-loop
-Inv-loop vs ss cs p t1 t2 rs₀ qs₀ d1s₀ d2s₀ n i₀ rs qs d1s d2s i = (i ≤ n) × Stores (λ k. S.sampleAt p t1 t2 (getD vs k nan) (getD ss k nan) (getD cs k nan) .r) rs₀ rs i × Stores (λ k. S.sampleAt p t1 t2 (getD vs k nan) (getD ss k nan) (getD cs k nan) .q) qs₀ qs i × Stores (λ k. S.sampleAt p t1 t2 (getD vs k nan) (getD ss k nan) (getD cs k nan) .d1) d1s₀ d1s i × Stores (λ k. S.sampleAt p t1 t2 (getD vs k nan) (getD ss k nan) (getD cs k nan) .d2) d2s₀ d2s i
+Inv-loop samples sphi cphi p t1 t2 js₀ n i₀ js i =
+    (i ≤ n) × (length js ≡ length js₀) × ((k : ℕ) → k < i → sampleFrom js k ≡ sampleAt p t1 t2 (getD samples k nan) (getD sphi k nan) (getD cphi k nan))
 
 abbrev μ-loop : tie.MeasureT-loop
-μ-loop vs ss cs p t1 t2 rs₀ qs₀ d1s₀ d2s₀ n i₀ rs qs d1s d2s i = n - i
+μ-loop samples sphi cphi p t1 t2 js₀ n i₀ js i = n - i
 
 loop-holds : tie.Need-loop-holds Inv-loop μ-loop
-loop-holds c = (search needs, stores-none _ _, stores-none _ _, stores-none _ _, stores-none _ _)
+loop-holds c = (search needs, search needs, λ k h. absurd (none k h))
+  where
+    none : (k : ℕ) → k < 0 → ⊥
+    none k h = omega arith
+
+slice-write-js-2 : tie.Need-slice-write-js-2 Inv-loop μ-loop
+slice-write-js-2 c = simp length-set (omega arith)
+
+slice-write-js-3 : tie.Need-slice-write-js-3 Inv-loop μ-loop
+slice-write-js-3 c = simp length-set (omega arith)
+
+slice-write-js-4 : tie.Need-slice-write-js-4 Inv-loop μ-loop
+slice-write-js-4 c = simp length-set (omega arith)
 
 loop-again : tie.Need-loop-again Inv-loop μ-loop
-loop-again c = let e = c .sample-at .ensures in (search needs, stores-next _ _ _ _ _ (c .before .before .before .before .before .loop .inv .1) (ap (λ (t : Sample). t .r) e), stores-next _ _ _ _ _ (c .before .before .before .before .before .loop .inv .2) (ap (λ (t : Sample). t .q) e), stores-next _ _ _ _ _ (c .before .before .before .before .before .loop .inv .3) (ap (λ (t : Sample). t .d1) e), stores-next _ _ _ _ _ (c .before .before .before .before .before .loop .inv .4) (ap (λ (t : Sample). t .d2) e))
+loop-again c = let b = c .before .before .before .before .before in
+    let i = b .loop .i in
+    let room : 4 * i + 4 ≤ length (b .loop .js) = omega arith in
+    (search needs, simp length-set (b .loop .inv .1), filled-next _ (b .loop .js) i _ room (c .sample-at .ensures) (b .loop .inv .2))
 
 returns : tie.Need-returns Inv-loop μ-loop
-returns c = let h : c .before .loop .i ≡ length (c .before .before .before .before .before .before .before .before .before .args .vs .now) = omega arith in record { r = stores-all _ _ _ nan _ (rw h at (c .before .loop .inv .1)) (omega arith); q = stores-all _ _ _ nan _ (rw h at (c .before .loop .inv .2)) (omega arith); d1 = stores-all _ _ _ nan _ (rw h at (c .before .loop .inv .3)) (omega arith); d2 = stores-all _ _ _ nan _ (rw h at (c .before .loop .inv .4)) (omega arith) }
+returns c = record { is = λ i h. c .before .loop .inv .2 i (omega arith) }
 
 pub fill-spec : {M : Type 1} → statement M
 fill-spec =
@@ -32,6 +48,6 @@ fill-spec =
     (tie.spec
     Inv-loop μ-loop loop-holds (λ c. search needs) (λ c. search needs) (λ c. search needs) (λ c. search needs)
     (λ c. search needs) (λ c. search needs) (λ c κs. search needs) (λ c. search needs) (λ c. search needs)
-    (λ c. search needs) (λ c. search needs) (λ c. search needs) (λ c. search needs) (λ c. search needs)
-    (λ c. search needs) (λ c. search needs) (λ c. search needs) loop-again (λ c. search needs) (λ c. search needs)
-    (λ c. search needs) (λ c. search needs) returns)
+    (λ c. search needs) (λ c. search needs) (λ c. search needs) slice-write-js-2 (λ c. search needs)
+    (λ c. search needs) slice-write-js-3 (λ c. search needs) (λ c. search needs) slice-write-js-4 (λ c. search needs)
+    (λ c. search needs) loop-again (λ c. search needs) returns)

@@ -6,7 +6,10 @@ use Rattle.solver.proofs.finished.Tie as tie
 
 returns : tie.Need-returns
 unfolding S.finished
-returns c = rw (c .assembled .ensures, c .before .canonicalize-tracking-swap .ensures .0, c .before .before .sqrt .ensures, c .before .before .before .count-f32 .ensures, c .before .before .before .before .axis-std-errors .ensures)
+returns c = let a = c .before in
+    let r = a .before in
+    let n = r .before in
+    rw (c .assembled .ensures, a .canonicalize-tracking-swap .ensures .0, r .sqrt .ensures, n .count-f32 .ensures, n .before .axis-std-errors .ensures)
 
 pub finished-spec : {M : Type 1} → statement M
 finished-spec =

@@ -6,7 +6,8 @@ use Rattle.solver.proofs.is_small.Tie as tie
 
 returns : tie.Need-returns
 unfolding S.small
-returns c = rw (← c .before .before .before .before .abs .ensures, c .before .before .before .if1 .taken, ← c .before .before .abs2 .ensures, c .before .if2 .taken, ← c .abs3 .ensures)
+returns c = let b = c .before .before in
+    rw (← b .before .before .abs .ensures, b .before .if1 .taken, ← b .abs2 .ensures, c .before .if2 .taken, ← c .abs3 .ensures)
 
 returns-2 : tie.Need-returns-2
 unfolding S.small

@@ -1,78 +1,78 @@
 -- What is left to do is what was to do; each way out of the loop is one law. Assumes nothing.
 use mathlib.Core.Path.{_≡_, refl, _∙_, sym, ap}
-use Prim.Native.Nat.{_≤_, _-_}
-use lib.ListN.{length}
+use Prim.Native.Nat.{_≤_, _-_, _*_}
 use native.Mathlib.Omega.{arith}
-use Rattle.solver.specs.Solver.{updatesFrom, updates, stepOf}
-use Rattle.solver.specs.SolverLaws.{Room, run-full, run-stay, run-to, step-stay, step-to}
+use lib.ListN.{length}
+use Rattle.solver.specs.Solver.{pass, stepOf, updatesFrom, updates}
+use Rattle.solver.specs.Buffers.{spread}
+use Rattle.solver.specs.SolverLaws.{run-full, run-stay, run-to, step-stay, step-to, solved-by, stopped-at}
 use borrow.Author.Needs.{needs}
 use Rattle.solver.proofs.run_updates.Statement.{statement}
 use Rattle.solver.proofs.run_updates.Tie as tie
 
 abbrev Inv-loop : tie.InvT-loop
-Inv-loop vs ss cs rs₀ qs₀ d1s₀ d2s₀ jtj₀ jtr₀ p₀ count₀ rs qs d1s d2s jtj jtr p count = (count ≤ 6) × (updatesFrom (length vs) vs ss cs (6 - count) count p ≡ updates (length vs) vs ss cs p₀) × Room vs rs qs d1s d2s
+Inv-loop samples sphi cphi js₀ jtj₀ p₀ count₀ s₀ js jtj p count s =
+    (count ≤ 6) × (length js ≡ 4 * length samples) × (spread s ≡ pass (length samples) p samples sphi cphi) ×
+    (updatesFrom (length samples) samples sphi cphi (6 - count) count p ≡ updates (length samples) samples sphi cphi p₀)
 
 abbrev μ-loop : tie.MeasureT-loop
-μ-loop vs ss cs rs₀ qs₀ d1s₀ d2s₀ jtj₀ jtr₀ p₀ count₀ rs qs d1s d2s jtj jtr p count = 6 - count
+μ-loop samples sphi cphi js₀ jtj₀ p₀ count₀ s₀ js jtj p count s = 6 - count
 
 loop-holds : tie.Need-loop-holds Inv-loop μ-loop
 unfolding updates
-loop-holds c = (search needs, refl, search needs)
+loop-holds c = (search needs, search needs, c .before .before .pass .ensures, refl)
+
+pass-requires-2 : tie.Need-pass-requires-2 Inv-loop μ-loop
+pass-requires-2 c κs = let m = c .before .before .before .before .before .before .before .before in
+    let b = m .before .before .before .before .before .before .before in
+    let s = b .before .before .before .before .before .before .before .before .before in
+    record { few = s .pre .few; s = s .pre .s; c = s .pre .c; j = b .loop .inv .1 }
+
+loop-less : tie.Need-loop-less Inv-loop μ-loop
+loop-less c = let m = c .before .before .before .before .before .before .before .before in
+    omega (arith, m .before .before .before .before .before .before .before .if1 .left)
 
 loop-again : tie.Need-loop-again Inv-loop μ-loop
-loop-again c = (search needs, run-to _ _ _ _ _ _ _ _ _ (c .before .before .before .before .before .before .before .before .before .before .before .before .before .before .before .before .before .before .before .before .pass .ensures .0) (c .before .before .before .before .before .before .before .before .solve-4x4 .ensures) (search needs) (step-to _ _ _ _ _ _ _ _ _ (c .before .before .before .before .before .before .d0 .given .1) (c .before .before .before .before .cut .ensures) (c .before .before .before .cut2 .ensures) (sym (c .before .before .is-small .ensures) ∙ c .before .if2 .left) (c .moved .ensures)) ∙ c .before .before .before .before .before .before .before .before .before .before .before .before .before .before .before .before .before .before .before .before .before .before .before .before .before .before .before .loop .inv .1, c .before .before .before .before .before .before .before .before .before .before .before .before .before .before .before .before .before .before .before .before .pass .ensures .1)
-
-same-length : tie.Need-same-length Inv-loop μ-loop
-same-length c = omega (arith, c .before .before .before .before .before .before .before .before .before .pass .ensures .1 .r, c .before .before .before .before .before .before .before .before .before .before .before .before .before .before .before .before .before .before .before .before .before .before .before .before .pre .2 .r)
-
-same-length-2 : tie.Need-same-length-2 Inv-loop μ-loop
-same-length-2 c = omega (arith, c .before .before .before .before .before .before .before .before .before .pass .ensures .1 .q, c .before .before .before .before .before .before .before .before .before .before .before .before .before .before .before .before .before .before .before .before .before .before .before .before .pre .2 .q)
-
-same-length-3 : tie.Need-same-length-3 Inv-loop μ-loop
-same-length-3 c = omega (arith, c .before .before .before .before .before .before .before .before .before .pass .ensures .1 .e1, c .before .before .before .before .before .before .before .before .before .before .before .before .before .before .before .before .before .before .before .before .before .before .before .before .pre .2 .e1)
-
-same-length-4 : tie.Need-same-length-4 Inv-loop μ-loop
-same-length-4 c = omega (arith, c .before .before .before .before .before .before .before .before .before .pass .ensures .1 .e2, c .before .before .before .before .before .before .before .before .before .before .before .before .before .before .before .before .before .before .before .before .before .before .before .before .pre .2 .e2)
+loop-again c = let m = c .before .before .before .before in
+    let u = m .before .before .before .before in
+    let t = u .before .before .before .before in
+    let r = t .before .before .before .before in
+    let b = r .before .before in
+    let l = spread (b .loop .s) in
+    let e = solved-by l _ _ _ (r .before .matrix-of .ensures) (r .right-of .ensures) (t .solve-4x4 .ensures) in
+    let big = sym (m .before .before .is-small .ensures) ∙ m .before .if2 .left in
+    let s = step-to _ _ _ _ _ _ _ _ (u .before .before .d0 .given .1) (u .cut .ensures) (m .before .before .before .cut2 .ensures) _ big (m .moved .ensures) in
+    (search needs, search needs, c .before .before .pass2 .ensures, run-to _ _ _ _ _ _ _ l _ (b .loop .inv .2) e (search needs) s ∙ b .loop .inv .3)
 
 returns : tie.Need-returns Inv-loop μ-loop
-returns c = run-full _ _ _ _ _ _ _ (c .before .before .before .before .before .before .before .before .before .pass .ensures .0) (search needs) ∙ c .before .before .before .before .before .before .before .before .before .before .before .before .before .before .before .before .loop .inv .1
-
-same-length-5 : tie.Need-same-length-5 Inv-loop μ-loop
-same-length-5 c = omega (arith, c .before .before .before .before .before .before .before .before .before .before .before .before .before .before .pass .ensures .1 .r, c .before .before .before .before .before .before .before .before .before .before .before .before .before .before .before .before .before .before .before .before .before .before .before .before .before .before .before .before .before .pre .2 .r)
-
-same-length-6 : tie.Need-same-length-6 Inv-loop μ-loop
-same-length-6 c = omega (arith, c .before .before .before .before .before .before .before .before .before .before .before .before .before .before .pass .ensures .1 .q, c .before .before .before .before .before .before .before .before .before .before .before .before .before .before .before .before .before .before .before .before .before .before .before .before .before .before .before .before .before .pre .2 .q)
-
-same-length-7 : tie.Need-same-length-7 Inv-loop μ-loop
-same-length-7 c = omega (arith, c .before .before .before .before .before .before .before .before .before .before .before .before .before .before .pass .ensures .1 .e1, c .before .before .before .before .before .before .before .before .before .before .before .before .before .before .before .before .before .before .before .before .before .before .before .before .before .before .before .before .before .pre .2 .e1)
-
-same-length-8 : tie.Need-same-length-8 Inv-loop μ-loop
-same-length-8 c = omega (arith, c .before .before .before .before .before .before .before .before .before .before .before .before .before .before .pass .ensures .1 .e2, c .before .before .before .before .before .before .before .before .before .before .before .before .before .before .before .before .before .before .before .before .before .before .before .before .before .before .before .before .before .pre .2 .e2)
+returns c = let b = c .before .before .before in
+    let l = spread (b .loop .s) in
+    stopped-at _ l _ _ _ _ (c .before .before .matrix-of .ensures) refl (run-full _ _ _ _ _ _ l (b .loop .inv .2) (search needs) ∙ b .loop .inv .3)
 
 returns-2 : tie.Need-returns-2 Inv-loop μ-loop
-returns-2 c = run-stay _ _ _ _ _ _ _ _ (c .before .before .before .before .before .before .before .before .before .before .before .before .before .before .pass .ensures .0) (c .before .before .solve-4x4 .ensures) (search needs) (ap (stepOf _) (c .enum-told .given .1)) ∙ c .before .before .before .before .before .before .before .before .before .before .before .before .before .before .before .before .before .before .before .before .before .loop .inv .1
-
-same-length-9 : tie.Need-same-length-9 Inv-loop μ-loop
-same-length-9 c = omega (arith, c .before .before .before .before .before .before .before .before .before .before .before .before .before .before .before .before .before .before .before .pass .ensures .1 .r, c .before .before .before .before .before .before .before .before .before .before .before .before .before .before .before .before .before .before .before .before .before .before .before .before .before .before .before .before .before .before .before .before .before .before .pre .2 .r)
-
-same-length-10 : tie.Need-same-length-10 Inv-loop μ-loop
-same-length-10 c = omega (arith, c .before .before .before .before .before .before .before .before .before .before .before .before .before .before .before .before .before .before .before .pass .ensures .1 .q, c .before .before .before .before .before .before .before .before .before .before .before .before .before .before .before .before .before .before .before .before .before .before .before .before .before .before .before .before .before .before .before .before .before .before .pre .2 .q)
-
-same-length-11 : tie.Need-same-length-11 Inv-loop μ-loop
-same-length-11 c = omega (arith, c .before .before .before .before .before .before .before .before .before .before .before .before .before .before .before .before .before .before .before .pass .ensures .1 .e1, c .before .before .before .before .before .before .before .before .before .before .before .before .before .before .before .before .before .before .before .before .before .before .before .before .before .before .before .before .before .before .before .before .before .before .pre .2 .e1)
-
-same-length-12 : tie.Need-same-length-12 Inv-loop μ-loop
-same-length-12 c = omega (arith, c .before .before .before .before .before .before .before .before .before .before .before .before .before .before .before .before .before .before .before .pass .ensures .1 .e2, c .before .before .before .before .before .before .before .before .before .before .before .before .before .before .before .before .before .before .before .before .before .before .before .before .before .before .before .before .before .before .before .before .before .before .pre .2 .e2)
+returns-2 c = let r = c .before .before .before .before .before .before in
+    let b = r .before .before in
+    let l = spread (b .loop .s) in
+    let e = solved-by l _ _ _ (r .before .matrix-of .ensures) (r .right-of .ensures) (c .before .before .solve-4x4 .ensures) in
+    stopped-at _ l _ _ _ _ (r .before .matrix-of .ensures) refl
+    (run-stay _ _ _ _ _ _ l _ (b .loop .inv .2) e (search needs) (ap (stepOf _) (c .enum-told .given .1)) ∙ b .loop .inv .3)
 
 returns-3 : tie.Need-returns-3 Inv-loop μ-loop
-returns-3 c = run-stay _ _ _ _ _ _ _ _ (c .before .before .before .before .before .before .before .before .before .before .before .before .before .before .before .before .before .before .before .pass .ensures .0) (c .before .before .before .before .before .before .before .solve-4x4 .ensures) (search needs) (step-stay _ _ _ _ _ _ _ _ (c .before .before .before .before .before .d0 .given .1) (c .before .before .before .cut .ensures) (c .before .before .cut2 .ensures) (sym (c .before .is-small .ensures) ∙ c .if2 .taken)) ∙ c .before .before .before .before .before .before .before .before .before .before .before .before .before .before .before .before .before .before .before .before .before .before .before .before .before .before .loop .inv .1
+returns-3 c = let u = c .before .before .before in
+    let t = u .before .before .before .before in
+    let r = t .before .before .before .before in
+    let b = r .before .before in
+    let l = spread (b .loop .s) in
+    let e = solved-by l _ _ _ (r .before .matrix-of .ensures) (r .right-of .ensures) (t .solve-4x4 .ensures) in
+    let little = sym (c .before .is-small .ensures) ∙ c .if2 .taken in
+    let s = step-stay _ _ _ _ _ _ _ _ (u .before .before .d0 .given .1) (u .cut .ensures) (c .before .before .cut2 .ensures) little in
+    stopped-at _ l _ _ _ _ (r .before .matrix-of .ensures) refl (run-stay _ _ _ _ _ _ l _ (b .loop .inv .2) e (search needs) s ∙ b .loop .inv .3)
 
 pub run-updates-spec : {M : Type 1} → statement M
 run-updates-spec =
     tie.close
     (tie.spec
-    Inv-loop μ-loop loop-holds (λ c κs. search needs) (λ c κs. search needs) (λ c. search needs) (λ c. search needs)
-    (λ c κs. search needs) (λ c κs. search needs) (λ c κs. search needs) (λ c κs. search needs) (λ c. search needs)
-    (λ c. search needs) loop-again same-length same-length-2 same-length-3 same-length-4 returns same-length-5
-    same-length-6 same-length-7 same-length-8 returns-2 same-length-9 same-length-10 same-length-11 same-length-12
-    returns-3)
+    Inv-loop μ-loop (λ c κs. search needs) loop-holds (λ c κs. search needs) (λ c κs. search needs)
+    (λ c κs. search needs) (λ c. search needs) (λ c. search needs) (λ c κs. search needs) (λ c κs. search needs)
+    (λ c κs. search needs) (λ c κs. search needs) (λ c. search needs) pass-requires-2 loop-less loop-again
+    (λ c. search needs) returns (λ c. search needs) returns-2 (λ c. search needs) returns-3)

@@ -11,10 +11,10 @@ use Rattle.solver.proofs.turn_all.Statement.{statement}
 use Rattle.solver.proofs.turn_all.Tie as tie
 
 abbrev Inv-loop : tie.InvT-loop
-Inv-loop phis turned₀ n i₀ turned i = (i ≤ n) × Stores (λ k. turn (getD phis k nan)) turned₀ turned i
+Inv-loop ring-phi turned₀ n i₀ turned i = (i ≤ n) × Stores (λ k. turn (getD ring-phi k nan)) turned₀ turned i
 
 abbrev μ-loop : tie.MeasureT-loop
-μ-loop phis turned₀ n i₀ turned i = n - i
+μ-loop ring-phi turned₀ n i₀ turned i = n - i
 
 loop-holds : tie.Need-loop-holds Inv-loop μ-loop
 loop-holds c = (search needs, stores-none _ _)
@@ -23,7 +23,9 @@ loop-again : tie.Need-loop-again Inv-loop μ-loop
 loop-again c = (search needs, stores-next _ _ _ _ _ (c .before .before .before .loop .inv .1) (c .turn .ensures))
 
 returns : tie.Need-returns Inv-loop μ-loop
-returns c = record { is = stores-all _ _ _ nan _ (let h : c .before .loop .i ≡ length (c .before .before .before .before .args .phis .now) = omega arith in rw h at (c .before .loop .inv .1)) (omega arith) }
+returns c = let b = c .before in
+    let h : b .loop .i ≡ length (b .before .before .before .args .ring-phi .now) = omega arith in
+    record { is = stores-all _ _ _ nan _ (rw h at (b .loop .inv .1)) (omega arith) }
 
 pub turn-all-spec : {M : Type 1} → statement M
 turn-all-spec =

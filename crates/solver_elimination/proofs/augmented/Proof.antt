@@ -6,7 +6,9 @@ use Rattle.solver_elimination.proofs.augmented.Tie as tie
 
 returns : tie.Need-returns
 unfolding augmented
-returns c = rw (c .augmented-row4 .ensures, c .before .before .before .augmented-row3 .ensures, c .before .before .before .before .before .before .augmented-row2 .ensures, c .before .before .before .before .before .before .before .before .before .augmented-row .ensures)
+returns c = let c3 = c .before .before .before in
+    let c2 = c3 .before .before .before in
+    rw (c .augmented-row4 .ensures, c3 .augmented-row3 .ensures, c2 .augmented-row2 .ensures, c2 .before .before .before .augmented-row .ensures)
 
 pub augmented-spec : {M : Type 1} → statement M
 augmented-spec =

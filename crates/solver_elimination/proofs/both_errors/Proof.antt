@@ -10,11 +10,17 @@ returns c = rw (← c .before .before .before .solve-4x4 .ensures, c .before .en
 
 returns-2 : tie.Need-returns-2
 unfolding bothErrors
-returns-2 c = rw (← c .before .before .before .before .before .before .before .before .solve-4x4 .ensures, c .before .before .before .before .before .before .c2 .given .1, ← c .before .before .before .solve-4x42 .ensures, c .before .enum-told2 .given .1) (c .unknown2 .ensures)
+returns-2 c = let t = c .before .before .before in
+    let f = t .before .before .before in
+    rw (← f .before .before .solve-4x4 .ensures, f .c2 .given .1, ← t .solve-4x42 .ensures, c .before .enum-told2 .given .1) (c .unknown2 .ensures)
 
 returns-3 : tie.Need-returns-3
 unfolding bothErrors
-returns-3 c = rw (← c .before .before .before .before .before .before .before .before .before .before .solve-4x4 .ensures, c .before .before .before .before .before .before .before .before .c2 .given .1, ← c .before .before .before .before .before .solve-4x42 .ensures, c .before .before .before .c3 .given .1, c .before .axis-error .ensures, c .axis-error2 .ensures)
+returns-3 c = let s = c .before .before .before in
+    let t = s .before .before in
+    let f = t .before .before .before in
+    let e = f .before .before .solve-4x4 .ensures in
+    rw (← e, f .c2 .given .1, ← t .solve-4x42 .ensures, s .c3 .given .1, c .before .axis-error .ensures, c .axis-error2 .ensures)
 
 pub both-errors-spec : {M : Type 1} → statement M
 both-errors-spec =

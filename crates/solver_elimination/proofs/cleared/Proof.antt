@@ -11,10 +11,10 @@ returns c = rw (eq-eqb _ _ (c .if1 .taken))
 
 returns-2 : tie.Need-returns-2
 unfolding cleared
-returns-2 c = rw (ne-eqb _ _ (c .before .if1 .left)) (c .reduced .ensures)
+returns-2 c = rw (ne-eqb _ _ (c .before .if1 .left), ← c .before .before .pre) (c .reduced .ensures)
 
 pub cleared-spec : {M : Type 1} → statement M
 cleared-spec =
     tie.close
     (tie.spec
-    returns (λ c. search needs) (λ c. search needs) (λ c κs. search needs) returns-2)
+    returns (λ c κs. search needs) returns-2)

@@ -19,7 +19,9 @@ loop-holds : tie.Need-loop-holds Inv-loop μ-loop
 loop-holds c = (search needs, search needs, search needs, rw range-start)
 
 loop-again : tie.Need-loop-again Inv-loop μ-loop
-loop-again c = let h : c .before .before .before .args .i + 1 ≤ c .before .before .loop .k = omega arith in (search needs, search needs, search needs, rw range-next (cc))
+loop-again c = let b = c .before .before in
+    let h : b .before .args .i + 1 ≤ b .loop .k = omega arith in
+    (search needs, search needs, search needs, rw range-next (cc))
 
 returns : tie.Need-returns Inv-loop μ-loop
 unfolding pivotRow

@@ -23,7 +23,9 @@ returns : tie.Need-returns Inv-loop μ-loop
 returns c = fails _ _ (c .before .before .before .before .loop .i) _ (search needs) (c .before .before .before .before .loop .inv .1) (cc)
 
 loop-again : tie.Need-loop-again Inv-loop μ-loop
-loop-again c = let t = c .before .column-stops .ensures in (search needs, rw (t .1 (c .if1 .left)) (goes-on _ _ _ (c .before .before .before .before .loop .inv .1) (cc)))
+loop-again c = let t = c .before .column-stops .ensures in
+    let b = c .before .before .before .before in
+    (search needs, rw (t .1 (c .if1 .left)) (goes-on _ _ _ (b .loop .inv .1) (cc)))
 
 returns-2 : tie.Need-returns-2 Inv-loop μ-loop
 unfolding solve4x4

@@ -1,0 +1,13 @@
+-- One start's fit is the answer. Assumes nothing.
+use Rattle.robust.specs.RobustLaws.{alone-is}
+use Rattle.robust.proofs.alone.Statement.{statement}
+use Rattle.robust.proofs.alone.Tie as tie
+
+returns : tie.Need-returns
+returns c = alone-is _
+
+pub alone-spec : {M : Type 1} → statement M
+alone-spec =
+    tie.close
+    (tie.spec
+    returns)

@@ -1,0 +1,57 @@
+-- What the contracts of crates/robust speak of besides the definitions: the lent buffers, and the code's own starts, which carry no sum. Definitions only.
+use mathlib.Core.Path.{_≡_}
+use mathlib.Core.Option.{Option, none, some}
+use Prim.Native.Nat.{ℕ, _+_, _*_, _≤_}
+use lib.ListN.{length}
+use Rattle.floats.specs.Rows.{Row}
+use Rattle.solver.specs.Solver.{fitWithSeed}
+use Rattle.solver.specs.Buffers.{Prepared}
+use Rattle.solver.specs.declared.Started.{Started}
+use Rattle.seed.specs.Seed.{secondHarmonic}
+use Rattle.robust.specs.declared.First.{First}
+use Rattle.robust.specs.declared.Second.{Second}
+use Rattle.robust.specs.declared.Second.the-variants.{Made, Missing}
+use Rattle.robust.specs.declared.RingFit.{RingFit}
+use Rattle.robust.specs.Robust as R
+
+-- ---- the buffers: an angle, a sine and a cosine for each of at most 24 samples, and four places in js
+pub record Lent (samples ringPhi sphi cphi js : Row) : Type 0 where
+  pub few : length samples ≤ 24
+  pub phi : length ringPhi ≡ length samples
+  pub s : length sphi ≡ length samples
+  pub c : length cphi ≡ length samples
+  pub j : length js ≡ 4 * length samples
+
+-- the same, with the sines and cosines of the angles in their buffers
+pub record Ready (samples ringPhi sphi cphi js : Row) : Type 0 where
+  pub few : length samples ≤ 24
+  pub phi : length ringPhi ≡ length samples
+  pub sines : Prepared ringPhi sphi cphi
+  pub j : length js ≡ 4 * length samples
+
+-- the grid's rows: 24 places for each sample, and two
+pub record Rows (samples h : Row) : Type 0 where
+  pub places : length h ≡ 24 * length samples + 2
+
+-- ---- starts without their sum
+abbrev pub startedOf : R.Start → Started
+startedOf s = record { fit = s .fit; updates = s .updates }
+
+abbrev pub secondOf : Option R.Start → Second
+secondOf none = Missing
+secondOf (some s) = Made (startedOf s)
+
+-- the first start, with the mean and the variance
+abbrev pub firstOf : ℕ → Row → Row → First
+firstOf n samples ringPhi =
+    let mean = R.meanOf n samples in
+    let centeredVar = R.varianceOf n samples mean in
+    let seed = R.firstSeed (secondHarmonic n samples ringPhi mean) mean in
+    record { primary = fitWithSeed n samples ringPhi seed centeredVar; mean = mean; «centered_var» = centeredVar }
+
+-- r is the answer of one start, or of two, whatever their sums
+pub record Alone (primary : Started) (r : RingFit) : Type 0 where
+  pub is : (f : R.Start) → primary ≡ startedOf f → r ≡ R.fitOf (R.single f)
+
+pub record Chosen (primary : Started) (second : Second) (r : RingFit) : Type 0 where
+  pub is : (f : R.Start) (o : Option R.Start) → primary ≡ startedOf f → second ≡ secondOf o → r ≡ R.fitOf (R.chosen f o)

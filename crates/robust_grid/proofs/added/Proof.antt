@@ -1,0 +1,18 @@
+-- Straight steps. Assumes nothing.
+use borrow.Author.Needs.{needs}
+use Rattle.robust_grid.proofs.added.Statement.{statement}
+use Rattle.robust_grid.proofs.added.Tie as tie
+
+returns : tie.Need-returns
+returns c =
+    let c3 = c .before .before .before in
+    let c4 = c3 .before in
+    let c8 = c4 .before .before .before .before in
+    rw (c4 .plus .ensures, c .before .before .plus2 .ensures, c .plus3 .ensures, c3 .squared .ensures, c .before .times2 .ensures, c8 .times .ensures)
+
+pub added-spec : {M : Type 1} → statement M
+added-spec =
+    tie.close
+    (tie.spec
+    (λ c κs. search needs) (λ c κs. search needs) (λ c κs. search needs) (λ c κs. search needs) (λ c κs. search needs)
+    (λ c κs. search needs) returns)

@@ -1,0 +1,111 @@
+-- The grid stands sample by sample in one buffer, 24 places each: what is written of one sample leaves the others, and the sums that a lane adds up from its
+-- places are those of its pair's rows. Assumes nothing.
+use mathlib.Core.Path.{_≡_, refl, sym, ap, _∙_}
+use mathlib.Core.List.{[], _∷_, _++_}
+use Prim.Native.Nat.{ℕ, zero, suc, _+_, _*_, _≤_, _<_}
+use native.Mathlib.Omega.{arith}
+use borrow.Author.Count.{below-none, below-more}
+use lib.ListN.{length, take, drop}
+use lib.Seq.{getD-take, getD-drop}
+use lib.Ieee.{Float, nan}
+use Rattle.floats.specs.Ops.{nought}
+use Rattle.floats.specs.Rows.{Row, at}
+use Rattle.elementary.specs.Elementary.{sinCos}
+use Rattle.elementary.specs.declared.SinCos.{SinCos}
+use Rattle.loops.specs.Loops.{tab}
+use Rattle.loops.specs.IterLaws.{iter-zero, iter-next, iter-same, range-same}
+use Rattle.loops.specs.TabLaws.{tab-length, tab-at, tab-same, part-kept, part-same}
+use Rattle.seed.specs.Seed.{zeros, summedBy, pairSums, scoreSeedPair}
+use Rattle.seed.specs.declared.Seed.{Seed}
+use Rattle.seed.specs.declared.Seed.the-variants.{Nothing}
+use Rattle.robust_grid.specs.declared.Lanes.{Lanes}
+use Rattle.robust_grid.specs.Grid.{gridAngle, factor, gridRow, pairAt, pairsFrom, bestOf, bestSeed}
+use Rattle.robust_grid.specs.Places.{Axes, rowFrom, sampleRow, rowAt, Grid, sumsAt, four, laneSums, added, scoreAt}
+
+-- ---- scores that agree on the grid have the same best
+module _ (f g : ℕ → ℕ → Seed) (h : (a b : ℕ) → a < 23 → b < 23 → f a b ≡ g a b) where
+  pair-same : (a b : ℕ) → a < 23 → b < 23 → (top : Seed) → pairAt f a b top ≡ pairAt g a b top
+  unfolding pairAt
+  pair-same a b x y top = rw (h a b x y)
+
+  pairs-same : (a : ℕ) → a < 23 → (top : Seed) → pairsFrom f a top ≡ pairsFrom g a top
+  unfolding pairsFrom
+  pairs-same a x top = range-same _ _ top (a + 1) 23 (λ b l y s. pair-same a b x y s)
+
+  best-same : bestOf f ≡ bestOf g
+  unfolding bestOf
+  best-same = iter-same _ _ Nothing 23 (λ a l top. pairs-same a l top)
+
+-- ---- a sample's row
+pub row-is : (s c : Float) (sines cosines : Row) → Axes sines cosines → rowFrom s c sines cosines ≡ sampleRow s c
+unfolding rowFrom sampleRow
+row-is s c sines cosines x = tab-same _ _ 24 (λ a l. ap (factor s c) (both a l))
+  where
+    both : (a : ℕ) → a < 24 → _≡_ {A = SinCos} (record { s = at sines a; c = at cosines a }) (sinCos (gridAngle a))
+    both a l = rw (x .s, x .c, tab-at (λ a. sinCos (gridAngle a) .s) nan 24 a l, tab-at (λ a. sinCos (gridAngle a) .c) nan 24 a l)
+
+-- ---- the buffer, sample by sample
+module _ {sphi cphi : Row} where
+  pub grid-none : {h : Row} → Grid sphi cphi h 0
+  grid-none = record { row = below-none _ }
+
+  -- the row of sample k came back as r
+  pub grid-more : {h : Row} (r x : Row) {k : ℕ} → Grid sphi cphi h k → k * 24 ≤ length h → r ≡ sampleRow (at sphi k) (at cphi k)
+      → Grid sphi cphi (take (k * 24) h ++ (r ++ x)) (k + 1)
+  unfolding sampleRow
+  grid-more {h} r x {k} g room e =
+      let l : length r ≡ 24 = ap length e ∙ tab-length _ 24 in
+      record {
+        row = below-more (λ i. rowAt (take (k * 24) h ++ (r ++ x)) i ≡ sampleRow (at sphi i) (at cphi i)) k
+            (λ i b. part-kept h (r ++ x) (k * 24) (i * 24) 24 room (omega arith) ∙ g .row i b)
+            (part-same h r x (k * 24) 24 room l ∙ e);
+      }
+
+  -- what stands at a place
+  place : {h : Row} {n : ℕ} → Grid sphi cphi h n → (i : ℕ) → i < n → (a : ℕ) → a < 24
+      → at h (i * 24 + a) ≡ factor (at sphi i) (at cphi i) (sinCos (gridAngle a))
+  unfolding sampleRow
+  place {h} g i l a b =
+      sym (getD-drop (i * 24) h a nan) ∙ sym (getD-take 24 (drop (i * 24) h) a nan b) ∙ ap (λ (r : Row). at r a) (g .row i l)
+      ∙ tab-at (λ a. factor (at sphi i) (at cphi i) (sinCos (gridAngle a))) nan 24 a b
+
+  module _ {h : Row} {n : ℕ} (g : Grid sphi cphi h n) (centered : Row) where
+    sums-same : (a b : ℕ) → a < 23 → b < 23 → sumsAt n centered h a b ≡ pairSums n centered (gridRow n sphi cphi a) (gridRow n sphi cphi b)
+    unfolding sumsAt pairSums gridRow
+    sums-same a b x y = iter-same _ _ zeros n (λ i l s. rw (at-row a x i l, at-row b y i l))
+      where
+        at-row : (a : ℕ) → a < 23 → (i : ℕ) → i < n → at h (i * 24 + a) ≡ at (tab (λ i. factor (at sphi i) (at cphi i) (sinCos (gridAngle a))) n) i
+        at-row a x i l = place g i l a (omega arith) ∙ sym (tab-at (λ i. factor (at sphi i) (at cphi i) (sinCos (gridAngle a))) nan n i l)
+
+    pub grid-best : (centeredSs mean : Float) → bestOf (scoreAt n h centered centeredSs mean) ≡ bestSeed n sphi cphi centered centeredSs mean
+    unfolding bestSeed scoreAt scoreSeedPair
+    grid-best centeredSs mean = best-same _ _ (λ a b x y. rw (sums-same a b x y))
+
+-- ---- four lanes
+pub four-at : (f : ℕ → Float) (k : ℕ) → k < 4 → at (four f) k ≡ f k
+four-at f zero l = refl
+four-at f (suc zero) l = refl
+four-at f (suc (suc zero)) l = refl
+four-at f (suc (suc (suc zero))) l = refl
+four-at f (suc (suc (suc (suc k)))) l = absurd (none k l)
+  where
+    none : (k : ℕ) → suc (suc (suc (suc k))) < 4 → ⊥
+    none k l = omega arith
+
+-- the places as the code names them
+pub lane-places : (h : Row) (p : ℕ) → _≡_ {A = Row} (at h p ∷ at h (p + 1) ∷ at h (p + 2) ∷ at h (p + 3) ∷ []) (four (λ k. at h (p + k)))
+lane-places h p = let z : p + 0 ≡ p = omega arith in rw z
+
+module _ (centered h : Row) (a b : ℕ) where
+  pub lanes-none : record { «q_sum» = four (λ k. nought); «q2_sum» = four (λ k. nought); num = four (λ k. nought) } ≡ laneSums 0 centered h a b
+  unfolding laneSums sumsAt
+  lanes-none = simp iter-zero
+
+  next : (i k : ℕ) → sumsAt (i + 1) centered h a (b + k) ≡ summedBy (at centered i) (at h (i * 24 + a)) (at h (i * 24 + b + k)) (sumsAt i centered h a (b + k))
+  unfolding sumsAt
+  next i k = let z : i * 24 + (b + k) ≡ i * 24 + b + k = omega arith in rw (iter-next, z)
+
+  pub lanes-more : (i : ℕ) (s t : Lanes) (y : Row) → s ≡ laneSums i centered h a b → y ≡ four (λ k. at h (i * 24 + b + k))
+      → t ≡ added s (at centered i) (at h (i * 24 + a)) y → t ≡ laneSums (i + 1) centered h a b
+  unfolding laneSums summedBy
+  lanes-more i s t y e g d = d ∙ (rw (e, g, next i 0, next i 1, next i 2, next i 3))
