@@ -1,7 +1,7 @@
 -- A disk's values, read in one run, are its five runs: a part of a list of elements is the list of those elements. Assumes nothing.
-use mathlib.Core.Path.{_≡_, refl, sym, ap, _∙_}
+use mathlib.Core.Path.{_≡_, ap, _∙_}
 use mathlib.Core.List.{List, [], _∷_, _++_}
-use Prim.Native.Nat.{ℕ, zero, suc, _+_, _-_, _*_, _≤_, _<_}
+use Prim.Native.Nat.{ℕ, zero, suc, _+_, _-_, _*_, _≤_}
 use native.Mathlib.Omega.{arith}
 use lib.ListN.{length, take, drop}
 use lib.Seq.{take-length, drop-length, take-append-le, drop-append-le}
@@ -39,7 +39,8 @@ values-part : (l : List ℕ) (at m k n : ℕ) → k + n ≤ m → take n (drop k
 unfolding valuesOf
 values-part l at m k n h =
     let z : m ≡ k + (n + (m - (k + n))) = omega arith in
-    rw z (ap (take n) (drop-tab _ k (n + (m - (k + n)))) ∙ take-tab _ n (m - (k + n)) ∙ tab-same _ _ n (λ i b. let y : at + 8 * (k + i) ≡ at + 8 * k + 8 * i = omega arith in rw y))
+    rw z (ap (take n) (drop-tab _ k (n + (m - (k + n)))) ∙ take-tab _ n (m - (k + n))
+    ∙ tab-same _ _ n (λ i b. let y : at + 8 * (k + i) ≡ at + 8 * k + 8 * i = omega arith in rw y))
 
 values-length : (l : List ℕ) (at n : ℕ) → length (valuesOf l at n) ≡ n
 unfolding valuesOf
