@@ -1,14 +1,14 @@
 -- What explain does with its input, turn by turn: all that it says but the spelling of numbers. Definitions only.
-use mathlib.Core.Bool.{Bool, true, false}
+use mathlib.Core.Bool.{Bool, true}
 use mathlib.Core.Path.{_≡_}
 use mathlib.Core.List.{List}
 use Prim.Native.Nat.{ℕ, _+_, _%_, _^_}
-use lib.ListN.{length}
-use Rattle.hex.specs.Hex.{put, Written}
+use Rattle.hex.specs.Hex.{Written}
 use Rattle.lines.specs.declared.Found.{Found}
 use Rattle.lines.specs.declared.Found.the-variants.{Line, More, Done}
 use Rattle.lines.specs.Lines.{foundOf}
-use Rattle.lines.specs.Turns.{Answered, Read, Run, lineTo, opening, roomOf}
+use Rattle.lines.specs.declared.State.{State}
+use Rattle.lines.specs.Turns.{Answered, Read, Run, finished, lineTo, opening}
 use Rattle.shapes.specs.Shapes.{limit}
 use Rattle.explain_words.specs.Tell.{telling}
 use Rattle.explain_sorts.specs.declared.Above.{Above}
@@ -61,11 +61,14 @@ pub record Block (x : Explaining) (b c : List ℕ) (y : Explaining) : Type 0 whe
   pub above : y .above ≡ x .above
   pub counted : y .lines ≡ x .lines
 
--- the end: a frame that stands last has no answer
+-- the end: a frame that stands last has no answer, which is said before the text is written out
 pub record End (x : Explaining) (l m : List ℕ) (y : Explaining) : Type 0 where
   pub words : List (List ℕ)
-  pub text : m ≡ put l (roomOf (x .state .put) room (length l)) (telling words (aloneRows true (x .above)))
-  pub done : y .state .more ≡ false
+  pub said : State
+  pub text : Answered room (x .state) (x .state .feed .from) (telling words (aloneRows true (x .above))) l m said
+  pub state : y .state ≡ finished said
+  pub above : y .above ≡ x .above
+  pub counted : y .lines ≡ x .lines
 
 abbrev pub Turned : Found → Explaining → List ℕ → List ℕ → List ℕ → List ℕ → Explaining → Type 0
 Turned (Line e next) x b c l m y = Explains x b e next l m y × (c ≡ b)
