@@ -1,5 +1,4 @@
 // What is wrong with a line that is neither a frame nor an answer, in one sentence.
-use explain_sorts::Wrong;
 use explain_sorts::ANSWER_LENGTH;
 use explain_sorts::DISK_LENGTH;
 use explain_sorts::DISK_SHORT;
@@ -11,6 +10,7 @@ use explain_sorts::SHORT;
 use explain_sorts::STRANGE_NUMBER;
 use explain_sorts::TOO_LONG;
 use explain_sorts::UNKNOWN_TYPE;
+use explain_sorts::Wrong;
 use explain_words::numbers::bits;
 use explain_words::numbers::letters;
 use explain_words::numbers::number;

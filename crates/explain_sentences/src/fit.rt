@@ -10,7 +10,7 @@ use explain_words::numbers::thousandths;
 ghost use mathlib.Core.Path.{_≡_};
 ghost use Prim.Native.Nat.{_+_, _≤_};
 ghost use lib.ListN.{length};
-ghost use Rattle.explain_words.specs.Tell.{Told};
+ghost use Rattle.explain_words.specs.Tell.{Told, flagsOf};
 ghost use Rattle.explain_sentences.specs.Sentences as S;
 
 fn degrees(x: f32) -> f64 {
@@ -79,15 +79,35 @@ fn words_of(line: u64, r: Reading) -> [[u8; 24]; 24]
     ]
 }
 
+// Which sentences are told: a ring's, a disk's or both's.
+fn flags_of(r: Reading) -> [bool; 14]
+    ensures { λ w. ⌜ (w ≡ flagsOf (S.fitRows r)) × (14 ≡ length w) ⌝ }
+{
+    let disk = r.disk;
+    let unknown = r.known == 0;
+    [
+        !disk,
+        disk,
+        true,
+        !unknown,
+        unknown,
+        true,
+        true,
+        !disk,
+        disk,
+        disk,
+        disk,
+        disk,
+        disk,
+        disk,
+    ]
+}
+
 pub fn told(text: &mut [u8], at: usize, line: u64, r: Reading) -> usize
     requires { ⌜ at + 9792 ≤ length (now text) ⌝ }
     ensures { λ p. ⌜ (p ≤ at + 9792) × Told (S.fitRows r) (now (text .entry)) at (now (text .exit)) p ⌝ }
 {
-    let disk = r.disk;
-    let unknown = r.known == 0;
-    let flags = [
-        !disk, disk, true, !unknown, unknown, true, true, !disk, disk, disk, disk, disk, disk, disk,
-    ];
+    let flags = flags_of(r);
     let words = words_of(line, r);
     explain_words::tell(
         text,

@@ -47,25 +47,23 @@ fn flags_of(r: Refusal, a: Above) -> [bool; 28]
     requires { ⌜ r .place ≤ 65535 ⌝ }
     ensures { λ w. ⌜ (w ≡ flagsOf (S.refusalRows r a)) × (28 ≡ length w) ⌝ }
 {
-    let kind = r.kind;
     let number = r.number;
-    let place = r.place;
-    let ring = (kind == 129) & (number == 3);
-    let disk = (kind == 130) & (number == 3);
+    let ring = (r.kind == 129) & (number == 3);
+    let disk = (r.kind == 130) & (number == 3);
     let name = name_of(r, a);
     [
-        kind == 129,
-        kind == 130,
-        kind == 255,
+        r.kind == 129,
+        r.kind == 130,
+        r.kind == 255,
         number == 1,
         number == 2,
         number == 3,
         number == 4,
         number == 5,
         (number == 2) & (a.kind == 2),
-        ring & (place < 16),
-        ring & (place / 16 == 1),
-        ring & (place > 31),
+        ring & (r.place < 16),
+        ring & (r.place / 16 == 1),
+        ring & (r.place > 31),
         name == 1,
         name == 2,
         name == 3,
@@ -81,7 +79,7 @@ fn flags_of(r: Refusal, a: Above) -> [bool; 28]
         number == 3,
         number == 4,
         (number == 5) & (a.kind == 255),
-        (place != 0) & ((number == 1) | (number == 2) | (number == 5)),
+        (r.place != 0) & ((number == 1) | (number == 2) | (number == 5)),
     ]
 }
 
@@ -135,17 +133,11 @@ a slice has the wrong length, or the answer buffer is too short
 |the search over the disk found nothing
 |the frame line is malformed
 |  pixels      {c}
-|  value       sample {d}|  \
-value       angle {e}|  \
+|  value       sample {d}|  value       angle {e}|  \
 warning: there is no place {d}: a ring's values are 0 to 31|  \
-value       val_energy|  \
-value       base0|  \
-value       base1|  \
-value       xs[{f}]|  \
-value       ys[{f}]|  \
-value       vals_centered[{f}]|  \
-value       grad_angles[{f}]|  \
-value       grad_weights[{f}]|  \
+value       val_energy|  value       base0|  value       base1|  \
+value       xs[{f}]|  value       ys[{f}]|  value       vals_centered[{f}]|  \
+value       grad_angles[{f}]|  value       grad_weights[{f}]|  \
 warning: there is no place {d} in a disk of {c} pixel{g}|  \
 value       {d} (0 is the energy, 1 and 2 the base angles, then xs, ys, vals_centered, |\
 grad_angles and grad_weights, as long as there are pixels)| \

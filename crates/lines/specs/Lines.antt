@@ -2,7 +2,7 @@
 use mathlib.Core.Bool.{Bool, false, cond, not, _||_}
 use mathlib.Core.Path.{_≡_}
 use mathlib.Core.List.{List}
-use Prim.Native.Nat.{ℕ, zero, suc, _+_, _-_, _≤_, _<_}
+use Prim.Native.Nat.{ℕ, zero, suc, _+_, _-_, _≤_}
 use lib.ListN.{getD, take, drop}
 use lib.Dec.{eqb, ltb}
 use Rattle.lines.specs.declared.Feed.{Feed}

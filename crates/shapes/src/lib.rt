@@ -1,7 +1,7 @@
 // A frame's shape: what a line's type, length and characters say of it, before any value is read.
 // The order of the refusals is that of docs/RULES.md, Frame lines, and stands in specs/Shapes.antt.
 ghost use mathlib.Core.Path.{_≡_};
-ghost use Prim.Native.Nat.{_+_, _*_, _≤_, _<_};
+ghost use Prim.Native.Nat.{_≤_, _<_};
 ghost use lib.ListN.{length};
 ghost use Rattle.shapes.specs.Shapes as S;
 

@@ -1,73 +1,44 @@
+-- Each turn follows those before it; the last leaves nothing more to do. Assumes nothing.
+use mathlib.Core.Path.{_≡_}
+use native.Mathlib.Omega.{arith}
+use lib.ListN.{length}
+use Rattle.lines.specs.Turns.{Kept, input, output}
+use Rattle.lines.specs.TurnsLaws.{Running, run-start, run-on, run-ends, run-out}
+use Rattle.explain.specs.declared.Explaining.{Explaining}
+use Rattle.explain.specs.Explain.{Turn, begun}
 use borrow.Author.Needs.{needs}
 use Rattle.explain.proofs.serve.Statement.{statement}
 use Rattle.explain.proofs.serve.Tie as tie
-use Rattle.explain.proofs.serve.Reads as reads
-use Rattle.explain.proofs.serve.Lts as lts
-use Rattle.explain.proofs.turn.Reads as turn-reads
-use Rattle.explain_sorts.proofs.nothing.Reads as nothing-reads
-use Rattle.lines.proofs.begin.Reads as begin-reads
 
 abbrev Inv-loop : tie.InvT-loop
-Inv-loop buf₀ text₀ x₀ turns₀ buf text x turns = ?
+Inv-loop buf₀ text₀ x₀ turns₀ buf text x turns =
+    Kept (x .state) × (length buf ≡ input) × (length text ≡ output) × Running Explaining Turn begun buf₀ text₀ turns x buf text
 
 abbrev μ-loop : tie.MeasureT-loop
-μ-loop buf₀ text₀ x₀ turns₀ buf text x turns = ?
-
-begin-requires : tie.Need-begin-requires Inv-loop μ-loop
-begin-requires c κs = search needs
-
-nothing-requires : tie.Need-nothing-requires Inv-loop μ-loop
-nothing-requires c κs = search needs
+μ-loop buf₀ text₀ x₀ turns₀ buf text x turns = turns
 
 loop-holds : tie.Need-loop-holds Inv-loop μ-loop
-loop-holds c = search needs
-
-turn-requires : tie.Need-turn-requires Inv-loop μ-loop
-turn-requires c κs = search needs
-
-same-length : tie.Need-same-length Inv-loop μ-loop
-same-length c = search needs
-
-same-length-2 : tie.Need-same-length-2 Inv-loop μ-loop
-same-length-2 c = search needs
+loop-holds c = (c .before .begin .ensures .0, search needs, search needs, rw (c .before .begin .ensures .1, c .nothing .ensures) run-start)
 
 returns : tie.Need-returns Inv-loop μ-loop
-returns c = search needs
-
-sub-turns : tie.Need-sub-turns Inv-loop μ-loop
-sub-turns c = search needs
-
-loop-less : tie.Need-loop-less Inv-loop μ-loop
-loop-less c = search needs
+returns c =
+    let at-loop = c .before .before .before .before .before .before .before .before .before .before .before .loop in
+    let at-turn = c .before .before .before .before .before .before .before .turn in
+    run-ends (at-loop .inv .3) (at-turn .ensures .1) (c .if1 .taken)
 
 loop-again : tie.Need-loop-again Inv-loop μ-loop
-loop-again c = search needs
-
-same-length-3 : tie.Need-same-length-3 Inv-loop μ-loop
-same-length-3 c = search needs
-
-same-length-4 : tie.Need-same-length-4 Inv-loop μ-loop
-same-length-4 c = search needs
+loop-again c =
+    let at-turn = c .before .before .before .before .before .before .before .turn in
+    let at-loop = c .before .before .before .before .before .before .before .before .before .before .before .loop in
+    (at-turn .ensures .0, search needs, search needs, run-on (at-loop .inv .3) (at-turn .ensures .1) (omega arith))
 
 returns-2 : tie.Need-returns-2 Inv-loop μ-loop
-returns-2 c = search needs
+returns-2 c = run-out (c .before .loop .inv .3) (omega arith)
 
 pub serve-spec : {M : Type 1} → statement M
 serve-spec =
     tie.close
     (tie.spec
-    Inv-loop
-    μ-loop
-    begin-requires
-    nothing-requires
-    loop-holds
-    turn-requires
-    same-length
-    same-length-2
-    returns
-    sub-turns
-    loop-less
-    loop-again
-    same-length-3
-    same-length-4
-    returns-2)
+    Inv-loop μ-loop (λ c κs. search needs) (λ c κs. search needs) loop-holds (λ c κs. search needs)
+    (λ c. search needs) (λ c. search needs) returns (λ c. search needs) (λ c. search needs) loop-again
+    (λ c. search needs) (λ c. search needs) returns-2)

@@ -17,9 +17,10 @@ returns-3 : tie.Need-returns-3
 unfolding S.answerSort
 returns-3 c =
     let b2 = c .before .before in
-    let b3 = b2 .before in
-    (rw (ne-eqb _ _ (b3 .if1 .left), ne-eqb _ _ (b2 .if2 .left), eq-eqb _ _ (c .before .if3 .taken)) (c .malformed-answer .ensures .0),
-    c .malformed-answer .ensures .1)
+    let b3 = b2 .before in (
+      rw (ne-eqb _ _ (b3 .if1 .left), ne-eqb _ _ (b2 .if2 .left), eq-eqb _ _ (c .before .if3 .taken)) (c .malformed-answer .ensures .0),
+      c .malformed-answer .ensures .1,
+    )
 
 returns-4 : tie.Need-returns-4
 unfolding S.answerSort

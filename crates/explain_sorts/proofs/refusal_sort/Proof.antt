@@ -14,9 +14,17 @@ returns c =
 returns-2 : tie.Need-returns-2
 unfolding S.refusalSort
 returns-2 c =
-    let b4 = c .before .before .before .before in
-    (rw (← b4 .before .byte-at .ensures .1, ← b4 .byte-at2 .ensures .1, ← c .before .before .before .byte-at3 .ensures .1, c .before .before .if1 .left,
-    ← c .before .is-of .ensures, c .if2 .taken), omega arith)
+    let b4 = c .before .before .before .before in (
+      rw (
+        ← b4 .before .byte-at .ensures .1,
+        ← b4 .byte-at2 .ensures .1,
+        ← c .before .before .before .byte-at3 .ensures .1,
+        c .before .before .if1 .left,
+        ← c .before .is-of .ensures,
+        c .if2 .taken,
+      ),
+      omega arith,
+    )
 
 returns-3 : tie.Need-returns-3
 unfolding S.refusalSort

@@ -65,9 +65,10 @@ returns-6 c =
     let b4 = b2 .before .before in
     let b5 = b4 .before in
     let b7 = b5 .before .before in
-    let n = length (b7 .args .line .now) in
-    (rw (b5 .if1 .left, ← b4 .shape-of .ensures .0, b2 .shape4 .given .1) (c .fault-sort .ensures),
-    rw (c .fault-sort .ensures) (fault-sound n (b2 .shape4 .given .0 .0)))
+    let n = length (b7 .args .line .now) in (
+      rw (b5 .if1 .left, ← b4 .shape-of .ensures .0, b2 .shape4 .given .1) (c .fault-sort .ensures),
+      rw (c .fault-sort .ensures) (fault-sound n (b2 .shape4 .given .0 .0)),
+    )
 
 pub sort-of-spec : {M : Type 1} → statement M
 sort-of-spec =

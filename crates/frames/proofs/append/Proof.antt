@@ -18,11 +18,11 @@ returns c =
     let b8 = b5 .before .before .before in
     let at = b8 .args .at in
     let n = b4 .text-len .result in
-    let q = b2 .write-answer .kept .0 in
+    let m = b2 .write-answer .last .1 .0 in
     let fits = b4 .text-len .ensures .0 in
-    let w : Written (b8 .args .out .now) at (textOf (b5 .kept-answer .result)) _ (at + n) =
+    let w : Written (b8 .args .out .now) at (textOf (b5 .kept-answer .result)) m (at + n) =
     record { text = b2 .write-answer .ensures .1; place = ap (λ k. at + k) (b4 .text-len .ensures .1) } in
-    let f = written-one 10 (omega (arith, b8 .pre)) in
+    let f = written-one {l = m} {at = at + n} 10 (omega (arith, b8 .pre)) in
     (omega arith, rw (← b5 .kept-answer .ensures) (written-then w f (omega (arith, b8 .pre))))
 
 pub append-spec : {M : Type 1} → statement M

@@ -14,10 +14,15 @@ unfolding F.ringText countText byteText
 returns c =
     let b7 = c .before .before .before .before .before .before .before in
     let b9 = b7 .before .before in
-    let b11 = b9 .before .before in
-    (refl, rw (c .before .before .put-words .ensures, b7 .put-count .ensures,
-    b9 .ring-words .ensures .0) (put-put (b11 .args .out .now) (b11 .args .at) _ (wordsText (F.ringWords (b11 .args .r) (b11 .args .known)) 7)
-    (b11 .args .at + 4) (omega arith) (omega (arith, words-length (F.ringWords (b11 .args .r) (b11 .args .known)) 7))))
+    let b11 = b9 .before .before in (
+      refl,
+      rw (
+        c .before .before .put-words .ensures,
+        b7 .put-count .ensures,
+        b9 .ring-words .ensures .0,
+      ) (put-put (b11 .args .out .now) (b11 .args .at) _ (wordsText (F.ringWords (b11 .args .r) (b11 .args .known)) 7)
+          (b11 .args .at + 4) (omega arith) (omega (arith, words-length (F.ringWords (b11 .args .r) (b11 .args .known)) 7))),
+    )
 
 pub write-ring-spec : {M : Type 1} → statement M
 write-ring-spec =

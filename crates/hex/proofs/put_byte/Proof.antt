@@ -22,8 +22,13 @@ returns c =
     let a = hexOf (b3 .args .b / 16) in
     let b = hexOf (b3 .args .b % 16) in
     let n : length (put l at (a ∷ [])) ≡ length l = put-length l at (a ∷ []) (omega arith) in
-    rw (c .before .hex .ensures, c .hex2 .ensures, put-one l at a (omega arith), put-one (put l at (a ∷ [])) (at + 1) b (omega arith),
-    put-put l at (a ∷ []) (b ∷ []) (at + 1) (omega arith) (omega arith))
+    rw (
+      c .before .hex .ensures,
+      c .hex2 .ensures,
+      put-one l at a (omega arith),
+      put-one (put l at (a ∷ [])) (at + 1) b (omega arith),
+      put-put l at (a ∷ []) (b ∷ []) (at + 1) (omega arith) (omega arith),
+    )
 
 pub put-byte-spec : {M : Type 1} → statement M
 put-byte-spec =

@@ -24,11 +24,14 @@ loop-again c =
     let b6 = b2 .before .before .before .before in
     let b9 = b6 .before .before .before in
     let e = words-length (b9 .args .ws .now) (b6 .loop .k) in
-    let e2 = words-length (b9 .args .ws .now) (b6 .loop .k + 1) in
-    (search needs, b2 .put-word .kept .0 ∙ b6 .loop .inv .1, b2 .put-word .ensures
-    ∙ ap (λ l. put l (b9 .args .at + 8 * b6 .loop .k) (wordText (getD (b9 .args .ws .now) (b6 .loop .k) 0))) (b6 .loop .inv .2)
-    ∙ rw words-next (put-put (b9 .args .out .now) (b9 .args .at) (wordsText (b9 .args .ws .now) (b6 .loop .k)) (wordText (getD (b9 .args .ws .now)
-    (b6 .loop .k) 0)) (b9 .args .at + 8 * b6 .loop .k) (omega arith) (omega (arith, word-length (getD (b9 .args .ws .now) (b6 .loop .k) 0)))))
+    let e2 = words-length (b9 .args .ws .now) (b6 .loop .k + 1) in (
+      search needs,
+      b2 .put-word .kept .0 ∙ b6 .loop .inv .1,
+      b2 .put-word .ensures
+          ∙ ap (λ l. put l (b9 .args .at + 8 * b6 .loop .k) (wordText (getD (b9 .args .ws .now) (b6 .loop .k) 0))) (b6 .loop .inv .2)
+          ∙ rw words-next (put-put (b9 .args .out .now) (b9 .args .at) (wordsText (b9 .args .ws .now) (b6 .loop .k)) (wordText (getD (b9 .args .ws .now)
+          (b6 .loop .k) 0)) (b9 .args .at + 8 * b6 .loop .k) (omega arith) (omega (arith, word-length (getD (b9 .args .ws .now) (b6 .loop .k) 0)))),
+    )
 
 returns : tie.Need-returns Inv-loop μ-loop
 returns c = let h : c .before .loop .k ≡ length (c .before .before .before .before .args .ws .now) = omega arith in rw h at (c .before .loop .inv .2)

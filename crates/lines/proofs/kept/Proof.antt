@@ -19,9 +19,12 @@ unfolding keptOf isGone
 returns-3 c =
     let b2 = c .before .before in
     let b4 = b2 .before .before in
-    let b5 = b4 .before in
-    (search needs, search needs, rw (b5 .if1 .left, le-ltb _ _ (b4 .if2 .left)) (b2 .keep .ensures .0),
-    rw (b2 .keep .ensures .0) (b2 .keep .ensures .1))
+    let b5 = b4 .before in (
+      search needs,
+      search needs,
+      rw (b5 .if1 .left, le-ltb _ _ (b4 .if2 .left)) (b2 .keep .ensures .0),
+      rw (b2 .keep .ensures .0) (b2 .keep .ensures .1),
+    )
 
 pub kept-spec : {M : Type 1} → statement M
 kept-spec =

@@ -15,7 +15,8 @@ returns c =
     let b2 = c .before .before in
     let b8 = b2 .before .before .before .before .before .before in
     let b10 = b8 .before .before in
-    (omega (arith, b2 .tell .ensures .fits), rows-told (S.refusalRows (b10 .args .r) (b10 .args .a)) _ (b2 .tell .ensures .written) (b8 .flags-of .ensures .0) refl)
+    let e = b8 .flags-of .ensures .0 in
+    (omega (arith, b2 .tell .ensures .fits), rows-told (S.refusalRows (b10 .args .r) (b10 .args .a)) _ (b2 .tell .ensures .written) e refl)
 
 pub told-spec : {M : Type 1} → statement M
 told-spec =
