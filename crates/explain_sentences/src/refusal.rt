@@ -47,23 +47,23 @@ fn flags_of(r: Refusal, a: Above) -> [bool; 28]
     requires { ⌜ r .place ≤ 65535 ⌝ }
     ensures { λ w. ⌜ (w ≡ flagsOf (S.refusalRows r a)) × (28 ≡ length w) ⌝ }
 {
+    let kind = r.kind;
     let number = r.number;
-    let ring = (r.kind == 129) & (number == 3);
-    let disk = (r.kind == 130) & (number == 3);
+    let place = r.place;
     let name = name_of(r, a);
     [
-        r.kind == 129,
-        r.kind == 130,
-        r.kind == 255,
+        kind == 129,
+        kind == 130,
+        kind == 255,
         number == 1,
         number == 2,
         number == 3,
         number == 4,
         number == 5,
         (number == 2) & (a.kind == 2),
-        ring & (r.place < 16),
-        ring & (r.place / 16 == 1),
-        ring & (r.place > 31),
+        (kind == 129) & (number == 3) & (place < 16),
+        (kind == 129) & (number == 3) & (place / 16 == 1),
+        (kind == 129) & (number == 3) & (place > 31),
         name == 1,
         name == 2,
         name == 3,
@@ -73,13 +73,13 @@ fn flags_of(r: Refusal, a: Above) -> [bool; 28]
         name == 7,
         name == 8,
         name > 8,
-        disk & (name == 0),
-        disk & (name == 0),
+        (kind == 130) & (number == 3) & (name == 0),
+        (kind == 130) & (number == 3) & (name == 0),
         is_shown(r, a),
         number == 3,
         number == 4,
         (number == 5) & (a.kind == 255),
-        (r.place != 0) & ((number == 1) | (number == 2) | (number == 5)),
+        (place != 0) & ((number == 1) | (number == 2) | (number == 5)),
     ]
 }
 
