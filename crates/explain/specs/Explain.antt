@@ -1,105 +1,83 @@
--- What in an answer is not to be taken at face value, and where in the answer's line it stands. Definitions only.
-use mathlib.Core.Bool.{Bool, true, false, not, _&&_, _||_}
+-- What explain does with its input, turn by turn: all that it says but the spelling of numbers. Definitions only.
+use mathlib.Core.Bool.{Bool, true}
+use mathlib.Core.Path.{_≡_}
 use mathlib.Core.List.{List}
-use Prim.Native.Nat.{ℕ, _+_, _*_}
-use lib.Dec.{eqb}
-use lib.Ieee.{Float, nan, inf, fin, eq, isNan, ofBits, binary32}
-use lib.Ieee.Scale.{finite}
-use Rattle.floats.specs.Ops.{lit, nought, pi, halfPi}
-use Rattle.hex.specs.Hex.{byteOf, wordOf}
-use Rattle.explain.specs.declared.warn.Reading.{Reading}
-use Rattle.explain.specs.declared.warn.Flags.{Flags}
-use Rattle.explain.specs.declared.warn.Shape.{Shape}
+use Prim.Native.Nat.{ℕ, _+_, _%_, _^_}
+use Rattle.hex.specs.Hex.{Written}
+use Rattle.lines.specs.declared.Found.{Found}
+use Rattle.lines.specs.declared.Found.the-variants.{Line, More, Done}
+use Rattle.lines.specs.Lines.{foundOf}
+use Rattle.lines.specs.declared.State.{State}
+use Rattle.lines.specs.Turns.{Answered, Read, Run, finished, lineTo, opening}
+use Rattle.shapes.specs.Shapes.{limit}
+use Rattle.explain_words.specs.Tell.{telling}
+use Rattle.explain_sorts.specs.declared.Above.{Above}
+use Rattle.explain_sorts.specs.declared.Sort.{Sort}
+use Rattle.explain_sorts.specs.Sorts.{sortOf, aboveOf, nothing}
+use Rattle.explain_warnings.specs.Warnings.{readingOf}
+use Rattle.explain_sentences.specs.Sentences.{aloneRows, fitText, bodyOf, explained}
+use Rattle.explain.specs.declared.Explaining.{Explaining}
 
--- ---- one warning each; a word is the bits of an f32
-unfoldable pub isInfinite : Float → Bool
-isInfinite nan = false
-isInfinite (inf s) = true
-isInfinite (fin s m e) = false
+-- ---- a line l of its sort s, below a, in the text t, which is m now
+pub record Fitted (l : List ℕ) (disk : Bool) (t : List ℕ) (at : ℕ) (m : List ℕ) (r : ℕ) : Type 0 where
+  pub words : List (List ℕ)
+  pub said : Written t at (fitText words (readingOf l disk)) m r
 
--- +0 or -0
-abbrev pub residualIsZero : ℕ → Bool
-residualIsZero w = eq (lit w) nought
+pub record Body (l : List ℕ) (s : Sort) (a : Above) (t : List ℕ) (at : ℕ) (m : List ℕ) (r : ℕ) : Type 0 where
+  pub words : List (List ℕ)
+  pub said : Written t at (bodyOf words l s a) m r
 
-abbrev pub residualIsInfinite : ℕ → Bool
-residualIsInfinite w = isInfinite (lit w)
+pub record Explained (l : List ℕ) (s : Sort) (a : Above) (t : List ℕ) (at : ℕ) (m : List ℕ) (r : ℕ) : Type 0 where
+  pub first : List (List ℕ)
+  pub second : List (List ℕ)
+  pub third : List (List ℕ)
+  pub said : Written t at (explained first second third l s a) m r
 
-abbrev pub residualIsNan : ℕ → Bool
-residualIsNan w = isNan (lit w)
+-- ---- a turn from x to y: its input goes from b to c, its text from l to m; lines are counted from 1, modulo 2^64
+abbrev pub room : ℕ
+room = 50000
 
-abbrev pub correlationIsZero : ℕ → Bool
-correlationIsZero w = eq (lit w) nought
+abbrev pub begun : Explaining
+begun = record { state = opening; above = nothing; lines = 0 }
 
--- the last byte of an answer
-abbrev pub errorsUnknown : ℕ → Bool
-errorsUnknown known = eqb known 0
+abbrev pub number : Explaining → ℕ
+number x = (x .lines + 1) % 2 ^ 64
 
-abbrev pub errorIsPi : ℕ → Bool
-errorIsPi w = eq (lit w) pi
+abbrev pub sortAt : Explaining → List ℕ → ℕ → Sort
+sortAt x b e = sortOf (lineTo b (x .state .feed) e) (x .state .feed .skip) (number x)
 
-abbrev pub amplitudeIsWild : ℕ → Bool
-amplitudeIsWild w = not (finite (lit w))
+-- the line up to e is explained, and the next one starts at `from`
+pub record Explains (x : Explaining) (b : List ℕ) (e from : ℕ) (l m : List ℕ) (y : Explaining) : Type 0 where
+  pub first : List (List ℕ)
+  pub second : List (List ℕ)
+  pub third : List (List ℕ)
+  pub text : Answered room (x .state) from (explained first second third (lineTo b (x .state .feed) e) (sortAt x b e) (x .above)) l m (y .state)
+  pub above : y .above ≡ aboveOf (sortAt x b e) (number x)
+  pub counted : y .lines ≡ number x
 
--- A ring's start without contrast: amplitude 0, axes 0 and PI/2, and no update. Where there were two starts, either may be the one.
-abbrev pub degenerateStart : Reading → Bool
-degenerateStart r = eq (lit (r .amp)) nought && (eq (lit (r .theta1)) nought && (eq (lit (r .theta2)) halfPi && (eqb (r .first) 0 || eqb (r .second) 0)))
+-- a block is read, and nothing is said
+pub record Block (x : Explaining) (b c : List ℕ) (y : Explaining) : Type 0 where
+  pub read : Read (x .state) limit b c (y .state)
+  pub above : y .above ≡ x .above
+  pub counted : y .lines ≡ x .lines
 
--- ---- all of them; a ring has no correlation, and a disk no start
-abbrev pub warningsOf : Reading → Flags
-warningsOf r =
-    record {
-      zero = residualIsZero (r .rms);
-      infinite = residualIsInfinite (r .rms);
-      notnumber = residualIsNan (r .rms);
-      uncorrelated = r .disk && correlationIsZero (r .corr);
-      unknown = errorsUnknown (r .known);
-      pi1 = errorIsPi (r .error1);
-      pi2 = errorIsPi (r .error2);
-      wild = amplitudeIsWild (r .amp);
-      degenerate = not (r .disk) && degenerateStart r;
-    }
+-- the end: a frame that stands last has no answer, which is said before the text is written out
+pub record End (x : Explaining) (l m : List ℕ) (y : Explaining) : Type 0 where
+  pub words : List (List ℕ)
+  pub said : State
+  pub text : Answered room (x .state) (x .state .feed .from) (telling words (aloneRows true (x .above))) l m said
+  pub state : y .state ≡ finished said
+  pub above : y .above ≡ x .above
+  pub counted : y .lines ≡ x .lines
 
--- ---- where in a line the words stand (document 01, "Frame lines")
-abbrev pub ringReading : List ℕ → Reading
-ringReading l =
-    record {
-      disk = false;
-      amp = wordOf l 4;
-      theta1 = wordOf l 12;
-      theta2 = wordOf l 20;
-      error1 = wordOf l 28;
-      error2 = wordOf l 36;
-      rms = wordOf l 44;
-      corr = 0;
-      starts = byteOf l 52;
-      first = byteOf l 54;
-      second = byteOf l 56;
-      known = byteOf l 58;
-    }
+abbrev pub Turned : Found → Explaining → List ℕ → List ℕ → List ℕ → List ℕ → Explaining → Type 0
+Turned (Line e next) x b c l m y = Explains x b e next l m y × (c ≡ b)
+Turned More x b c l m y = Block x b c y × (m ≡ l)
+Turned Done x b c l m y = End x l m y × (c ≡ b)
 
-abbrev pub diskReading : List ℕ → Reading
-diskReading l =
-    record {
-      disk = true;
-      amp = wordOf l 28;
-      theta1 = wordOf l 4;
-      theta2 = wordOf l 12;
-      error1 = wordOf l 76;
-      error2 = wordOf l 84;
-      rms = wordOf l 36;
-      corr = wordOf l 52;
-      starts = 0;
-      first = 0;
-      second = 0;
-      known = byteOf l 96;
-    }
+pub record Turn (x : Explaining) (b c l m : List ℕ) (y : Explaining) : Type 0 where
+  pub made : Turned (foundOf b (x .state .feed)) x b c l m y
 
-abbrev pub diskShape : List ℕ → Shape
-diskShape l =
-    record {
-      width = wordOf l 20;
-      relative = wordOf l 44;
-      edge = wordOf l 60;
-      objective = wordOf l 68;
-      trials = byteOf l 92 * 256 + byteOf l 94;
-    }
+-- all turns
+abbrev pub Served : List ℕ → List ℕ → Explaining → List ℕ → List ℕ → Type 0
+Served b l r c m = Run Explaining Turn (λ x. x .state .more) begun b l r c m

@@ -1,2 +1,1 @@
 pub mod Explain
-pub mod ExplainLaws

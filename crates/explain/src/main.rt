@@ -1,234 +1,160 @@
 // explain: frames and answers of standard input in words that a person reads, on standard output.
 // A frame line and the answer in the line after it are a pair; an answer alone is explained alone.
-//
-// Proved as equations with specs/Explain.antt are the words that an answer's line has, and which
-// warnings they call for (`warn`). The writing of the text is proved safe and ending, no more, and so
-// is the loop here.
-use explain_sentences::bad::Fault;
-use explain_sentences::refusal::Before;
-use explain_words::count;
-use lines::Feed;
+// Which sentences are said of each line equals its definition, specs/Explain.antt and what that cites;
+// the digits in them are proved safe, no more.
+use explain_sorts::Above;
+use explain_sorts::Sort;
 use lines::Found;
-use sort::Sort;
-use warn::Reading;
-use warn::Shape;
-
-mod fit;
-mod sort;
-mod warn;
-
+use lines::State;
 ghost use mathlib.Core.Path.{_≡_};
-ghost use Prim.Native.Nat.{_+_, _≤_, _<_};
+ghost use Prim.Native.Nat.{_+_, _≤_};
 ghost use lib.ListN.{length};
+ghost use Rattle.lines.specs.Turns.{Kept, Lies, input, output};
+ghost use Rattle.explain_sorts.specs.Sorts.{Sound, fitLength};
+ghost use Rattle.explain.specs.Explain as E;
 
-// The most that is said of a line, in characters, and more than that.
-const ROOM: usize = 4096;
+// More than is said of any line: 24 characters for each of its sentences' own.
+const ROOM: usize = 50000;
 
-// What has been said, up to a place of the text, and the frame that the next line may answer.
-struct Said {
-    put: usize,
-    before: Before,
-}
-
-// A frame that no answer followed.
-fn unanswered(text: &mut [u8], at: usize, b: Before) -> usize {
-    match b {
-        Before::Ring(line) => {
-            let s = b"line #: ring frame without an answer: run it through fitlines\n";
-            count(text, at, s, line, 0)
-        }
-        Before::Disk(line, n) => {
-            let s = b"line #: disk frame of $ pixel& without an answer: run it through fitlines\n";
-            count(text, at, s, line, n as u64)
-        }
-        _ => at,
-    }
-}
-
-fn ring_told(text: &mut [u8], at: usize, line: u64, r: Reading, b: Before) -> usize {
-    let p = count(text, at, b"line #: ring fit\n", line, 0);
-    let p = fit::ring(text, p, r);
-    let p = fit::warnings(text, p, warn::warnings(r));
-    explain_sentences::refusal::mismatch(text, p, b, 129)
-}
-
-fn disk_told(text: &mut [u8], at: usize, line: u64, r: Reading, s: Shape, b: Before) -> usize {
-    let p = count(text, at, b"line #: disk fit\n", line, 0);
-    let p = fit::disk(text, p, r, s);
-    let p = fit::warnings(text, p, warn::warnings(r));
-    explain_sentences::refusal::mismatch(text, p, b, 130)
-}
-
-fn answered(put: usize) -> Said {
-    Said {
-        put,
-        before: Before::Nothing,
-    }
-}
-
-// The frame is held until its answer comes.
-fn framed(
-    line: &[u8],
-    held: &mut [u8],
-    text: &mut [u8],
-    at: usize,
-    b: Before,
-    next: Before,
-) -> Said {
-    explain_words::say(held, 0, line);
-    let put = unanswered(text, at, b);
-    Said { put, before: next }
-}
-
-fn bad_told(line: &[u8], text: &mut [u8], at: usize, b: Before, k: u64, fault: Fault) -> Said {
-    let p = unanswered(text, at, b);
-    let put = explain_sentences::bad::told(text, p, k, line, fault);
-    Said {
-        put,
-        before: Before::Bad(k),
-    }
-}
-
-// Line number k explained at a place of the text.
-fn explained(
-    line: &[u8],
-    skip: bool,
-    held: &mut [u8],
-    text: &mut [u8],
-    at: usize,
-    b: Before,
-    k: u64,
-) -> Said {
-    let sort = sort::sort_of(line, skip);
-    match sort {
-        Sort::Ring => framed(line, held, text, at, b, Before::Ring(k)),
-        Sort::Disk(n) => framed(line, held, text, at, b, Before::Disk(k, n)),
-        Sort::RingFit(r) => answered(ring_told(text, at, k, r, b)),
-        Sort::DiskFit(r, s) => answered(disk_told(text, at, k, r, s, b)),
-        Sort::Refused(a) => answered(explain_sentences::refusal::told(text, at, k, a, b, held)),
-        Sort::Bad(fault) => bad_told(line, text, at, b, k, fault),
-    }
-}
-
-// Never past the text's end.
-fn within(put: usize) -> usize
-    ensures { λ r. ⌜ r ≤ 65536 ⌝ }
+// A fit, and what in it is not to be taken at face value.
+fn fit_told(text: &mut [u8], at: usize, number: u64, line: &[u8], disk: bool) -> usize
+    requires { ⌜ (fitLength disk ≤ length (now line)) × (at + 40152 ≤ length (now text)) ⌝ }
+    ensures { λ r. ⌜ (r ≤ at + 40152) × E.Fitted (now (line .entry)) disk (now (text .entry)) at (now (text .exit)) r ⌝ }
 {
-    if put < 65536 {
-        return put;
-    }
-    65536
+    let r = explain_warnings::read(line, disk);
+    let p = explain_sentences::fit::told(text, at, number, r);
+    explain_warnings::warnings(text, p, r)
 }
 
-// What is left of the input, how much of the text stands, whether there is more to do, the frame
-// that the next line may answer, and how many lines came before that.
-struct State {
-    feed: Feed,
-    put: usize,
-    more: bool,
-    before: Before,
+// What is said of a line itself, at a place of the text; the place behind it.
+fn body_told(text: &mut [u8], at: usize, number: u64, line: &[u8], sort: Sort, a: Above) -> usize
+    requires { ⌜ Sound (length (now line)) sort × (at + 40152 ≤ length (now text)) ⌝ }
+    ensures { λ r. ⌜ (r ≤ at + 40152) × E.Body (now (line .entry)) sort a (now (text .entry)) at (now (text .exit)) r ⌝ }
+{
+    match sort {
+        Sort::Frame(_) => at,
+        Sort::Fit(disk) => fit_told(text, at, number, line, disk),
+        Sort::Refused(r) => explain_sentences::refusal::told(text, at, number, r, a),
+        Sort::Bad(w) => explain_sentences::bad::told(text, at, number, line, w),
+    }
+}
+
+// All that is said at a line: that the frame above has no answer, the line itself, that it is not the
+// answer of that frame.
+fn line_told(text: &mut [u8], at: usize, number: u64, line: &[u8], sort: Sort, a: Above) -> usize
+    requires { ⌜ Sound (length (now line)) sort × (at + 50000 ≤ length (now text)) ⌝ }
+    ensures { λ r. ⌜ (r ≤ at + 50000) × E.Explained (now (line .entry)) sort a (now (text .entry)) at (now (text .exit)) r ⌝ }
+{
+    let alone = explain_sorts::is_alone(sort);
+    let strange = explain_sorts::is_strange(sort, a);
+    let p = explain_sentences::alone_told(text, at, alone, a);
+    let p = body_told(text, p, number, line, sort, a);
+    explain_sentences::mismatch_told(text, p, strange, a)
+}
+
+// How far the program is, the line above the next one, and how many lines there were.
+struct Explaining {
+    state: State,
+    above: Above,
     lines: u64,
 }
 
 // The line up to `e` explained; the next one starts at `from`.
-fn line_turn(buf: &[u8], held: &mut [u8], text: &mut [u8], s: State, e: usize, from: usize) -> State
-    requires { ⌜ (s .feed .from ≤ e) × (e ≤ from) × (from ≤ s .feed .total) × (s .feed .total ≤ length (now buf)) × (s .put ≤ 65536) × (length (now text) ≡ 65536) ⌝ }
-    ensures { λ r. ⌜ (r .feed .from ≤ r .feed .total) × (r .feed .total ≡ s .feed .total) × (r .put ≤ 65536) ⌝ }
+fn line_turn(buf: &[u8], text: &mut [u8], x: Explaining, e: usize, from: usize) -> Explaining
+    requires { ⌜ Kept (x .state) × Lies (x .state) e from × (length (now buf) ≡ input) × (length (now text) ≡ output) ⌝ }
+    ensures { λ r. ⌜ Kept (r .state) × E.Explains x (now (buf .entry)) e from (now (text .entry)) (now (text .exit)) r ⌝ }
 {
+    let s = x.state;
     let f = s.feed;
-    let b = s.before;
+    let a = x.above;
     let begin = f.from;
-    let k = std::num::wrapping_add_u64(s.lines, 1);
+    let number = std::num::wrapping_add_u64(x.lines, 1);
+    let line = &buf[begin..e];
+    let sort = explain_sorts::sort_of(line, f.skip, number);
     let at = lines::room(text, s.put, ROOM);
-    let said = explained(&buf[begin..e], f.skip, held, text, at, b, k);
-    let before = said.before;
-    let feed = lines::past(f, from);
-    State {
-        feed,
-        put: within(said.put),
-        more: true,
-        before,
-        lines: k,
+    let put = line_told(text, at, number, line, sort, a);
+    let state = lines::answered(s, from, put);
+    let above = explain_sorts::above_of(sort, number);
+    Explaining {
+        state,
+        above,
+        lines: number,
     }
 }
 
-// What stands in the text is written out before a read, so that whoever waits for an explanation
-// has it.
-fn read_turn(buf: &mut [u8], text: &[u8], s: State) -> State
-    requires { ⌜ (s .feed .from ≤ s .feed .total) × (s .feed .total ≤ length (now buf)) × (s .put ≤ 65536) × (length (now buf) ≡ 81920) × (length (now text) ≡ 65536) ⌝ }
-    ensures { λ r. ⌜ (r .feed .from ≤ r .feed .total) × (r .feed .total ≤ 81920) × (r .put ≤ 65536) ⌝ }
+// One block read.
+fn block_turn(buf: &mut [u8], text: &[u8], x: Explaining) -> Explaining
+    requires { ⌜ Kept (x .state) × (length (now buf) ≡ input) × (length (now text) ≡ output) ⌝ }
+    ensures { λ r. ⌜ Kept (r .state) × E.Block x (now (buf .entry)) (now (buf .exit)) r ⌝ }
 {
-    let f = s.feed;
-    let before = s.before;
-    lines::flush(text, s.put);
-    let feed = lines::fill(buf, f, sort::LIMIT);
-    State {
-        feed,
-        put: 0,
-        more: true,
-        before,
-        lines: s.lines,
+    let s = x.state;
+    let above = x.above;
+    let state = lines::read_on(buf, text, s, shapes::LIMIT);
+    Explaining {
+        state,
+        above,
+        lines: x.lines,
     }
 }
 
 // A frame at the end of the input has no answer.
-fn last_turn(text: &mut [u8], s: State) -> State
-    requires { ⌜ (s .put ≤ 65536) × (length (now text) ≡ 65536) ⌝ }
-    ensures { λ r. ⌜ (r .feed .from ≡ s .feed .from) × (r .feed .total ≡ s .feed .total) × (r .put ≤ 65536) ⌝ }
+fn last_turn(text: &mut [u8], x: Explaining) -> Explaining
+    requires { ⌜ Kept (x .state) × (length (now text) ≡ output) ⌝ }
+    ensures { λ r. ⌜ Kept (r .state) × E.End x (now (text .entry)) (now (text .exit)) r ⌝ }
 {
-    let feed = s.feed;
-    let before = s.before;
+    let s = x.state;
+    let f = s.feed;
+    let above = x.above;
     let at = lines::room(text, s.put, ROOM);
-    let put = within(unanswered(text, at, before));
-    lines::flush(text, put);
-    State {
-        feed,
-        put: 0,
-        more: false,
-        before,
-        lines: s.lines,
+    let put = explain_sentences::alone_told(text, at, true, above);
+    let state = lines::finish(text, lines::answered(s, f.from, put));
+    Explaining {
+        state,
+        above,
+        lines: x.lines,
     }
 }
 
-// One line explained, or one block read.
-fn turn(buf: &mut [u8], held: &mut [u8], text: &mut [u8], s: State) -> State
-    requires { ⌜ (s .feed .from ≤ s .feed .total) × (s .feed .total ≤ length (now buf)) × (s .put ≤ 65536) × (length (now buf) ≡ 81920) × (length (now text) ≡ 65536) ⌝ }
-    ensures { λ r. ⌜ (r .feed .from ≤ r .feed .total) × (r .feed .total ≤ 81920) × (r .put ≤ 65536) ⌝ }
+// One line explained, or one block read, or the end.
+fn turn(buf: &mut [u8], text: &mut [u8], x: Explaining) -> Explaining
+    requires { ⌜ Kept (x .state) × (length (now buf) ≡ input) × (length (now text) ≡ output) ⌝ }
+    ensures { λ r. ⌜ Kept (r .state) × E.Turn x (now (buf .entry)) (now (buf .exit)) (now (text .entry)) (now (text .exit)) r ⌝ }
 {
+    let s = x.state;
     let f = s.feed;
     let found = lines::find(buf, f);
     match found {
-        Found::Line(e) => line_turn(buf, held, text, s, e, e + 1),
-        Found::Last(e) => line_turn(buf, held, text, s, e, e),
-        Found::More => read_turn(buf, text, s),
-        Found::Done => last_turn(text, s),
+        Found::Line(e, next) => line_turn(buf, text, x, e, next),
+        Found::More => block_turn(buf, text, x),
+        Found::Done => last_turn(text, x),
     }
 }
 
-fn serve(buf: &mut [u8], held: &mut [u8], text: &mut [u8])
-    requires { ⌜ (length (now buf) ≡ 81920) × (length (now text) ≡ 65536) ⌝ }
+fn serve(buf: &mut [u8], text: &mut [u8]) -> Explaining
+    requires { ⌜ (length (now buf) ≡ input) × (length (now text) ≡ output) ⌝ }
+    ensures { λ r. ⌜ E.Served (now (buf .entry)) (now (text .entry)) r (now (buf .exit)) (now (text .exit)) ⌝ }
 {
-    let feed = lines::start();
-    let mut s = State {
-        feed,
-        put: 0,
-        more: true,
-        before: Before::Nothing,
+    let state = lines::begin();
+    let above = explain_sorts::nothing();
+    let mut x = Explaining {
+        state,
+        above,
         lines: 0,
     };
     let mut turns = u64::MAX;
     while turns > 0 {
-        s = turn(buf, held, text, s);
-        if s.more {} else {
-            return;
+        x = turn(buf, text, x);
+        let s = x.state;
+        if !s.more {
+            return x;
         }
         turns -= 1;
     }
+    x
 }
 
 fn main() {
-    let mut buf = [0u8; 81920];
-    let mut held = [0u8; 12832];
-    let mut text = [0u8; 65536];
-    serve(&mut buf, &mut held, &mut text);
+    let mut buf = [0u8; lines::INPUT];
+    let mut text = [0u8; lines::OUTPUT];
+    serve(&mut buf, &mut text);
 }

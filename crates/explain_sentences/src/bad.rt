@@ -1,131 +1,136 @@
 // What is wrong with a line that is neither a frame nor an answer, in one sentence.
-use explain_words::count;
-use explain_words::say;
+use explain_sorts::ANSWER_LENGTH;
+use explain_sorts::DISK_LENGTH;
+use explain_sorts::DISK_SHORT;
+use explain_sorts::FIT_NUMBER;
+use explain_sorts::FOREIGN;
+use explain_sorts::NO_NUMBER;
+use explain_sorts::RING_LENGTH;
+use explain_sorts::SHORT;
+use explain_sorts::STRANGE_NUMBER;
+use explain_sorts::TOO_LONG;
+use explain_sorts::UNKNOWN_TYPE;
+use explain_sorts::Wrong;
+use explain_words::numbers::bits;
+use explain_words::numbers::letters;
+use explain_words::numbers::number;
+use explain_words::numbers::plural;
+ghost use mathlib.Core.Path.{_≡_};
+ghost use Prim.Native.Nat.{_+_, _≤_};
+ghost use lib.ListN.{length, getD};
+ghost use Rattle.explain_words.specs.Tell.{Told, flagsOf};
+ghost use Rattle.explain_sentences.specs.Sentences as S;
 
-pub enum Fault {
-    TooLong,
-    Empty,
-    // the place of a character that is no digit
-    Foreign(usize),
-    Single,
-    Type(u32),
-    RingLength,
-    DiskShort,
-    DiskLength(u32),
-    // answers of a type whose length is another
-    AnswerLength(u32),
-    // numbers of refusal: in a fit, unknown, with the type of others
-    FitNumber(u32),
-    Number(u32),
-    Strange(u32, u32),
-}
-
-fn foreign(text: &mut [u8], at: usize, column: u64, b: u8) -> usize {
-    match b {
-        b'A'..=b'F' => {
-            let s = b"upper-case digit at character #: the house format is lower-case\n";
-            count(text, at, s, column, 0)
-        }
-        b'\r' => {
-            let s = b"carriage return at character #: a line ends in a line feed alone\n";
-            count(text, at, s, column, 0)
-        }
-        _ => {
-            let s = b"character # is no hexadecimal digit (byte @)\n";
-            count(text, at, s, column, b as u64)
+// The place of the first character that is no digit, or the length where there is none.
+fn first_foreign(line: &[u8]) -> usize
+    ensures { λ r. ⌜ r ≡ S.foreignFrom (now (line .entry)) (length (now (line .entry))) 0 ⌝ }
+{
+    let n = line.len();
+    for i in 0..n {
+        if !hex::is_hex(line[i]) {
+            return i;
         }
     }
+    n
+}
+
+fn byte_of(line: &[u8], k: usize) -> u8
+    ensures { λ r. ⌜ r ≡ getD (now (line .entry)) k 0 ⌝ }
+{
+    if k < line.len() {
+        return line[k];
+    }
+    0
+}
+
+fn flags_of(w: Wrong, n: usize, b: u8) -> [bool; 19]
+    ensures { λ r. ⌜ (r ≡ flagsOf (S.badRows w n b)) × (19 ≡ length r) ⌝ }
+{
+    let why = w.why;
+    let upper = (b > 64) & (b < 71);
+    let returned = b == 13;
+    let foreign = why == FOREIGN;
+    let short = why == SHORT;
+    let long = why == ANSWER_LENGTH;
+    let strange = why == STRANGE_NUMBER;
+    [
+        true,
+        why == TOO_LONG,
+        foreign & upper,
+        foreign & returned,
+        foreign & !(upper | returned),
+        short & (n == 0),
+        short & (n != 0),
+        why == UNKNOWN_TYPE,
+        why == RING_LENGTH,
+        why == DISK_SHORT,
+        why == DISK_LENGTH,
+        long,
+        long & (w.kind == 129),
+        long & (w.kind == 130),
+        long & (w.kind == 255),
+        why == FIT_NUMBER,
+        why == NO_NUMBER,
+        strange,
+        strange,
+    ]
 }
 
 // People count characters from 1.
-fn foreign_at(text: &mut [u8], at: usize, line: &[u8], k: usize) -> usize {
-    if k < line.len() {
-        let b = line[k];
-        return foreign(text, at, (k + 1) as u64, b);
-    }
-    at
+fn words_of(line: u64, n: usize, place: usize, b: u8, w: Wrong) -> [[u8; 24]; 11]
+    ensures { λ r. ⌜ 11 ≡ length r ⌝ }
+{
+    let characters = n as u64;
+    let pixels = w.pixels as u64;
+    [
+        number(line),
+        number(std::num::wrapping_add_u64(place as u64, 1)),
+        bits(b as u64, 2),
+        bits(w.kind as u64, 2),
+        number(characters),
+        plural(characters),
+        letters(characters % 2 == 1, b" (an odd number)"),
+        number(30 + 40 * pixels),
+        number(pixels),
+        plural(pixels),
+        number(w.number as u64),
+    ]
 }
 
-fn answer_length(text: &mut [u8], at: usize, n: u64, kind: u64) -> usize {
-    let p = count(text, at, b"an answer of type @ with # character^?", n, kind);
-    match kind {
-        129 => say(text, p, b": a fit has 60, a refusal 8\n"),
-        130 => say(text, p, b": a fit has 98, a refusal 8\n"),
-        _ => say(text, p, b": it has 8\n"),
-    }
-}
-
-// The answers whose length is right and whose number of refusal is not.
-fn number_reason(text: &mut [u8], at: usize, fault: Fault) -> usize {
-    match fault {
-        Fault::FitNumber(m) => {
-            let s = b"an answer as long as a fit, with the number of refusal #: a fit has 0\n";
-            count(text, at, s, m as u64, 0)
-        }
-        Fault::Number(m) => {
-            let s = b"unknown number of refusal #: there are 1 to 5\n";
-            count(text, at, s, m as u64, 0)
-        }
-        Fault::Strange(kind, m) => {
-            let p = count(text, at, b"an answer of type @ with ", 0, kind as u64);
-            let s = b"the number of refusal #: a ring has 1 and 3, a disk 1 to 4, type ff has 5\n";
-            count(text, p, s, m as u64, 0)
-        }
-        _ => at,
-    }
-}
-
-// The frames whose length is not right, and what has no type that is known.
-fn length_reason(text: &mut [u8], at: usize, n: u64, fault: Fault) -> usize {
-    match fault {
-        Fault::Type(kind) => {
-            let s = b"unknown type @, # character^?: frames are 01 and 02, answers 81, 82 and ff\n";
-            count(text, at, s, n, kind as u64)
-        }
-        Fault::RingLength => {
-            count(
-                text,
-                at,
-                b"a ring frame of # character^? instead of 258\n",
-                n,
-                0,
-            )
-        }
-        Fault::DiskShort => {
-            count(
-                text,
-                at,
-                b"a disk frame of # character^?: it has 30, and 40 for each pixel\n",
-                n,
-                0,
-            )
-        }
-        Fault::DiskLength(pixels) => {
-            let p = count(text, at, b"a disk frame of # character^? instead of ", n, 0);
-            let m = pixels as u64;
-            count(text, p, b"# for its $ pixel&\n", 30 + 40 * m, m)
-        }
-        Fault::AnswerLength(kind) => answer_length(text, at, n, kind as u64),
-        _ => number_reason(text, at, fault),
-    }
-}
-
-pub fn told(text: &mut [u8], at: usize, number: u64, line: &[u8], fault: Fault) -> usize {
-    let p = count(text, at, b"line #: bad line: ", number, 0);
+// Line number `number`.
+pub fn told(text: &mut [u8], at: usize, number: u64, line: &[u8], w: Wrong) -> usize
+    requires { ⌜ at + 23280 ≤ length (now text) ⌝ }
+    ensures { λ p. ⌜ (p ≤ at + 23280) × Told (S.lineRows w (now (line .entry))) (now (text .entry)) at (now (text .exit)) p ⌝ }
+{
     let n = line.len();
-    match fault {
-        Fault::TooLong => say(
-            text,
-            p,
-            b"over 12830 characters, the most that a frame has\n",
-        ),
-        Fault::Empty => say(text, p, b"empty: as a frame it is answered ff050000\n"),
-        Fault::Single => say(
-            text,
-            p,
-            b"1 character (an odd number): the type alone has 2\n",
-        ),
-        Fault::Foreign(k) => foreign_at(text, p, line, k),
-        _ => length_reason(text, p, n as u64, fault),
-    }
+    let place = first_foreign(line);
+    let b = byte_of(line, place);
+    let flags = flags_of(w, n, b);
+    let words = words_of(number, n, place, b, w);
+    explain_words::tell(
+        text,
+        at,
+        b"line {a}: bad line: |\
+over 12830 characters, the most that a frame has
+|upper-case digit at character {b}: the house format is lower-case
+|carriage return at character {b}: a line ends in a line feed alone
+|character {b} is no hexadecimal digit (byte {c})
+|empty: as a frame it is answered ff050000
+|1 character (an odd number): the type alone has 2
+|unknown type {d}, {e} character{f}{g}: frames are 01 and 02, answers 81, 82 and ff
+|a ring frame of {e} character{f}{g} instead of 258
+|a disk frame of {e} character{f}{g}: it has 30, and 40 for each pixel
+|a disk frame of {e} character{f}{g} instead of {h} for its {i} pixel{j}
+|an answer of type {d} with {e} character{f}{g}: |\
+a fit has 60, a refusal 8
+|a fit has 98, a refusal 8
+|it has 8
+|an answer as long as a fit, with the number of refusal {k}: a fit has 0
+|unknown number of refusal {k}: there are 1 to 5
+|an answer of type {d} with the number of refusal {k}: |\
+a ring has 1 and 3, a disk 1 to 4, type ff has 5
+|",
+        &flags,
+        &words,
+    )
 }

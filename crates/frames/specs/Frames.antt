@@ -59,6 +59,7 @@ abbrev pub shapedAnswer : List ℕ → Shape → Answer
 shapedAnswer l Shapes.Ring = ringAnswer l
 shapedAnswer l (Shapes.Disk n) = diskAnswer l n
 shapedAnswer l (Shapes.BadCount n) = Refused 0x82 2 0
+shapedAnswer l (Shapes.OtherType kind) = malformed
 shapedAnswer l (Shapes.Malformed fault) = malformed
 
 unfoldable pub answerOf : List ℕ → Answer

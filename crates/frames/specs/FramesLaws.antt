@@ -24,7 +24,8 @@ unfolding refusalText countText byteText
 refusal-length kind number place = refl
 
 -- the four writes of a disk's answer are one
-pub four-puts : (l : List ℕ) (at : ℕ) (a b c d : List ℕ) → length a ≡ 4 → length b ≡ 88 → length c ≡ 4 → length d ≡ 2 → at + 98 ≤ length l → put (put (put (put l at a) (at + 4) b) (at + 92) c) (at + 96) d ≡ put l at (a ++ (b ++ (c ++ d)))
+pub four-puts : (l : List ℕ) (at : ℕ) (a b c d : List ℕ) → length a ≡ 4 → length b ≡ 88 → length c ≡ 4 → length d ≡ 2 → at + 98 ≤ length l
+    → put (put (put (put l at a) (at + 4) b) (at + 92) c) (at + 96) d ≡ put l at (a ++ (b ++ (c ++ d)))
 four-puts l at a b c d la lb lc ld h =
     let p = put-put l at a b (at + 4) (omega arith) (omega arith) in
     let q = put-put l at (a ++ b) c (at + 92) (simp length-append (omega arith)) (omega arith) in

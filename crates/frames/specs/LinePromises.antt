@@ -65,6 +65,7 @@ module _ (line : List ℕ) where
         (n : ℕ) → shapeOf line ≡ Shapes.Disk n → 0 < diskNumber (diskAt n) → numberOf a ≡ diskNumber (diskAt n) →
         textOf a ≡ refusalText 0x82 (diskNumber (diskAt n)) (diskPlace (diskAt n)) → LineCase a
     count-refused : (n : ℕ) → shapeOf line ≡ Shapes.BadCount n → numberOf a ≡ 2 → textOf a ≡ refusalText 0x82 2 0 → LineCase a
+    other-type : (kind : ℕ) → shapeOf line ≡ Shapes.OtherType kind → numberOf a ≡ 5 → textOf a ≡ refusalText 0xff 5 0 → LineCase a
     malformed-line : (f : Fault) → shapeOf line ≡ Shapes.Malformed f → numberOf a ≡ 5 → textOf a ≡ refusalText 0xff 5 0 → LineCase a
 
   -- the counts of an answer are below 256, and its trials below 65536
@@ -116,6 +117,7 @@ module _ (line : List ℕ) where
       go Shapes.Ring e = ring-line e (ring-cases (valuesOf line 2 16) (valuesOf line 130 16))
       go (Shapes.Disk n) e = disk-line n e (disk-cases (diskOfLine line n) (valueOf line 14) (valueOf line 22))
       go (Shapes.BadCount n) e = count-refused n e refl refl
+      go (Shapes.OtherType kind) e = other-type kind e refl refl
       go (Shapes.Malformed f) e = malformed-line f e refl refl
 
   ring-most : RingCase (valuesOf line 2 16) (valuesOf line 130 16) ringAt → ringNumber ringAt ≤ 3
@@ -134,4 +136,5 @@ module _ (line : List ℕ) where
       go (disk-fit k s z n t) = omega (arith, n)
       go (disk-refused k s z n t) = omega (arith, n, disk-numbers (diskOfLine line k) (valueOf line 14) (valueOf line 22))
       go (count-refused k s n t) = omega (arith, n)
+      go (other-type k s n t) = omega (arith, n)
       go (malformed-line f s n t) = omega (arith, n)

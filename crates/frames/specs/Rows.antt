@@ -4,9 +4,7 @@ use mathlib.Core.Bool.{Bool, false, cond}
 use mathlib.Core.List.{List, [], _∷_, _++_, map}
 use Prim.Native.Nat.{ℕ}
 use lib.ListN.{replicate}
-use lib.Dec.{ltb, eqb}
 use lib.Ieee.{Float, nan, inf, binary32, add, sub, mul, div, rem, neg, lt, le, eq, isNan, ofBits, toBits, ofInt, toUnsigned, round, size}
-use lib.Ieee.Scale.{finite}
 use Rattle.floats.specs.Ops.{lit, nought, one, pi, halfPi, quarterPi}
 use Rattle.floats.specs.Library.{negative, before, abs, max, min, toRadians, remEuclid, sqrt, rootUnits, wholeRoot, floor, bin}
 use Rattle.loops.specs.Loops.{iter, range, tab}
@@ -14,7 +12,8 @@ use Rattle.elementary.specs.Elementary.{whole, sinRest, cosRest, quadrant, sinC
 use Rattle.geometry.specs.Geometry.{signedLineDelta, lineDelta, lineSeparation, validPair}
 use Rattle.solver_axes.specs.Canonical.{wrapToTau, arc, placed, settled, canonicalizeTrackingSwap}
 use Rattle.solver_axes.specs.declared.Axes.{Axes}
-use Rattle.solver_elimination.specs.Solve.{Matrix, Row, augmented, larger, pivotRow, unusable, reduced, cleared, clear, topRow, columned, stopped, solve4x4, axisError, bothErrors, axisStdErrors}
+use Rattle.solver_elimination.specs.Solve.{Matrix, Row, augmented, larger, pivotRow, unusable, reduced, cleared, clear}
+use Rattle.solver_elimination.specs.Solve.{topRow, columned, stopped, solve4x4, axisError, bothErrors, axisStdErrors}
 use Rattle.solver_elimination.specs.declared.Solved.{Solved}
 use Rattle.solver_elimination.specs.declared.Solved.the-variants.{Values, Failed}
 use Rattle.solver_elimination.specs.declared.Errors.{Errors}
@@ -24,7 +23,7 @@ use Rattle.robust_grid.specs.Grid.{gridAngle}
 use Rattle.robust.specs.Robust.{total, deviations, fitIsSuspicious, start, ring, fitRing}
 use Rattle.checked.specs.Checked.{wildFrom, firstWild, errorsKnown, ringFitted, ringLooked, checkedRing}
 use Rattle.candidates.specs.Candidates.{combineEdgePair}
-use Rattle.hex.specs.Hex.{isHex, allHex, byteOf, wordOf, valuesOf, byteText, countText, wordText, wordsText}
+use Rattle.hex.specs.Hex.{isHex, allHex, byteOf, wordOf, valuesOf, byteText, countText, wordText, wordsText, codes, bytes}
 use Rattle.shapes.specs.Shapes.{shapeOf, typedShape, ringShape, diskShape, countedShape}
 use Rattle.frames.specs.Frames.{answerOf, ringText, refusalText, textOf}
 
@@ -52,14 +51,16 @@ diagonal d = map row ((d ∷ 0 ∷ 0 ∷ 0 ∷ []) ∷ (0 ∷ d ∷ 0 ∷ 0 ∷ 
 
 -- the identity, but the third of the four rows is 0, 0, 1, infinity
 abbrev spoilt : Matrix
-spoilt = map row ((0x3f80_0000 ∷ 0 ∷ 0 ∷ 0 ∷ []) ∷ (0 ∷ 0x3f80_0000 ∷ 0 ∷ 0 ∷ []) ∷ (0 ∷ 0 ∷ 0x3f80_0000 ∷ 0x7f80_0000 ∷ []) ∷ (0 ∷ 0 ∷ 0 ∷ 0x3f80_0000 ∷ []) ∷ [])
+spoilt =
+    map row
+    ((0x3f80_0000 ∷ 0 ∷ 0 ∷ 0 ∷ []) ∷ (0 ∷ 0x3f80_0000 ∷ 0 ∷ 0 ∷ []) ∷ (0 ∷ 0 ∷ 0x3f80_0000 ∷ 0x7f80_0000 ∷ []) ∷ (0 ∷ 0 ∷ 0 ∷ 0x3f80_0000 ∷ []) ∷ [])
 
 abbrev two : Float
 two = lit 0x4000_0000
 
 -- the characters 01 and 256 zeros
 abbrev zeroLine : List ℕ
-zeroLine = 48 ∷ 49 ∷ replicate 256 48
+zeroLine = bytes "01" ++ replicate 256 48
 
 -- the twelve rows in their order; row 5 has two parts, and rows 6, 9, 10 and 11 have theirs side by side
 pub rows-to-prove : (
@@ -91,23 +92,30 @@ pub rows-to-prove : (
     ∷ (0 ∷ 0 ∷ 0 ∷ 15 ∷ [])
     ∷ (0 ∷ 0 ∷ 1 ∷ [])
     ∷ (0x3f80_0000 ∷ 0 ∷ [])
-    ∷ (56 ∷ 49 ∷ 48 ∷ 48 ∷ 48 ∷ 48 ∷ 48 ∷ 48 ∷ 48 ∷ 48 ∷ 48 ∷ 48 ∷ 48 ∷ 48 ∷ 48 ∷ 48 ∷ 48 ∷ 48 ∷ 48 ∷ 48 ∷ 51 ∷ 102 ∷ 99 ∷ 57 ∷ 48 ∷ 102 ∷ 100 ∷ 98 ∷ 52 ∷ 48 ∷ 52 ∷ 57 ∷ 48 ∷ 102 ∷ 100 ∷ 98 ∷ 52 ∷ 48 ∷ 52 ∷ 57 ∷ 48 ∷ 102 ∷ 100 ∷ 98 ∷ 48 ∷ 48 ∷ 48 ∷ 48 ∷ 48 ∷ 48 ∷ 48 ∷ 48 ∷ 48 ∷ 49 ∷ 48 ∷ 48 ∷ 48 ∷ 48 ∷ 48 ∷ 48 ∷ [])
+    ∷ bytes "810000000000000000003fc90fdb40490fdb40490fdb0000000001000000"
     ∷ []
     )
-unfolding combineEdgePair canonicalizeTrackingSwap settled placed wrapToTau arc remEuclid validPair lineSeparation lineDelta signedLineDelta abs negative before max min sqrt rootUnits wholeRoot degenerateFit iter range solve4x4 augmented larger pivotRow unusable reduced cleared clear topRow columned stopped axisError bothErrors axisStdErrors floor bin tab whole sinRest cosRest quadrant sinCosNear turn sinCos degenerate fitWithSeed wavedBy waves harmonic secondHarmonic total deviations fitIsSuspicious start ring fitRing wildFrom firstWild errorsKnown ringFitted checkedRing isHex allHex byteOf wordOf valuesOf byteText countText wordText wordsText answerOf shapeOf typedShape ringShape ringText finite ltb eqb toUnsigned ofBits toBits ofInt add sub mul div rem neg lt le eq isNan round size toRadians ringLooked
+unfolding combineEdgePair canonicalizeTrackingSwap settled placed wrapToTau arc remEuclid validPair lineSeparation lineDelta signedLineDelta abs
+    negative before max min sqrt rootUnits wholeRoot degenerateFit iter range solve4x4 augmented larger pivotRow unusable reduced cleared clear topRow
+    columned stopped axisError bothErrors axisStdErrors floor bin tab whole sinRest cosRest quadrant sinCosNear turn sinCos degenerate fitWithSeed
+    wavedBy waves harmonic secondHarmonic total deviations fitIsSuspicious fitRing wildFrom firstWild errorsKnown ringFitted checkedRing isHex allHex
+    byteOf wordOf valuesOf byteText countText wordText wordsText answerOf shapeOf typedShape ringShape ringText toUnsigned ofBits toBits ofInt add sub
+    mul div rem neg lt le eq isNan round size toRadians ringLooked bytes codes
+    start ring
 rows-to-prove = refl
 
 -- the two pairs of the grid that stand at 12 degrees: both are allowed
 pub grid-edges : (flag (validPair (gridAngle 0) (gridAngle 21)) ∷ flag (validPair (gridAngle 1) (gridAngle 22)) ∷ []) ≡ (1 ∷ 1 ∷ [])
-unfolding toRadians remEuclid validPair lineSeparation lineDelta signedLineDelta abs negative before max min add sub mul div rem neg lt le eq isNan ofBits ofInt round size
+unfolding toRadians remEuclid validPair lineSeparation lineDelta signedLineDelta abs negative before max min add sub mul div rem neg lt le eq isNan
+    ofBits ofInt round size
 grid-edges = refl
 
 -- the line with 321 pixels of docs/RULES.md, Frame lines: 020141 and 24 zeros, answered 82020000
-pub pixels-321 : textOf (answerOf (48 ∷ 50 ∷ 48 ∷ 49 ∷ 52 ∷ 49 ∷ replicate 24 48)) ≡ (56 ∷ 50 ∷ 48 ∷ 50 ∷ 48 ∷ 48 ∷ 48 ∷ 48 ∷ [])
-unfolding answerOf shapeOf typedShape diskShape countedShape refusalText isHex allHex byteOf byteText countText iter ltb eqb
+pub pixels-321 : textOf (answerOf (bytes "020141" ++ replicate 24 48)) ≡ bytes "82020000"
+unfolding answerOf shapeOf typedShape diskShape countedShape refusalText isHex allHex byteOf byteText countText iter bytes codes
 pixels-321 = refl
 
 -- an empty line, answered ff050000
-pub empty-line : textOf (answerOf []) ≡ (102 ∷ 102 ∷ 48 ∷ 53 ∷ 48 ∷ 48 ∷ 48 ∷ 48 ∷ [])
-unfolding answerOf shapeOf refusalText isHex allHex byteText countText iter ltb eqb
+pub empty-line : textOf (answerOf []) ≡ bytes "ff050000"
+unfolding answerOf shapeOf refusalText isHex allHex byteText countText iter bytes codes
 empty-line = refl

@@ -14,7 +14,8 @@ values-part : (l : List ℕ) (at m k n : ℕ) → k + n ≤ m → take n (drop k
 unfolding valuesOf
 values-part l at m k n h =
     let z : m ≡ k + (n + (m - (k + n))) = omega arith in
-    rw z (ap (take n) (drop-tab _ k (n + (m - (k + n)))) ∙ take-tab _ n (m - (k + n)) ∙ tab-same _ _ n (λ i b. let y : at + 8 * (k + i) ≡ at + 8 * k + 8 * i = omega arith in rw y))
+    rw z (ap (take n) (drop-tab _ k (n + (m - (k + n)))) ∙ take-tab _ n (m - (k + n))
+    ∙ tab-same _ _ n (λ i b. let y : at + 8 * (k + i) ≡ at + 8 * k + 8 * i = omega arith in rw y))
 
 values-length : (l : List ℕ) (at n : ℕ) → length (valuesOf l at n) ≡ n
 unfolding valuesOf

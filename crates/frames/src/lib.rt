@@ -7,7 +7,7 @@ use shapes::Shape;
 ghost use mathlib.Core.Path.{_≡_};
 ghost use Prim.Native.Nat.{_+_, _*_, _≤_};
 ghost use lib.ListN.{length};
-ghost use Rattle.hex.specs.Hex.{put};
+ghost use Rattle.hex.specs.Hex.{put, Written};
 ghost use Rattle.checked.specs.Checked.{checkedDisk, fitCounts, flag};
 ghost use Rattle.frames.specs.Frames as F;
 ghost use Rattle.frames.specs.RunsLaws.{diskOfRuns};
@@ -110,6 +110,7 @@ pub fn answer_to(line: &[u8]) -> Answer
         Shape::Ring => ring_line(line),
         Shape::Disk(n) => disk_line(line, n as usize),
         Shape::BadCount(_) => Answer::Refused(130, 2, 0),
+        Shape::OtherType(_) => malformed(),
         Shape::Malformed(_) => malformed(),
     }
 }
@@ -243,7 +244,7 @@ fn text_len(a: Answer) -> usize
 // The answer to a line and a line feed, at a place of the output; the place after them.
 pub fn append(skip: bool, line: &[u8], out: &mut [u8], at: usize) -> usize
     requires { ⌜ at + 99 ≤ length (now out) ⌝ }
-    ensures { λ r. ⌜ (r ≤ at + 99) × (r ≡ at + length (F.lineText skip (now (line .entry)))) × (now (out .exit) ≡ put (now (out .entry)) at (F.lineText skip (now (line .entry)))) ⌝ }
+    ensures { λ r. ⌜ (r ≤ at + 99) × Written (now (out .entry)) at (F.lineText skip (now (line .entry))) (now (out .exit)) r ⌝ }
 {
     let a = kept_answer(skip, line);
     let n = text_len(a);

@@ -1,7 +1,10 @@
 -- Hexadecimal text: what a slice of characters says, and the characters of a number. Definitions only.
 use mathlib.Core.Bool.{Bool, true, false, cond, _&&_}
 use mathlib.Core.List.{List, [], _∷_, _++_}
+use mathlib.Core.Path.{_≡_}
 use Prim.Native.Nat.{ℕ, zero, suc, _+_, _*_, _/_, _%_}
+use Prim.Native.String.{String, len, charAt}
+use Prim.Native.Char.{code}
 use lib.ListN.{length, getD, take, drop}
 use lib.Dec.{ltb}
 use lib.Ieee.{Float, binary32, ofBits}
@@ -55,3 +58,16 @@ wordsText ws (suc n) = wordsText ws n ++ wordText (getD ws n 0)
 -- xs written over l at the place `at`
 unfoldable pub put : List ℕ → ℕ → List ℕ → List ℕ
 put l at xs = take at l ++ (xs ++ drop (at + length xs) l)
+
+-- t stands in l, which is m now, at the place `at`, and r is the place behind it
+pub record Written (l : List ℕ) (at : ℕ) (t m : List ℕ) (r : ℕ) : Type 0 where
+  pub text : m ≡ put l at t
+  pub place : r ≡ at + length t
+
+-- the codes of a text of plain characters
+unfoldable pub codes : String → ℕ → ℕ → List ℕ
+codes s i zero = []
+codes s i (suc n) = code (charAt s i) ∷ codes s (i + 1) n
+
+unfoldable pub bytes : String → List ℕ
+bytes s = codes s 0 (len s)

@@ -2,7 +2,8 @@
 ghost use mathlib.Core.Path.{_≡_};
 ghost use Prim.Native.Nat.{_+_, _*_, _<_, _≤_};
 ghost use lib.ListN.{length};
-ghost use Rattle.hex.specs.Hex.{isHex, digitOf, byteOf, wordOf, hexOf, byteText, countText, wordText, wordsText, allHex, wordListOf, valueOf, valuesOf, put};
+ghost use Rattle.hex.specs.Hex.{isHex, allHex, digitOf, byteOf, wordOf, wordListOf, valueOf, valuesOf};
+ghost use Rattle.hex.specs.Hex.{hexOf, byteText, countText, wordText, wordsText, put};
 
 pub fn is_hex(b: u8) -> bool
     ensures { λ r. ⌜ r ≡ isHex b ⌝ }

@@ -1,3 +1,4 @@
 pub mod Lines
 pub mod LinesLaws
 pub mod Turns
+pub mod TurnsLaws

@@ -1,25 +1,25 @@
 -- Lines of a buffer. Definitions only.
-use mathlib.Core.Bool.{Bool, true, false, cond, _||_}
+use mathlib.Core.Bool.{Bool, false, cond, not, _||_}
 use mathlib.Core.Path.{_≡_}
 use mathlib.Core.List.{List}
-use Prim.Native.Nat.{ℕ, zero, suc, _+_, _-_, _≤_, _<_}
+use Prim.Native.Nat.{ℕ, zero, suc, _+_, _-_, _≤_}
 use lib.ListN.{getD, take, drop}
 use lib.Dec.{eqb, ltb}
 use Rattle.lines.specs.declared.Feed.{Feed}
 use Rattle.lines.specs.declared.Found.{Found}
-use Rattle.lines.specs.declared.Found.the-variants.{Line, Last, More, Done}
+use Rattle.lines.specs.declared.Found.the-variants.{Line, More, Done}
 
 -- the first line feed among `left` places from i on, or the place after them
 unfoldable pub endFrom : List ℕ → ℕ → ℕ → ℕ
 endFrom l zero i = i
 endFrom l (suc left) i = cond (eqb (getD l i 0) 10) i (endFrom l left (i + 1))
 
--- a line feed ends a line; the input's end ends the last one, where there is any of it
+-- a line feed ends a line, and the next one starts behind it; the input's end ends the last one, where there is any of it
 unfoldable pub foundOf : List ℕ → Feed → Found
 unfolding endFrom
 foundOf l f =
     let e = endFrom l (f .total - f .from) (f .from) in
-    cond (ltb e (f .total)) (Line e) (cond (f .ended) (cond (ltb (f .from) (f .total) || f .skip) (Last (f .total)) Done) More)
+    cond (ltb e (f .total)) (Line e (e + 1)) (cond (not (f .ended)) More (cond (ltb (f .from) (f .total) || f .skip) (Line (f .total) (f .total)) Done))
 
 -- nothing read yet; and the line before a place answered
 unfoldable pub begun : Feed
@@ -39,15 +39,18 @@ keptOf f limit = cond (isGone f limit) 0 (f .total - f .from)
 unfoldable pub filled : Feed → ℕ → ℕ → Feed
 filled f limit n = record { from = 0; total = keptOf f limit + n; skip = isGone f limit; ended = eqb n 0 }
 
+-- the first n bytes of m are those of l from `from` on
+abbrev pub Front : ℕ → ℕ → List ℕ → List ℕ → Type 0
+Front n from l m = take n m ≡ take n (drop from l)
+
 -- a block came into the buffer l, which is m now: some n bytes, and in front of them what was kept
 pub record Filled (f : Feed) (limit : ℕ) (l m : List ℕ) (r : Feed) : Type 0 where
   pub came : ℕ
   pub feed : r ≡ filled f limit came
-  pub front : take (keptOf f limit) m ≡ take (keptOf f limit) (drop (f .from) l)
+  pub front : Front (keptOf f limit) (f .from) l m
 
 -- where a found line ends
 abbrev pub Within : Feed → Found → Type 0
-Within f (Line e) = (f .from ≤ e) × (e < f .total)
-Within f (Last e) = (f .from ≤ e) × (e ≤ f .total)
+Within f (Line e next) = (f .from ≤ e) × (e ≤ next) × (next ≤ f .total)
 Within f More = f .from ≤ f .total
 Within f Done = f .from ≤ f .total

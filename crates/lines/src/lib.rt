@@ -6,9 +6,14 @@ use libc::STDIN_FILENO;
 use libc::STDOUT_FILENO;
 ghost use mathlib.Core.Path.{_≡_};
 ghost use Prim.Native.Nat.{_+_, _-_, _≤_, _<_};
-ghost use lib.ListN.{length, take, drop};
-ghost use Rattle.lines.specs.Lines.{Filled, begun, endFrom, foundOf, isGone, keptOf, passed, Within};
+ghost use lib.ListN.{length};
+ghost use Rattle.lines.specs.Lines.{Filled, Front, begun, endFrom, foundOf, isGone, keptOf, passed, Within};
 ghost use Rattle.lines.specs.Turns as T;
+
+// The sizes of a program's buffers, for its input and its text.
+pub const INPUT: usize = 81920;
+
+pub const OUTPUT: usize = 65536;
 
 // What is left of the buffer: the bytes from `from` up to `total`; whether the start of the line
 // there is gone; whether the input has ended.
@@ -19,10 +24,9 @@ pub struct Feed {
     pub ended: bool,
 }
 
-// A line that ends at a line feed, the last line, which has none, more input wanted, or the end.
+// A line, with its end and where the next one starts; more input is wanted; or the end.
 pub enum Found {
-    Line(usize),
-    Last(usize),
+    Line(usize, usize),
     More,
     Done,
 }
@@ -60,18 +64,15 @@ pub fn find(buf: &[u8], f: Feed) -> Found
     let total = f.total;
     let e = line_end(buf, from, total);
     if e < total {
-        return Found::Line(e);
+        return Found::Line(e, e + 1);
     }
-    if f.ended {
-        if from < total {
-            return Found::Last(total);
-        }
-        if f.skip {
-            return Found::Last(total);
-        }
-        return Found::Done;
+    if !f.ended {
+        return Found::More;
     }
-    Found::More
+    if (from < total) | f.skip {
+        return Found::Line(total, total);
+    }
+    Found::Done
 }
 
 // The line before `from` has been answered.
@@ -90,7 +91,7 @@ pub fn past(f: Feed, from: usize) -> Feed
 // What is left goes to the front of the buffer.
 fn keep(buf: &mut [u8], at: usize, total: usize) -> usize
     requires { ⌜ (at ≤ total) × (total ≤ length (now buf)) ⌝ }
-    ensures { λ r. ⌜ (r ≡ total - at) × (take (total - at) (now (buf .exit)) ≡ take (total - at) (drop at (now (buf .entry)))) ⌝ }
+    ensures { λ r. ⌜ (r ≡ total - at) × Front (total - at) at (now (buf .entry)) (now (buf .exit)) ⌝ }
 {
     let n = total - at;
     for i in 0..n {
@@ -104,7 +105,7 @@ fn keep(buf: &mut [u8], at: usize, total: usize) -> usize
 // already or its start is gone.
 fn kept(buf: &mut [u8], f: Feed, limit: usize) -> usize
     requires { ⌜ (f .from ≤ f .total) × (f .total ≤ length (now buf)) ⌝ }
-    ensures { λ r. ⌜ (r ≤ limit) × (r ≤ length (now (buf .entry))) × (r ≡ keptOf f limit) × (take r (now (buf .exit)) ≡ take r (drop (f .from) (now (buf .entry)))) ⌝ }
+    ensures { λ r. ⌜ (r ≤ limit) × (r ≤ length (now (buf .entry))) × (r ≡ keptOf f limit) × Front r (f .from) (now (buf .entry)) (now (buf .exit)) ⌝ }
 {
     let from = f.from;
     let total = f.total;
@@ -176,7 +177,7 @@ pub struct State {
 }
 
 pub fn begin() -> State
-    ensures { λ r. ⌜ (r .feed .from ≡ 0) × (r .feed .total ≡ 0) × (r .put ≡ 0) × (r ≡ T.opening) ⌝ }
+    ensures { λ r. ⌜ T.Kept r × (r ≡ T.opening) ⌝ }
 {
     let feed = start();
     State {
@@ -188,8 +189,8 @@ pub fn begin() -> State
 
 // A line has been answered: the text stands up to `put`, and the next line starts at `from`.
 pub fn answered(s: State, from: usize, put: usize) -> State
-    requires { ⌜ from ≤ s .feed .total ⌝ }
-    ensures { λ r. ⌜ (r .feed .from ≡ from) × (r .feed .total ≡ s .feed .total) × (r .put ≡ put) × (r ≡ T.answeredOf s from put) ⌝ }
+    requires { ⌜ T.Kept s × (from ≤ s .feed .total) × (put ≤ T.output) ⌝ }
+    ensures { λ r. ⌜ T.Kept r × (r ≡ T.answeredOf s from put) ⌝ }
 {
     let f = s.feed;
     let feed = past(f, from);
@@ -203,8 +204,8 @@ pub fn answered(s: State, from: usize, put: usize) -> State
 // More input is wanted. What stands in the text is written out before the read, so that whoever waits
 // for an answer has it.
 pub fn read_on(buf: &mut [u8], text: &[u8], s: State, limit: usize) -> State
-    requires { ⌜ (s .feed .from ≤ s .feed .total) × (s .feed .total ≤ length (now buf)) × (limit < length (now buf)) × (s .put ≤ length (now text)) ⌝ }
-    ensures { λ r. ⌜ (r .feed .from ≤ r .feed .total) × (r .feed .total ≤ length (now (buf .entry))) × (r .put ≡ 0) × T.Read s limit (now (buf .entry)) (now (buf .exit)) r ⌝ }
+    requires { ⌜ T.Kept s × (limit < T.input) × (length (now buf) ≡ T.input) × (length (now text) ≡ T.output) ⌝ }
+    ensures { λ r. ⌜ T.Kept r × T.Read s limit (now (buf .entry)) (now (buf .exit)) r ⌝ }
 {
     let f = s.feed;
     flush(text, s.put);
@@ -218,8 +219,8 @@ pub fn read_on(buf: &mut [u8], text: &[u8], s: State, limit: usize) -> State
 
 // The input has ended, and what stands in the text is written out.
 pub fn finish(text: &[u8], s: State) -> State
-    requires { ⌜ s .put ≤ length (now text) ⌝ }
-    ensures { λ r. ⌜ r ≡ T.finished s ⌝ }
+    requires { ⌜ T.Kept s × (length (now text) ≡ T.output) ⌝ }
+    ensures { λ r. ⌜ T.Kept r × (r ≡ T.finished s) ⌝ }
 {
     let feed = s.feed;
     flush(text, s.put);

@@ -1,4 +1,4 @@
--- A frame's shape (document 01, "Frame lines"): its type, length and characters, in the order of the refusals. Definitions only.
+-- A frame's shape (docs/RULES.md, Frame lines): its type, length and characters, in the order of the refusals. Definitions only.
 use mathlib.Core.Bool.{cond, not, _||_}
 use mathlib.Core.List.{List}
 use mathlib.Core.Path.{_≡_}
@@ -6,9 +6,9 @@ use Prim.Native.Nat.{ℕ, _+_, _*_, _≤_}
 use lib.ListN.{length}
 use lib.Dec.{ltb, eqb}
 use Rattle.hex.specs.Hex.{allHex, byteOf}
-use Rattle.shapes.specs.declared.Fault.the-variants.{TooLong, Foreign, Short, OtherType, RingLength, DiskShort, DiskLength}
+use Rattle.shapes.specs.declared.Fault.the-variants.{TooLong, Foreign, Short, RingLength, DiskShort, DiskLength}
 use Rattle.shapes.specs.declared.Shape.{Shape}
-use Rattle.shapes.specs.declared.Shape.the-variants.{Ring, Disk, BadCount, Malformed}
+use Rattle.shapes.specs.declared.Shape.the-variants.{Ring, Disk, BadCount, OtherType, Malformed}
 
 -- the type and 2 words for each of n samples; the type, the count, 3 words and 5 words for each of n pixels
 abbrev pub ringLength : ℕ → ℕ
@@ -33,7 +33,7 @@ unfoldable pub diskShape : List ℕ → Shape
 diskShape l = cond (ltb (length l) 30) (Malformed DiskShort) (countedShape (length l) (byteOf l 2 * 256 + byteOf l 4))
 
 unfoldable pub typedShape : List ℕ → Shape
-typedShape l = cond (eqb (byteOf l 0) 1) (ringShape l) (cond (eqb (byteOf l 0) 2) (diskShape l) (Malformed (OtherType (byteOf l 0))))
+typedShape l = cond (eqb (byteOf l 0) 1) (ringShape l) (cond (eqb (byteOf l 0) 2) (diskShape l) (OtherType (byteOf l 0)))
 
 -- too long; a foreign character; under 2 characters; another type; and then by the type
 unfoldable pub shapeOf : List ℕ → Shape
@@ -47,4 +47,5 @@ abbrev pub Sized : ℕ → Shape → Type 0
 Sized size Ring = size ≡ ringLength 16
 Sized size (Disk n) = (n ≤ 320) × (size ≡ diskLength n)
 Sized size (BadCount n) = 0 ≤ size
-Sized size (Malformed f) = 0 ≤ size
+Sized size (OtherType kind) = 0 ≤ size
+Sized size (Malformed fault) = 0 ≤ size

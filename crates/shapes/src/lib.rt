@@ -1,5 +1,5 @@
 // A frame's shape: what a line's type, length and characters say of it, before any value is read.
-// The order of the refusals is document 01's ("Frame lines"), and stands in specs/Shapes.antt.
+// The order of the refusals is that of docs/RULES.md, Frame lines, and stands in specs/Shapes.antt.
 ghost use mathlib.Core.Path.{_≡_};
 ghost use Prim.Native.Nat.{_≤_, _<_};
 ghost use lib.ListN.{length};
@@ -19,22 +19,23 @@ pub const PIXEL: usize = 40;
 pub const LIMIT: usize = DISK_HEAD + PIXEL * MAX_PIXELS;
 
 // What makes a line malformed: it is too long; it has a character that is no digit; it is too short for
-// a type; its type; the length that its type, or its count of pixels, asks for.
+// a type; the length that its type, or its count of pixels, asks for.
 pub enum Fault {
     TooLong,
     Foreign,
     Short,
-    OtherType(u32),
     RingLength,
     DiskShort,
     DiskLength(u32),
 }
 
-// A ring, a disk of so many pixels, a disk whose count is refused, or no frame at all.
+// A ring, a disk of so many pixels, a disk whose count is refused; a line of another type, which is
+// malformed too; or one that is malformed for a fault.
 pub enum Shape {
     Ring,
     Disk(u32),
     BadCount(u32),
+    OtherType(u32),
     Malformed(Fault),
 }
 
@@ -85,7 +86,7 @@ fn typed_shape(line: &[u8]) -> Shape
     if kind == 2 {
         return disk_shape(line);
     }
-    Shape::Malformed(Fault::OtherType(kind))
+    Shape::OtherType(kind)
 }
 
 pub fn shape_of(line: &[u8]) -> Shape

@@ -1,5 +1,4 @@
 -- The answer stands at the place that `room` gave, and its length is added to the place. Assumes nothing.
-use native.Mathlib.Omega.{arith}
 use borrow.Author.Needs.{needs}
 use Rattle.fitlines.proofs.line_turn.Statement.{statement}
 use Rattle.fitlines.proofs.line_turn.Tie as tie
@@ -7,16 +6,12 @@ use Rattle.fitlines.proofs.line_turn.Tie as tie
 returns : tie.Need-returns
 returns c =
     let b3 = c .before .before .before in
-    let b6 = b3 .before .before .before in (
-      search needs,
-      search needs,
-      omega arith,
+    let b6 = b3 .before .before .before in
+    let t = b3 .append .ensures .1 in (
+      c .answered .ensures .0,
       record {
-        text = rw (← b6 .room .ensures .1) (b3 .append .ensures .2);
-        state = rw (
-          ← b6 .room .ensures .1,
-          ← b3 .append .ensures .1,
-        ) (c .answered .ensures .3);
+        text = rw (← b6 .room .ensures .1) (t .text);
+        state = rw (← b6 .room .ensures .1, ← t .place) (c .answered .ensures .1);
       },
     )
 

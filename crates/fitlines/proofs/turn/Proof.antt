@@ -1,79 +1,41 @@
 -- Each thing found has its own function, and a found line ends within what is left of the buffer. Assumes nothing.
-use Rattle.lines.specs.Lines.{Within}
-use native.Mathlib.Omega.{arith}
 use mathlib.Core.Path.{subst, refl}
+use Rattle.lines.specs.Lines.{Within}
 use borrow.Author.Needs.{needs}
 use Rattle.fitlines.proofs.turn.Statement.{statement}
 use Rattle.fitlines.proofs.turn.Tie as tie
-
-add-line-turn : tie.Need-add-line-turn
-add-line-turn c =
-    let b3 = c .before .before .before in
-    let b5 = b3 .before .before in
-    let b10 = b5 .before .before .before .before .before in
-    let w = subst (Within (b10 .args .s .feed)) (b3 .found .given .1) (b5 .find .ensures .1) in
-    omega arith
 
 line-turn-requires : tie.Need-line-turn-requires
 line-turn-requires c κs =
     let b3 = c .before .before .before in
     let b5 = b3 .before .before in
     let b10 = b5 .before .before .before .before .before in
-    let w = subst (Within (b10 .args .s .feed)) (b3 .found .given .1) (b5 .find .ensures .1) in
-    omega arith
-
-line-turn-requires-2 : tie.Need-line-turn-requires-2
-line-turn-requires-2 c κs =
-    let b3 = c .before .before .before in
-    let b5 = b3 .before .before in
-    let b10 = b5 .before .before .before .before .before in
-    let w = subst (Within (b10 .args .s .feed)) (b3 .found2 .given .1) (b5 .find .ensures .1) in
-    omega arith
+    (search needs, subst (Within (b10 .args .s .feed)) (b3 .found .given .1) (b5 .find .ensures .1), search needs, search needs)
 
 returns : tie.Need-returns
 returns c =
     let b2 = c .before .before in
     let b6 = b2 .before .before .before .before in
     let b8 = b6 .before .before in
-    (search needs, omega arith, search needs, record { made = rw (← b8 .find .ensures .0, b6 .found .given .1) (b2 .line-turn .ensures .3, refl) })
+    (b2 .line-turn .ensures .0, record { made = rw (← b8 .find .ensures .0, b6 .found .given .1) (b2 .line-turn .ensures .1, refl) })
 
 returns-2 : tie.Need-returns-2
 returns-2 c =
     let b2 = c .before .before in
-    let b6 = b2 .before .before .before .before in
-    let b8 = b6 .before .before in
-    (search needs, omega arith, search needs, record { made = rw (← b8 .find .ensures .0, b6 .found2 .given .1) (b2 .line-turn2 .ensures .3, refl) })
+    let b5 = b2 .before .before .before in
+    let b7 = b5 .before .before in
+    (b2 .read-on .ensures .0, record { made = rw (← b7 .find .ensures .0, b5 .enum-told .given .1) (b2 .read-on .ensures .1, refl) })
 
 returns-3 : tie.Need-returns-3
 returns-3 c =
     let b2 = c .before .before in
-    let b5 = b2 .before .before .before in
-    let b7 = b5 .before .before in
-    (search needs, omega arith, omega arith, record { made = rw (← b7 .find .ensures .0, b5 .enum-told .given .1) (b2 .read-on .ensures .3, refl) })
-
-returns-4 : tie.Need-returns-4
-returns-4 c =
-    let b2 = c .before .before in
     let b4 = b2 .before .before in
-    let b9 = b4 .before .before .before .before .before in
-    rw (c .finish .ensures) (
-      b9 .pre .0,
-      b9 .pre .1,
-      search needs,
-      record {
-        made = rw (← b4 .find .ensures .0, b2 .enum-told2 .given .1) (
-          refl,
-          refl,
-          refl,
-        );
-      },
-    )
+    (c .finish .ensures .0, record { made = rw (← b4 .find .ensures .0, b2 .enum-told2 .given .1) (c .finish .ensures .1, refl, refl) })
 
 pub turn-spec : {M : Type 1} → statement M
 turn-spec =
     tie.close
     (tie.spec
-    (λ c κs. search needs) (λ c. search needs) add-line-turn line-turn-requires (λ c. search needs)
-    line-turn-requires-2 (λ c. search needs) (λ c κs. search needs) (λ c. search needs) (λ c κs. search needs)
-    (λ c. search needs) (λ c. search needs) returns (λ c. search needs) (λ c. search needs) returns-2
-    (λ c. search needs) (λ c. search needs) returns-3 (λ c. search needs) (λ c. search needs) returns-4)
+    (λ c κs. search needs) (λ c. search needs) line-turn-requires (λ c. search needs) (λ c κs. search needs)
+    (λ c. search needs) (λ c κs. search needs) (λ c. search needs) (λ c. search needs) returns (λ c. search needs)
+    (λ c. search needs) returns-2 (λ c. search needs) (λ c. search needs) returns-3)

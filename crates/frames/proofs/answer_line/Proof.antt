@@ -11,7 +11,11 @@ returns c = rw (lt-ltb _ _ (c .if1 .taken))
 
 returns-2 : tie.Need-returns-2
 unfolding replyOf
-returns-2 c = rw (le-ltb _ _ (c .before .before .before .before .before .if1 .left), c .before .before .write-answer .ensures .0, c .before .before .write-answer .ensures .1, c .before .before .before .before .answer-to .ensures)
+returns-2 c =
+    let b2 = c .before .before in
+    let b4 = b2 .before .before in
+    let b5 = b4 .before in
+    rw (le-ltb _ _ (b5 .if1 .left), b2 .write-answer .ensures .0, b2 .write-answer .ensures .1, b4 .answer-to .ensures)
 
 pub answer-line-spec : {M : Type 1} → statement M
 answer-line-spec =

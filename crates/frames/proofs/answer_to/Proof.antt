@@ -36,10 +36,14 @@ returns-4 : tie.Need-returns-4
 unfolding F.answerOf
 returns-4 c = rw (← c .before .before .before .shape-of .ensures .0, c .before .enum-told3 .given .1) (c .malformed .ensures)
 
+returns-5 : tie.Need-returns-5
+unfolding F.answerOf
+returns-5 c = rw (← c .before .before .before .shape-of .ensures .0, c .before .enum-told4 .given .1) (c .malformed2 .ensures)
+
 pub answer-to-spec : {M : Type 1} → statement M
 answer-to-spec =
     tie.close
     (tie.spec
     (λ c κs. search needs) (λ c. search needs) ring-line-requires (λ c. search needs) (λ c. search needs)
-    disk-line-requires (λ c. search needs) (λ c. search needs) (λ c κs. search needs) returns returns-2 returns-3
-    returns-4)
+    disk-line-requires (λ c. search needs) (λ c. search needs) (λ c κs. search needs) (λ c. search needs)
+    (λ c κs. search needs) returns returns-2 returns-3 returns-4 returns-5)

@@ -1,19 +1,29 @@
 -- The text and the line feed are one write. Assumes nothing.
-use mathlib.Core.List.{[], _∷_}
-use mathlib.Core.Path.{_≡_, _∙_, ap}
+use mathlib.Core.Path.{ap}
 use Prim.Native.Nat.{_+_}
 use native.Mathlib.Omega.{arith}
-use lib.ListN.{length, set, length-append}
 use Rattle.frames.specs.Frames.{lineText, textOf}
-use Rattle.hex.specs.Hex.{put}
-use Rattle.hex.specs.HexLaws.{put-one, put-put, put-length}
+use Rattle.hex.specs.Hex.{Written}
+use Rattle.hex.specs.HexLaws.{written-one, written-then}
 use borrow.Author.Needs.{needs}
 use Rattle.frames.proofs.append.Statement.{statement}
 use Rattle.frames.proofs.append.Tie as tie
 
 returns : tie.Need-returns
 unfolding lineText
-returns c = let l = c .before .before .before .before .before .before .before .before .args .out .now in let at = c .before .before .before .before .before .before .before .before .args .at in let t = textOf (c .before .before .before .before .before .kept-answer .result) in let n = c .before .before .before .before .text-len .result in let e : n ≡ length t = c .before .before .before .before .text-len .ensures .1 in let b = c .before .before .before .before .text-len .ensures .0 in let q = put-length l at t (omega (arith, c .before .before .before .before .before .before .before .before .pre)) in (omega arith, rw (← c .before .before .before .before .before .kept-answer .ensures) (omega (arith, length-append t (10 ∷ []))), rw (← c .before .before .before .before .before .kept-answer .ensures) (ap (λ m. set m (at + n) 10) (c .before .before .write-answer .ensures .1) ∙ put-one (put l at t) (at + n) 10 (omega (arith, c .before .before .before .before .before .before .before .before .pre)) ∙ put-put l at t (10 ∷ []) (at + n) (omega arith) (omega (arith, c .before .before .before .before .before .before .before .before .pre))))
+returns c =
+    let b2 = c .before .before in
+    let b4 = b2 .before .before in
+    let b5 = b4 .before in
+    let b8 = b5 .before .before .before in
+    let at = b8 .args .at in
+    let n = b4 .text-len .result in
+    let m = b2 .write-answer .last .1 .0 in
+    let fits = b4 .text-len .ensures .0 in
+    let w : Written (b8 .args .out .now) at (textOf (b5 .kept-answer .result)) m (at + n) =
+    record { text = b2 .write-answer .ensures .1; place = ap (λ k. at + k) (b4 .text-len .ensures .1) } in
+    let f = written-one {l = m} {at = at + n} 10 (omega (arith, b8 .pre)) in
+    (omega arith, rw (← b5 .kept-answer .ensures) (written-then w f (omega (arith, b8 .pre))))
 
 pub append-spec : {M : Type 1} → statement M
 append-spec =

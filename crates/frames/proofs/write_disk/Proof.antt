@@ -10,7 +10,23 @@ use Rattle.frames.proofs.write_disk.Tie as tie
 
 returns : tie.Need-returns
 unfolding F.diskText
-returns c = (refl, rw (c .before .before .put-byte .ensures, c .before .before .before .before .before .before .put-count2 .ensures, c .before .before .before .before .before .before .before .before .before .before .put-words .ensures, c .before .before .before .before .before .before .before .before .before .before .before .before .before .before .before .put-count .ensures, c .before .before .before .before .before .before .before .before .before .before .before .before .before .before .before .before .before .before .before .disk-words .ensures .0, c .before .before .before .before .before .before .before .before .before .before .before .before .before .before .before .before .before .as-number .ensures .1) (four-puts (c .before .before .before .before .before .before .before .before .before .before .before .before .before .before .before .before .before .before .before .before .before .args .out .now) (c .before .before .before .before .before .before .before .before .before .before .before .before .before .before .before .before .before .before .before .before .before .args .at) _ _ _ _ (unfold countText byteText in refl) (words-length (F.diskWords (c .before .before .before .before .before .before .before .before .before .before .before .before .before .before .before .before .before .before .before .before .before .args .m)) 11) (unfold countText byteText in refl) (unfold byteText in refl) (c .before .before .before .before .before .before .before .before .before .before .before .before .before .before .before .before .before .before .before .before .before .pre)))
+returns c =
+    let b4 = c .before .before .before .before in
+    let b8 = b4 .before .before .before .before in
+    let b12 = b8 .before .before .before .before in
+    let b16 = b12 .before .before .before .before in
+    let b20 = b16 .before .before .before .before in (
+      refl,
+      rw (
+        c .before .before .put-byte .ensures,
+        b4 .before .before .put-count2 .ensures,
+        b8 .before .before .put-words .ensures,
+        b12 .before .before .before .put-count .ensures,
+        b16 .before .before .before .disk-words .ensures .0,
+        b16 .before .as-number .ensures .1,
+      ) (four-puts (b20 .before .args .out .now) (b20 .before .args .at) _ _ _ _ (unfold countText byteText in
+          refl) (words-length (F.diskWords (b20 .before .args .m)) 11) (unfold countText byteText in refl) (unfold byteText in refl) (b20 .before .pre)),
+    )
 
 pub write-disk-spec : {M : Type 1} → statement M
 write-disk-spec =

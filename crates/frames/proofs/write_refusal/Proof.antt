@@ -11,7 +11,19 @@ use Rattle.frames.proofs.write_refusal.Tie as tie
 
 returns : tie.Need-returns
 unfolding refusalText countText byteText
-returns c = (refl, rw (c .before .before .put-count .ensures, c .before .before .before .before .before .before .put-byte2 .ensures, c .before .before .before .before .before .before .before .before .before .before .put-byte .ensures, put-put (c .before .before .before .before .before .before .before .before .before .before .before .before .before .args .out .now) (c .before .before .before .before .before .before .before .before .before .before .before .before .before .args .at) (byteText (c .before .before .before .before .before .before .before .before .before .before .before .before .before .args .kind)) (byteText (c .before .before .before .before .before .before .before .before .before .before .before .before .before .args .number)) (c .before .before .before .before .before .before .before .before .before .before .before .before .before .args .at + 2) (omega arith) (omega arith)) (put-put (c .before .before .before .before .before .before .before .before .before .before .before .before .before .args .out .now) (c .before .before .before .before .before .before .before .before .before .before .before .before .before .args .at) _ (countText (c .before .before .before .before .before .before .before .before .before .before .before .before .before .args .place)) (c .before .before .before .before .before .before .before .before .before .before .before .before .before .args .at + 4) (omega arith) (omega arith)))
+returns c =
+    let b6 = c .before .before .before .before .before .before in
+    let b10 = b6 .before .before .before .before in
+    let b13 = b10 .before .before .before in (
+      refl,
+      rw (
+        c .before .before .put-count .ensures,
+        b6 .put-byte2 .ensures,
+        b10 .put-byte .ensures,
+        put-put (b13 .args .out .now) (b13 .args .at) (byteText (b13 .args .kind)) (byteText (b13 .args .number)) (b13 .args .at + 2) (omega arith)
+            (omega arith),
+      ) (put-put (b13 .args .out .now) (b13 .args .at) _ (countText (b13 .args .place)) (b13 .args .at + 4) (omega arith) (omega arith)),
+    )
 
 pub write-refusal-spec : {M : Type 1} → statement M
 write-refusal-spec =

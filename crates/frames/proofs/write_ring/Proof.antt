@@ -11,7 +11,18 @@ use Rattle.frames.proofs.write_ring.Tie as tie
 
 returns : tie.Need-returns
 unfolding F.ringText countText byteText
-returns c = (refl, rw (c .before .before .put-words .ensures, c .before .before .before .before .before .before .before .put-count .ensures, c .before .before .before .before .before .before .before .before .before .ring-words .ensures .0) (put-put (c .before .before .before .before .before .before .before .before .before .before .before .args .out .now) (c .before .before .before .before .before .before .before .before .before .before .before .args .at) _ (wordsText (F.ringWords (c .before .before .before .before .before .before .before .before .before .before .before .args .r) (c .before .before .before .before .before .before .before .before .before .before .before .args .known)) 7) (c .before .before .before .before .before .before .before .before .before .before .before .args .at + 4) (omega arith) (omega (arith, words-length (F.ringWords (c .before .before .before .before .before .before .before .before .before .before .before .args .r) (c .before .before .before .before .before .before .before .before .before .before .before .args .known)) 7))))
+returns c =
+    let b7 = c .before .before .before .before .before .before .before in
+    let b9 = b7 .before .before in
+    let b11 = b9 .before .before in (
+      refl,
+      rw (
+        c .before .before .put-words .ensures,
+        b7 .put-count .ensures,
+        b9 .ring-words .ensures .0,
+      ) (put-put (b11 .args .out .now) (b11 .args .at) _ (wordsText (F.ringWords (b11 .args .r) (b11 .args .known)) 7)
+          (b11 .args .at + 4) (omega arith) (omega (arith, words-length (F.ringWords (b11 .args .r) (b11 .args .known)) 7))),
+    )
 
 pub write-ring-spec : {M : Type 1} → statement M
 write-ring-spec =

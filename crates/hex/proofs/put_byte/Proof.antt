@@ -15,7 +15,20 @@ slice-write-out-2 c = simp length-set (omega arith)
 
 returns : tie.Need-returns
 unfolding byteText
-returns c = let l = c .before .before .before .args .out .now in let at = c .before .before .before .args .at in let a = hexOf (c .before .before .before .args .b / 16) in let b = hexOf (c .before .before .before .args .b % 16) in let n : length (put l at (a ∷ [])) ≡ length l = put-length l at (a ∷ []) (omega arith) in rw (c .before .hex .ensures, c .hex2 .ensures, put-one l at a (omega arith), put-one (put l at (a ∷ [])) (at + 1) b (omega arith), put-put l at (a ∷ []) (b ∷ []) (at + 1) (omega arith) (omega arith))
+returns c =
+    let b3 = c .before .before .before in
+    let l = b3 .args .out .now in
+    let at = b3 .args .at in
+    let a = hexOf (b3 .args .b / 16) in
+    let b = hexOf (b3 .args .b % 16) in
+    let n : length (put l at (a ∷ [])) ≡ length l = put-length l at (a ∷ []) (omega arith) in
+    rw (
+      c .before .hex .ensures,
+      c .hex2 .ensures,
+      put-one l at a (omega arith),
+      put-one (put l at (a ∷ [])) (at + 1) b (omega arith),
+      put-put l at (a ∷ []) (b ∷ []) (at + 1) (omega arith) (omega arith),
+    )
 
 pub put-byte-spec : {M : Type 1} → statement M
 put-byte-spec =

@@ -8,7 +8,10 @@ use Rattle.hex.proofs.put_count.Tie as tie
 
 returns : tie.Need-returns
 unfolding countText byteText
-returns c = rw (c .before .before .put-byte2 .ensures, c .before .before .before .before .before .before .put-byte .ensures) (put-put (c .before .before .before .before .before .before .before .before .before .args .out .now) (c .before .before .before .before .before .before .before .before .before .args .at) _ _ _ (omega arith) (omega arith))
+returns c =
+    let b6 = c .before .before .before .before .before .before in
+    let b9 = b6 .before .before .before in
+    rw (c .before .before .put-byte2 .ensures, b6 .put-byte .ensures) (put-put (b9 .args .out .now) (b9 .args .at) _ _ _ (omega arith) (omega arith))
 
 pub put-count-spec : {M : Type 1} → statement M
 put-count-spec =

@@ -8,7 +8,11 @@ use Rattle.hex.proofs.put_word.Tie as tie
 
 returns : tie.Need-returns
 unfolding wordText countText byteText
-returns c = rw (c .before .before .put-count2 .ensures, c .before .before .before .before .before .before .put-count .ensures) (put-put (c .before .before .before .before .before .before .before .before .before .args .out .now) (c .before .before .before .before .before .before .before .before .before .args .at) _ _ _ (omega arith) (omega arith))
+returns c =
+    let b6 = c .before .before .before .before .before .before in
+    let b9 = b6 .before .before .before in
+    rw (c .before .before .put-count2 .ensures, b6 .put-count .ensures) (put-put (b9 .args .out .now) (b9 .args .at) _ _ _ (omega arith)
+    (omega arith))
 
 pub put-word-spec : {M : Type 1} → statement M
 put-word-spec =

@@ -19,7 +19,19 @@ loop-holds : tie.Need-loop-holds Inv-loop μ-loop
 loop-holds c = (search needs, search needs, rw words-none (sym (put-none _ _ (omega arith))))
 
 loop-again : tie.Need-loop-again Inv-loop μ-loop
-loop-again c = let e = words-length (c .before .before .before .before .before .before .before .before .before .args .ws .now) (c .before .before .before .before .before .before .loop .k) in let e2 = words-length (c .before .before .before .before .before .before .before .before .before .args .ws .now) (c .before .before .before .before .before .before .loop .k + 1) in (search needs, c .before .before .put-word .kept .0 ∙ c .before .before .before .before .before .before .loop .inv .1, c .before .before .put-word .ensures ∙ ap (λ l. put l (c .before .before .before .before .before .before .before .before .before .args .at + 8 * c .before .before .before .before .before .before .loop .k) (wordText (getD (c .before .before .before .before .before .before .before .before .before .args .ws .now) (c .before .before .before .before .before .before .loop .k) 0))) (c .before .before .before .before .before .before .loop .inv .2) ∙ rw words-next (put-put (c .before .before .before .before .before .before .before .before .before .args .out .now) (c .before .before .before .before .before .before .before .before .before .args .at) (wordsText (c .before .before .before .before .before .before .before .before .before .args .ws .now) (c .before .before .before .before .before .before .loop .k)) (wordText (getD (c .before .before .before .before .before .before .before .before .before .args .ws .now) (c .before .before .before .before .before .before .loop .k) 0)) (c .before .before .before .before .before .before .before .before .before .args .at + 8 * c .before .before .before .before .before .before .loop .k) (omega arith) (omega (arith, word-length (getD (c .before .before .before .before .before .before .before .before .before .args .ws .now) (c .before .before .before .before .before .before .loop .k) 0)))))
+loop-again c =
+    let b2 = c .before .before in
+    let b6 = b2 .before .before .before .before in
+    let b9 = b6 .before .before .before in
+    let e = words-length (b9 .args .ws .now) (b6 .loop .k) in
+    let e2 = words-length (b9 .args .ws .now) (b6 .loop .k + 1) in (
+      search needs,
+      b2 .put-word .kept .0 ∙ b6 .loop .inv .1,
+      b2 .put-word .ensures
+          ∙ ap (λ l. put l (b9 .args .at + 8 * b6 .loop .k) (wordText (getD (b9 .args .ws .now) (b6 .loop .k) 0))) (b6 .loop .inv .2)
+          ∙ rw words-next (put-put (b9 .args .out .now) (b9 .args .at) (wordsText (b9 .args .ws .now) (b6 .loop .k)) (wordText (getD (b9 .args .ws .now)
+          (b6 .loop .k) 0)) (b9 .args .at + 8 * b6 .loop .k) (omega arith) (omega (arith, word-length (getD (b9 .args .ws .now) (b6 .loop .k) 0)))),
+    )
 
 returns : tie.Need-returns Inv-loop μ-loop
 returns c = let h : c .before .loop .k ≡ length (c .before .before .before .before .args .ws .now) = omega arith in rw h at (c .before .loop .inv .2)

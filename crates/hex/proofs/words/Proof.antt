@@ -25,7 +25,10 @@ loop-again c = (search needs, simp length-set (search needs), rw iter-next (cc))
 
 returns : tie.Need-returns Inv-loop μ-loop
 unfolding wordListOf
-returns c = let h : c .before .loop .k ≡ length (c .before .before .before .before .args .out .now) = omega arith in rw h at (c .before .loop .inv .2) ∙ stored-all _ _ 0
+returns c =
+    let b4 = c .before .before .before .before in
+    let h : c .before .loop .k ≡ length (b4 .args .out .now) = omega arith in
+    rw h at (c .before .loop .inv .2) ∙ stored-all _ _ 0
 
 pub words-spec : {M : Type 1} → statement M
 words-spec =

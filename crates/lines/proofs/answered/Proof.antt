@@ -1,11 +1,10 @@
 -- The feed is past the line. Assumes nothing.
-use mathlib.Core.Path.{refl}
 use borrow.Author.Needs.{needs}
 use Rattle.lines.proofs.answered.Statement.{statement}
 use Rattle.lines.proofs.answered.Tie as tie
 
 returns : tie.Need-returns
-returns c = (c .past .ensures .0, c .past .ensures .1, refl, rw (c .past .ensures .2))
+returns c = (search needs, rw (c .past .ensures .2))
 
 pub answered-spec : {M : Type 1} → statement M
 answered-spec =

@@ -1,11 +1,10 @@
 -- Nothing is read or written yet. Assumes nothing.
-use mathlib.Core.Path.{refl}
 use borrow.Author.Needs.{needs}
 use Rattle.lines.proofs.begin.Statement.{statement}
 use Rattle.lines.proofs.begin.Tie as tie
 
 returns : tie.Need-returns
-returns c = (c .start .ensures .0, c .start .ensures .1, refl, rw (c .start .ensures .2))
+returns c = (search needs, rw (c .start .ensures .2))
 
 pub begin-spec : {M : Type 1} → statement M
 begin-spec =

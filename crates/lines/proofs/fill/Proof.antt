@@ -11,7 +11,22 @@ use Rattle.lines.proofs.fill.Tie as tie
 
 returns : tie.Need-returns
 unfolding filled
-returns c = (search needs, search needs, record { came = c .before .before .count .result; feed = rw (c .before .before .before .before .before .before .before .before .before .before .before .before .before .gone .ensures, c .before .before .before .before .before .before .before .before .before .before .before .kept .ensures .2); front = rw (← c .before .before .before .before .before .before .before .before .before .before .before .kept .ensures .2) (take-put (c .before .before .before .before .before .before .before .before .before .before .before .kept .result) (length (c .before .before .before .before .before .before .before .before .before .before .before .kept .last .0) - c .before .before .before .before .before .before .before .before .before .before .before .kept .result) (c .before .before .before .before .before .before .before .before .before .before .before .kept .last .0) (c .before .before .before .before .before .before .read .last .1 .0) (omega arith) ∙ c .before .before .before .before .before .before .before .before .before .before .before .kept .ensures .3) })
+returns c =
+    let b6 = c .before .before .before .before .before .before in
+    let b11 = b6 .before .before .before .before .before in
+    let b13 = b11 .before .before in (
+      search needs,
+      search needs,
+      record {
+        came = c .before .before .count .result;
+        feed = rw (
+          b13 .gone .ensures,
+          b11 .kept .ensures .2,
+        );
+        front = rw (← b11 .kept .ensures .2) (take-put (b11 .kept .result) (length (b11 .kept .last .0) - b11 .kept .result)
+            (b11 .kept .last .0) (b6 .read .last .1 .0) (omega arith) ∙ b11 .kept .ensures .3);
+      },
+    )
 
 pub fill-spec : {M : Type 1} → statement M
 fill-spec =

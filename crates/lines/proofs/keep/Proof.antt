@@ -20,10 +20,28 @@ loop-holds : tie.Need-loop-holds Inv-loop μ-loop
 loop-holds c = (search needs, search needs, rw iter-zero)
 
 loop-again : tie.Need-loop-again Inv-loop μ-loop
-loop-again c = (search needs, simp length-set (c .before .before .loop .inv .1), rw (iter-next, ← c .before .before .loop .inv .2, ← untouched (λ p. getD (c .before .before .before .args .buf .now) (c .before .before .before .args .at + p) 0) (c .before .before .before .args .buf .now) (c .before .before .before .args .at + c .before .before .loop .i) (c .before .before .loop .i) (omega arith), ← c .before .before .loop .inv .2))
+loop-again c =
+    let b2 = c .before .before in
+    let b3 = b2 .before in (
+      search needs,
+      simp length-set (b2 .loop .inv .1),
+      rw (
+        iter-next,
+        ← b2 .loop .inv .2,
+        ← untouched (λ p. getD (b3 .args .buf .now) (b3 .args .at + p) 0) (b3 .args .buf .now) (b3 .args .at + b2 .loop .i) (b2 .loop .i)
+            (omega arith),
+        ← b2 .loop .inv .2,
+      ),
+    )
 
 returns : tie.Need-returns Inv-loop μ-loop
-returns c = let h : c .before .loop .i ≡ c .before .before .args .total - c .before .before .args .at = omega arith in (refl, ap (λ l. take (c .before .before .args .total - c .before .before .args .at) l) (rw h at (c .before .loop .inv .2)) ∙ moved-front (c .before .before .args .buf .now) (c .before .before .args .at) (c .before .before .args .total - c .before .before .args .at) (omega arith))
+returns c =
+    let b2 = c .before .before in
+    let h : c .before .loop .i ≡ b2 .args .total - b2 .args .at = omega arith in (
+      refl,
+      ap (λ l. take (b2 .args .total - b2 .args .at) l) (rw h at (c .before .loop .inv .2))
+          ∙ moved-front (b2 .args .buf .now) (b2 .args .at) (b2 .args .total - b2 .args .at) (omega arith),
+    )
 
 pub keep-spec : {M : Type 1} → statement M
 keep-spec =

@@ -16,7 +16,15 @@ returns-2 c = (search needs, search needs, rw (c .before .if1 .left, lt-ltb _ _ 
 
 returns-3 : tie.Need-returns-3
 unfolding keptOf isGone
-returns-3 c = (search needs, search needs, rw (c .before .before .before .before .before .if1 .left, le-ltb _ _ (c .before .before .before .before .if2 .left)) (c .before .before .keep .ensures .0), rw (c .before .before .keep .ensures .0) (c .before .before .keep .ensures .1))
+returns-3 c =
+    let b2 = c .before .before in
+    let b4 = b2 .before .before in
+    let b5 = b4 .before in (
+      search needs,
+      search needs,
+      rw (b5 .if1 .left, le-ltb _ _ (b4 .if2 .left)) (b2 .keep .ensures .0),
+      rw (b2 .keep .ensures .0) (b2 .keep .ensures .1),
+    )
 
 pub kept-spec : {M : Type 1} → statement M
 kept-spec =

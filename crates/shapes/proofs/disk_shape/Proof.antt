@@ -11,7 +11,14 @@ returns c = (rw (lt-ltb _ _ (c .if1 .taken)), search needs)
 
 returns-2 : tie.Need-returns-2
 unfolding S.diskShape
-returns-2 c = (rw (le-ltb _ _ (c .before .before .before .if1 .left), ← c .before .before .byte-at .ensures .1, ← c .before .byte-at2 .ensures .1) (c .counted-shape .ensures .0), c .counted-shape .ensures .1)
+returns-2 c = (
+  rw (
+    le-ltb _ _ (c .before .before .before .if1 .left),
+    ← c .before .before .byte-at .ensures .1,
+    ← c .before .byte-at2 .ensures .1,
+  ) (c .counted-shape .ensures .0),
+  c .counted-shape .ensures .1,
+)
 
 pub disk-shape-spec : {M : Type 1} → statement M
 disk-shape-spec =

@@ -11,7 +11,14 @@ returns c = (rw (← c .before .before .byte-at .ensures .1, eq-eqb _ _ (c .befo
 
 returns-2 : tie.Need-returns-2
 unfolding S.typedShape
-returns-2 c = (rw (← c .before .before .before .byte-at .ensures .1, ne-eqb _ _ (c .before .before .if1 .left), eq-eqb _ _ (c .before .if2 .taken)) (c .disk-shape .ensures .0), c .disk-shape .ensures .1)
+returns-2 c = (
+  rw (
+    ← c .before .before .before .byte-at .ensures .1,
+    ne-eqb _ _ (c .before .before .if1 .left),
+    eq-eqb _ _ (c .before .if2 .taken),
+  ) (c .disk-shape .ensures .0),
+  c .disk-shape .ensures .1,
+)
 
 returns-3 : tie.Need-returns-3
 unfolding S.typedShape

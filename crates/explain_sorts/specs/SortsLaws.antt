@@ -1,0 +1,33 @@
+-- The search for a value that is not finite goes on, or ends here; and what a fault's sort asks. Assumes nothing.
+use mathlib.Core.Path.{_≡_}
+use mathlib.Core.Bool.{true, false, not}
+use mathlib.Core.List.{List}
+use Prim.Native.Nat.{ℕ, suc, _+_, _-_, _*_, _<_}
+use native.Mathlib.Omega.{arith}
+use lib.Ieee.Scale.{finite}
+use Rattle.hex.specs.Hex.{valueOf}
+use Rattle.shapes.specs.declared.Fault.{Fault}
+use Rattle.shapes.specs.declared.Fault.the-variants.{TooLong, Foreign, Short, RingLength, DiskShort, DiskLength}
+use Rattle.explain_sorts.specs.Sorts.{wildFrom, Sound, faultSort}
+
+module _ (l : List ℕ) (at n k : ℕ) where
+  pub wild-on : k < n → not (finite (valueOf l (at + 8 * k))) ≡ false → wildFrom l at (n - (k + 1)) (k + 1) ≡ wildFrom l at (n - k) k
+  unfolding wildFrom
+  wild-on h e = let z : n - k ≡ suc (n - (k + 1)) = omega arith in rw (z, e)
+
+  pub wild-here : k < n → not (finite (valueOf l (at + 8 * k))) ≡ true → k ≡ wildFrom l at (n - k) k
+  unfolding wildFrom
+  wild-here h e = let z : n - k ≡ suc (n - (k + 1)) = omega arith in rw (z, e)
+
+  pub wild-none : n ≡ k → n ≡ wildFrom l at (n - k) k
+  unfolding wildFrom
+  wild-none e = let z : n - k ≡ 0 = omega arith in rw z e
+
+-- a fault's sort asks nothing of the line's length
+pub fault-sound : (size : ℕ) (fault : Fault) → Sound size (faultSort fault)
+fault-sound size TooLong = omega arith
+fault-sound size Foreign = omega arith
+fault-sound size Short = omega arith
+fault-sound size RingLength = omega arith
+fault-sound size DiskShort = omega arith
+fault-sound size (DiskLength n) = omega arith

@@ -1,0 +1,2 @@
+pub mod Tell
+pub mod TellLaws
