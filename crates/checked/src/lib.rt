@@ -240,7 +240,11 @@ fn disk_looked(
 ) -> DiskAnswer
     requires { ⌜ (length (now xs) ≤ 320) × (length (now ys) ≡ length (now xs)) × (length (now «vals_centered») ≡ length (now xs)) ×
         (length (now «grad_angles») ≡ length (now xs)) × (length (now «grad_weights») ≡ length (now xs)) ⌝ }
-    ensures { λ r. ⌜ r ≡ C.diskLooked (diskOf «val_energy» (now (xs .entry)) (now (ys .entry)) (now («vals_centered» .entry)) (now («grad_angles» .entry)) (now («grad_weights» .entry))) base0 base1 (C.firstWild (C.diskInputs (diskOf «val_energy» (now (xs .entry)) (now (ys .entry)) (now («vals_centered» .entry)) (now («grad_angles» .entry)) (now («grad_weights» .entry))) base0 base1)) ⌝ }
+    ensures { λ r. ⌜ r ≡ C.diskLooked
+        (diskOf «val_energy» (now (xs .entry)) (now (ys .entry)) (now («vals_centered» .entry)) (now («grad_angles» .entry))
+        (now («grad_weights» .entry))) base0 base1
+        (C.firstWild (C.diskInputs (diskOf «val_energy» (now (xs .entry)) (now (ys .entry)) (now («vals_centered» .entry))
+        (now («grad_angles» .entry)) (now («grad_weights» .entry))) base0 base1)) ⌝ }
 {
     let wild = disk_wild(
         val_energy,
@@ -278,7 +282,9 @@ pub fn fit_disk(
     grad_angles: &[f32],
     grad_weights: &[f32],
 ) -> DiskAnswer
-    ensures { λ r. ⌜ r ≡ C.checkedDisk (diskOf «val_energy» (now (xs .entry)) (now (ys .entry)) (now («vals_centered» .entry)) (now («grad_angles» .entry)) (now («grad_weights» .entry))) base0 base1 ⌝ }
+    ensures { λ r. ⌜ r ≡ C.checkedDisk
+        (diskOf «val_energy» (now (xs .entry)) (now (ys .entry)) (now («vals_centered» .entry)) (now («grad_angles» .entry))
+        (now («grad_weights» .entry))) base0 base1 ⌝ }
 {
     let n = xs.len();
     if n == 0 {

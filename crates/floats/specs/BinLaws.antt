@@ -1,4 +1,5 @@
--- `floor`, and the saturating cast of a float to an unsigned integer of 64 bits after it: the cast alone gives the same number, since it drops the fraction and takes what is below zero to 0.
+-- `floor`, and the saturating cast of a float to an unsigned integer of 64 bits after it: the cast alone gives the same number, since it drops the
+-- fraction and takes what is below zero to 0.
 -- And the bin of an angle: ((angle / PI) * HIST_BINS as f32).floor() as usize % HIST_BINS. Assumes nothing.
 use mathlib.Core.Path.{_≡_, refl, sym, ap, _∙_, subst}
 use Prim.Native.Nat.{ℕ, zero, suc, _+_, _-_, _*_, _/_, _%_, _^_, _≤_, _<_, min, zero-le}
@@ -25,7 +26,9 @@ cast-of-value (fin s m e) n v =
     ∙ ap (λ (z : ℕ). min z (2 ^ 64 - 1)) (ap (λ (z : ℕ). z / down e) (sym (mul-one (m * up e)) ∙ v .1) ∙ mul-div-cancel n (down-pos e))
 
 below-zero : (f : Format) (n : ℕ) → toIndex (round f true n 1) ≡ 0
-below-zero f n = ap toIndex (lib.Ieee.Fits.round-is f true n 1) ∙ go (lib.Ieee.Order.kept (prec f) (n * 2 ^ lib.Ieee.low f) 1) (lib.Ieee.Order.drop (prec f) (n * 2 ^ lib.Ieee.low f) 1)
+below-zero f n =
+    ap toIndex (lib.Ieee.Fits.round-is f true n 1) ∙
+    go (lib.Ieee.Order.kept (prec f) (n * 2 ^ lib.Ieee.low f) 1) (lib.Ieee.Order.drop (prec f) (n * 2 ^ lib.Ieee.low f) 1)
   where
     odd-none : (d q k l : ℕ) → toIndex (lib.Ieee.odd d true q k l) ≡ 0
     odd-none d zero k l = unfold toUnsigned lib.Ieee.odd in refl
@@ -41,7 +44,8 @@ below-zero f n = ap toIndex (lib.Ieee.Fits.round-is f true n 1) ∙ go (lib.Ieee
     go : (q k : ℕ) → toIndex (lib.Ieee.units f true q k) ≡ 0
     go q k =
         unfold lib.Ieee.units in
-        pick (ltb (q * 2 ^ k) (2 ^ (lib.Ieee.low f + suc (lib.Ieee.emax f)))) (lib.Ieee.odd (suc (prec f)) true q k (lib.Ieee.low f)) (inf true) (odd-none (suc (prec f)) q k (lib.Ieee.low f)) inf-none
+        pick (ltb (q * 2 ^ k) (2 ^ (lib.Ieee.low f + suc (lib.Ieee.emax f)))) (lib.Ieee.odd (suc (prec f)) true q k (lib.Ieee.low f)) (inf true)
+        (odd-none (suc (prec f)) q k (lib.Ieee.low f)) inf-none
 
 few : (f : Format) (s : Bool) (m : ℕ) (e : ℤ) → T (fits f (fin s m e)) → m ≤ 2 ^ prec f
 unfolding fits
@@ -61,7 +65,8 @@ floor-cast f (fin true m (pos k)) p = refl
 floor-cast f (fin false m (pos k)) p = refl
 floor-cast f (fin true m (negsuc k)) p = below-zero f ((m + (2 ^ suc k - 1)) / 2 ^ suc k) ∙ unfold toUnsigned in refl
 floor-cast f (fin false m (negsuc k)) p =
-    cast-of-value (round f false (m / 2 ^ suc k) 1) (m / 2 ^ suc k) (round-whole f false (m / 2 ^ suc k) (le-trans (div-le-self m (2 ^ suc k)) (few f false m (negsuc k) p)))
+    cast-of-value (round f false (m / 2 ^ suc k) 1) (m / 2 ^ suc k)
+    (round-whole f false (m / 2 ^ suc k) (le-trans (div-le-self m (2 ^ suc k)) (few f false m (negsuc k) p)))
     ∙ unfold toUnsigned in (ap (λ (z : ℕ). min (z / 2 ^ suc k) (2 ^ 64 - 1)) (sym (mul-one m)))
 
 -- ---- at the ends of the range
@@ -72,7 +77,8 @@ cast-low nan h = refl
 cast-low (inf true) h = refl
 cast-low (inf false) h = absurd (true≢false h)
 cast-low (fin true m e) h = refl
-cast-low (fin false m e) h = absurd (true≢false (sym (yes (1 * 1 * down e + m * up e * 1) (some (1 * 1 * down e) (m * up e * 1) (mul-pos (zero-lt-suc 0) (down-pos e)))) ∙ h))
+cast-low (fin false m e) h =
+    absurd (true≢false (sym (yes (1 * 1 * down e + m * up e * 1) (some (1 * 1 * down e) (m * up e * 1) (mul-pos (zero-lt-suc 0) (down-pos e)))) ∙ h))
   where
     yes : (n : ℕ) → 0 < n → ltb 0 n ≡ true
     yes n h = lib.Ieee.Bits.is-true (ltb 0 n) (lt→ltb 0 n h)
@@ -86,7 +92,8 @@ unfolding toUnsigned lt
 cast-high nan a b = absurd (false≢true a)
 cast-high (inf true) a b = absurd (false≢true a)
 cast-high (inf false) a b = refl
-cast-high (fin true m e) a b = absurd (true≢false (sym (yes (m * up e * 1 + 1 * 2 ^ 64 * down e) (some (m * up e * 1) (1 * 2 ^ 64 * down e) (mul-pos (pow-pos 64) (down-pos e)))) ∙ b))
+cast-high (fin true m e) a b =
+    absurd (true≢false (sym (yes (m * up e * 1 + 1 * 2 ^ 64 * down e) (some (m * up e * 1) (1 * 2 ^ 64 * down e) (mul-pos (pow-pos 64) (down-pos e)))) ∙ b))
   where
     yes : (n : ℕ) → 0 < n → ltb 0 n ≡ true
     yes n h = lib.Ieee.Bits.is-true (ltb 0 n) (lt→ltb 0 n h)
@@ -94,7 +101,8 @@ cast-high (fin true m e) a b = absurd (true≢false (sym (yes (m * up e * 1 + 1 
     some : (a b : ℕ) → 0 < b → 0 < a + b
     some a b h = omega arith
 cast-high (fin false m e) a b =
-    let g : 2 ^ 64 * down e ≤ m * up e = le-trans (nltb→le (m * up e * 1) (2 ^ 64 * down e) (subst (λ (t : Bool). T (not t)) (sym b) tt)) (le-of-eq (mul-one (m * up e))) in
+    let g : 2 ^ 64 * down e ≤ m * up e = le-trans (nltb→le (m * up e * 1) (2 ^ 64 * down e) (subst (λ (t : Bool). T (not t)) (sym b) tt))
+    (le-of-eq (mul-one (m * up e))) in
     cap (m * up e / down e) (le-div-iff-mul-le (down-pos e) .1 g)
   where
     cap : (n : ℕ) → 2 ^ 64 ≤ n → min n (2 ^ 64 - 1) ≡ 2 ^ 64 - 1

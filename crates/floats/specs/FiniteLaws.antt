@@ -40,7 +40,8 @@ has-finite (fin t m e) s a c v = tt
 nothing : (f : Format) (n c : ℕ) → 0 < c → n ≡ 0 → T (finite (round f false n c))
 nothing f n c C e =
     has-finite (round f false n c) false n c
-    (round-exact f false n c 0 0 C (pow-pos (prec f)) (pow-pos (low f + suc (emax f))) (ap (λ (z : ℕ). z * 2 ^ low f) e ∙ zero-mul (2 ^ low f) ∙ sym (zero-mul c)))
+    (round-exact f false n c 0 0 C (pow-pos (prec f)) (pow-pos (low f + suc (emax f))) (ap (λ (z : ℕ). z * 2 ^ low f) e ∙ zero-mul (2 ^ low f) ∙
+    sym (zero-mul c)))
 
 differ : (f : Format) (s : Bool) (m : ℕ) (e : ℤ) → sub f (fin s m e) (fin s m e) ≡ round f false (m * up e * down e - m * up e * down e) (down e * down e)
 unfolding sub add neg

@@ -47,7 +47,8 @@ pub min-right : (f : Format) (x y : Float) → T (fits f x) → T (fits f y) →
 unfolding min
 min-right f x y p q m = go (isNan x) (isNan y) (before y x) (λ t. t) m (not-before f y x q p)
   where
-    go : (a b c : Bool) → (T (not a) → T (not (isNan x))) → T (not b) → (T (not (isNan y)) → T (not (isNan x)) → c ≡ false → T (le x y)) → T (le (cond a y (cond b x (cond c y x))) y)
+    go : (a b c : Bool) → (T (not a) → T (not (isNan x))) → T (not b) → (T (not (isNan y)) → T (not (isNan x)) → c ≡ false → T (le x y)) →
+        T (le (cond a y (cond b x (cond c y x))) y)
     go true b c s t k = self f y y q q y q m
     go false true c s t k = absurd t
     go false false true s t k = self f y y q q y q m
@@ -70,7 +71,8 @@ zero-value : (x : Float) → eq x nought ≡ true → HasValue x (negative x) 0 
 unfolding eq negative ofBits
 zero-value nan t = absurd (false≢true t)
 zero-value (inf s) t = absurd (false≢true t)
-zero-value (fin s m e) t = (refl, eqb→eq (m * up e * 1) (0 * 1 * down e) (and-l (eqb (m * up e * 1) (0 * 1 * down e)) (Bool·beq s false || eqb (m * up e * 1) 0) (of-true t)))
+zero-value (fin s m e) t =
+    (refl, eqb→eq (m * up e * 1) (0 * 1 * down e) (and-l (eqb (m * up e * 1) (0 * 1 * down e)) (Bool·beq s false || eqb (m * up e * 1) 0) (of-true t)))
 
 zero-fits : (f : Format) (s : Bool) → T (fits f (fin s 0 (pos 0)))
 unfolding fits
@@ -92,11 +94,15 @@ same-sign (fin s m e) nan t z = absurd (false≢true t)
 same-sign (fin s m e) (inf u) t z = absurd (false≢true t)
 same-sign (fin false m e) (fin u n d) t z = refl
 same-sign (fin true m e) (fin true n d) t z = refl
-same-sign (fin true m e) (fin false n d) t z = absurd (true≢false (sym (none m (nothing (m * up e) (down d) (down-pos d) (eqb→eq (m * up e * down d) 0 (and-r (eqb (m * up e * down d) (n * up d * down e)) (eqb (m * up e * down d) 0) (of-true t))))) ∙ z))
+same-sign (fin true m e) (fin false n d) t z =
+    absurd (true≢false (sym (none m
+    (nothing (m * up e) (down d) (down-pos d)
+    (eqb→eq (m * up e * down d) 0 (and-r (eqb (m * up e * down d) (n * up d * down e)) (eqb (m * up e * down d) 0) (of-true t))))) ∙ z))
   where
     nothing : (a d : ℕ) → 0 < d → a * d ≡ 0 → a ≡ 0
     nothing zero d h k = refl
-    nothing (suc a) d h k = absurd (native.Mathlib.Nat.lt-irrefl 0 (subst (λ (w : ℕ). 0 < w) k (native.Mathlib.Nat.mul-pos (native.Mathlib.Nat.zero-lt-suc a) h)))
+    nothing (suc a) d h k =
+        absurd (native.Mathlib.Nat.lt-irrefl 0 (subst (λ (w : ℕ). 0 < w) k (native.Mathlib.Nat.mul-pos (native.Mathlib.Nat.zero-lt-suc a) h)))
 
     none : (m : ℕ) → m * up e ≡ 0 → level true (m * up e * 1) false (0 * 1 * down e) ≡ true
     none m h = ap (λ (w : ℕ). eqb (w * 1) (0 * 1 * down e) && eqb (w * 1) 0) h ∙ ap (λ (w : ℕ). eqb 0 w && true) (zero-mul (down e))
@@ -177,10 +183,16 @@ turned-zeros binary64 false false = refl
 
 module _ (f : Format) (x y : Float) (p : T (fits f x)) (q : T (fits f y)) where
   pub max-zeros : eq x y ≡ true → eq x nought ≡ true → add f x y ≡ max x y
-  max-zeros g z = subst (λ (u : Float). add f u y ≡ max u y) (sym (zero-is f x p z)) (subst (λ (u : Float). add f (fin (negative x) 0 (pos 0)) u ≡ max (fin (negative x) 0 (pos 0)) u) (sym (zero-is f y q (zero-across f x y p g z))) (sum-zeros f (negative x) (negative y)))
+  max-zeros g z =
+      subst (λ (u : Float). add f u y ≡ max u y) (sym (zero-is f x p z))
+      (subst (λ (u : Float). add f (fin (negative x) 0 (pos 0)) u ≡ max (fin (negative x) 0 (pos 0)) u)
+      (sym (zero-is f y q (zero-across f x y p g z))) (sum-zeros f (negative x) (negative y)))
 
   pub min-zeros : eq y x ≡ true → eq y nought ≡ true → neg (add f (neg x) (neg y)) ≡ min x y
-  min-zeros g z = subst (λ (u : Float). neg (add f (neg x) (neg u)) ≡ min x u) (sym (zero-is f y q z)) (subst (λ (u : Float). neg (add f (neg u) (neg (fin (negative y) 0 (pos 0)))) ≡ min u (fin (negative y) 0 (pos 0))) (sym (zero-is f x p (zero-across f y x q g z))) (turned-zeros f (negative x) (negative y)))
+  min-zeros g z =
+      subst (λ (u : Float). neg (add f (neg x) (neg u)) ≡ min x u) (sym (zero-is f y q z))
+      (subst (λ (u : Float). neg (add f (neg u) (neg (fin (negative y) 0 (pos 0)))) ≡ min u (fin (negative y) 0 (pos 0)))
+      (sym (zero-is f x p (zero-across f y x q g z))) (turned-zeros f (negative x) (negative y)))
 
 -- ---- the greater of a value and 0 is the value where that is above 0, and else 0: of a NaN and of -0 too
 some : (m : ℕ) (e : ℤ) → 0 < suc m * up e * 1

@@ -1,4 +1,5 @@
--- Which bit patterns are a NaN's: those whose digits and exponent's field, the sign left off, are above the infinity's. Stated over the format. Assumes nothing.
+-- Which bit patterns are a NaN's: those whose digits and exponent's field, the sign left off, are above the infinity's. Stated over the format.
+-- Assumes nothing.
 use mathlib.Core.Path.{_≡_, refl, sym, subst, _∙_}
 use mathlib.Core.Bool.{Bool, true, not, false≢true}
 use Prim.Native.Nat.{ℕ, _*_, _%_, _≤_, _<_}

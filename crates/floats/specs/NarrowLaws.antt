@@ -1,4 +1,5 @@
--- An f64 to the nearest f32, ties to the even one, and how whole numbers find it. A positive f64 is m * 2 ^ (e - 1) of its units, with the field e and m of 53 digits.
+-- An f64 to the nearest f32, ties to the even one, and how whole numbers find it. A positive f64 is m * 2 ^ (e - 1) of its units, with the field e
+-- and m of 53 digits.
 -- In units of the f32 that is m * 2 ^ (e - 1) / 2 ^ 925. Assumes nothing.
 use mathlib.Core.Path.{_≡_, refl, sym, ap, _∙_, subst}
 use mathlib.Core.Logic.{inl, inr}
@@ -28,7 +29,8 @@ pub narrow-at : (x : Float) (n : ℕ) → Val binary64 x false n → narrow x �
 unfolding narrow
 narrow-at nan n v = absurd v
 narrow-at (inf s) n v = absurd v
-narrow-at (fin s m e) n v = round-same binary32 s (m * up e) (down e) n (2 ^ 1074) (down-pos e) (pow-pos 1074) (v .1) ∙ ap (λ (b : Bool). round binary32 b n (2 ^ 1074)) (v .0)
+narrow-at (fin s m e) n v =
+    round-same binary32 s (m * up e) (down e) n (2 ^ 1074) (down-pos e) (pow-pos 1074) (v .1) ∙ ap (λ (b : Bool). round binary32 b n (2 ^ 1074)) (v .0)
 
 -- ---- `round`, in units of the f32: k digits of n / 2 ^ 925 are dropped
 round-k : (n k : ℕ) → size (n / 2 ^ 925) - 24 ≡ k → round binary32 false n (2 ^ 1074) ≡ units binary32 false (closest n (2 ^ 925 * 2 ^ k)) k
@@ -51,9 +53,12 @@ module _ (m e : ℕ) (lo : 2 ^ 52 ≤ m) (hi : m < 2 ^ 53) where
       let z = e - 874 in
       let k = e - 897 in
       let a : 2 ^ z ≤ n / 2 ^ 925 =
-      le-div-iff-mul-le (pow-pos 925) .1 (le-trans (le-of-eq (sym (pow-add 2 z 925) ∙ ap (λ (y : ℕ). 2 ^ y) (low-end e h) ∙ pow-add 2 52 (e - 1))) (mul-le-mul-right (2 ^ (e - 1)) lo)) in
+      le-div-iff-mul-le (pow-pos 925) .1
+      (le-trans (le-of-eq (sym (pow-add 2 z 925) ∙ ap (λ (y : ℕ). 2 ^ y) (low-end e h) ∙ pow-add 2 52 (e - 1))) (mul-le-mul-right (2 ^ (e - 1)) lo)) in
       let b : n / 2 ^ 925 < 2 ^ suc z =
-      div-lt-iff-lt-mul (pow-pos 925) .1 (lt-of-lt-of-le (mul-lt-mul-of-pos-right hi (pow-pos (e - 1))) (le-of-eq (sym (pow-add 2 53 (e - 1)) ∙ ap (λ (y : ℕ). 2 ^ y) (high-end e h) ∙ pow-add 2 (suc z) 925))) in
+      div-lt-iff-lt-mul (pow-pos 925) .1
+      (lt-of-lt-of-le (mul-lt-mul-of-pos-right hi (pow-pos (e - 1))) (le-of-eq (sym (pow-add 2 53 (e - 1)) ∙
+      ap (λ (y : ℕ). 2 ^ y) (high-end e h) ∙ pow-add 2 (suc z) 925))) in
       round-k n k (ap (λ (y : ℕ). y - 24) (size-is (n / 2 ^ 925) z a b) ∙ dropped e h)
       ∙ ap (λ (y : ℕ). units binary32 false y k)
       (closest-same n (2 ^ 925 * 2 ^ k) m (2 ^ 29) (mul-pos (pow-pos 925) (pow-pos k)) (pow-pos 29)
@@ -75,7 +80,9 @@ module _ (m e : ℕ) (lo : 2 ^ 52 ≤ m) (hi : m < 2 ^ 53) where
   pub narrow-low : 1 ≤ e → e < 897 → round binary32 false n (2 ^ 1074) ≡ units binary32 false (closest m (2 ^ (926 - e))) 0
   narrow-low p h =
       let b : n / 2 ^ 925 < 2 ^ 24 =
-      div-lt-iff-lt-mul (pow-pos 925) .1 (lt-of-lt-of-le (mul-lt-mul-of-pos-right hi (pow-pos (e - 1))) (le-trans (le-of-eq (sym (pow-add 2 53 (e - 1)))) (le-trans (pow-mono (short e h)) (le-of-eq (pow-add 2 24 925))))) in
+      div-lt-iff-lt-mul (pow-pos 925) .1
+      (lt-of-lt-of-le (mul-lt-mul-of-pos-right hi (pow-pos (e - 1)))
+      (le-trans (le-of-eq (sym (pow-add 2 53 (e - 1)))) (le-trans (pow-mono (short e h)) (le-of-eq (pow-add 2 24 925))))) in
       round-k n 0 (none (size (n / 2 ^ 925)) (size-le (n / 2 ^ 925) 24 b))
       ∙ ap (λ (y : ℕ). units binary32 false y 0)
       (closest-same n (2 ^ 925) m (2 ^ (926 - e)) (pow-pos 925) (pow-pos (926 - e))
@@ -111,7 +118,8 @@ closest-tie a b h = sym (go (compare (a % b * 2) b) (eq→eqb h))
     go Ordering·gt t = absurd t
 
 pub closest-down : (a b : ℕ) → a % b * 2 < b → a / b ≡ closest a b
-closest-down a b h = sym (go (compare (a % b * 2) b) (lib.Dec.le→leb (a % b * 2) b (le-of-lt h)) (λ t. lt-irrefl b (subst (λ (z : ℕ). z < b) (eqb→eq (a % b * 2) b t) h)))
+closest-down a b h =
+    sym (go (compare (a % b * 2) b) (lib.Dec.le→leb (a % b * 2) b (le-of-lt h)) (λ t. lt-irrefl b (subst (λ (z : ℕ). z < b) (eqb→eq (a % b * 2) b t) h)))
   where
     go : (o : Ordering) → T (isLe o) → (T (isEq o) → ⊥) → nearest (a / b) o ≡ a / b
     go Ordering·lt t n = refl
@@ -166,7 +174,9 @@ pattern-high q k lo hi l = go (ltb (q * 2 ^ k) (2 ^ 277)) (ltb→lt (q * 2 ^ k) 
         last k h n = omega arith
 
     top-q : 2 ^ 277 ≤ q * 2 ^ k → q ≡ 2 ^ 24
-    top-q h = native.Mathlib.Nat.le-antisymm hi (native.Mathlib.Nat.le-of-mul-le-mul-right (subst (λ (z : ℕ). 2 ^ 24 * 2 ^ 253 ≤ q * 2 ^ z) (top-k h) h) (pow-pos 253))
+    top-q h =
+        native.Mathlib.Nat.le-antisymm hi
+        (native.Mathlib.Nat.le-of-mul-le-mul-right (subst (λ (z : ℕ). 2 ^ 24 * 2 ^ 253 ≤ q * 2 ^ z) (top-k h) h) (pow-pos 253))
 
     go : (b : Bool) → (T b → q * 2 ^ k < 2 ^ 277) → (T (not b) → 2 ^ 277 ≤ q * 2 ^ k) → units binary32 false q k ≡ ofBits binary32 (k * 8388608 + q)
     go true u v = sym (ofBits-toBits binary32 (units binary32 false q k) (fit q k hi (u tt))) ∙ ap (ofBits binary32) (wrote (u tt))
@@ -178,7 +188,8 @@ pub pattern-low : (q : ℕ) → q < 2 ^ 24 → units binary32 false q 0 ≡ ofBi
 pattern-low q h =
     let s : q * 2 ^ 0 < 2 ^ 277 = lt-of-le-of-lt (le-of-eq (mul-one q)) (lt-of-lt-of-le h (lit≤ tt)) in
     sym (ofBits-toBits binary32 (units binary32 false q 0) (fit q 0 (le-of-lt h) s))
-    ∙ ap (ofBits binary32) (write-small binary32 (units binary32 false q 0) q h (subst (λ (z : ℕ). Val binary32 (units binary32 false q 0) false z) (mul-one q) (units-val binary32 false q 0 s)))
+    ∙ ap (ofBits binary32) (write-small binary32 (units binary32 false q 0) q h
+    (subst (λ (z : ℕ). Val binary32 (units binary32 false q 0) false z) (mul-one q) (units-val binary32 false q 0 s)))
 
 -- ---- bounds of what is kept
 pub kept-high : (m : ℕ) → 2 ^ 52 ≤ m → m < 2 ^ 53 → (2 ^ 23 ≤ closest m (2 ^ 29)) × (closest m (2 ^ 29) ≤ 2 ^ 24)
@@ -196,7 +207,8 @@ kept-high m lo hi = (
 pub kept-low : (m s : ℕ) → m < 2 ^ 53 → 30 ≤ s → closest m (2 ^ s) < 2 ^ 24
 kept-low m s hi h =
     lt-of-le-of-lt (nearest-le (m / 2 ^ s) (compare (m % 2 ^ s * 2) (2 ^ s)))
-    (lt-of-le-of-lt (div-lt-iff-lt-mul (pow-pos s) .1 (lt-of-lt-of-le hi (le-trans (le-of-eq (pow-add 2 23 30)) (native.Mathlib.Nat.mul-le-mul-left (2 ^ 23) (pow-mono h))))) (lit< tt))
+    (lt-of-le-of-lt (div-lt-iff-lt-mul (pow-pos s) .1
+    (lt-of-lt-of-le hi (le-trans (le-of-eq (pow-add 2 23 30)) (native.Mathlib.Nat.mul-le-mul-left (2 ^ 23) (pow-mono h))))) (lit< tt))
 
 -- ---- a pattern b of an f64 from +0 up to the infinity
 abbrev H : ℕ
@@ -235,14 +247,16 @@ module _ (b : ℕ) (top-b : b ≤ 0x7ff0000000000000) where
   pub narrow-mid : 897 ≤ e → e ≤ 1150 → ofBits binary32 ((e - 897) * 8388608 + closest m (2 ^ 29)) ≡ narrow (ofBits binary64 b)
   narrow-mid h l =
       let k = kept-high m m-lo m-hi in
-      sym (value (lt-of-lt-of-le (lit< tt) h) (lt-of-le-of-lt l (lit< tt)) ∙ narrow-high m e m-lo m-hi h ∙ pattern-high (closest m (2 ^ 29)) (e - 897) (k .0) (k .1) (room e l))
+      sym (value (lt-of-lt-of-le (lit< tt) h) (lt-of-le-of-lt l (lit< tt)) ∙ narrow-high m e m-lo m-hi h ∙
+      pattern-high (closest m (2 ^ 29)) (e - 897) (k .0) (k .1) (room e l))
     where
       room : (e : ℕ) → e ≤ 1150 → e - 897 ≤ 253
       room e h = omega arith
 
   pub narrow-under : 872 ≤ e → e < 897 → ofBits binary32 (closest m (2 ^ (926 - e))) ≡ narrow (ofBits binary64 b)
   narrow-under h l =
-      sym (value (lt-of-lt-of-le (lit< tt) h) (lt-of-lt-of-le l (lit≤ tt)) ∙ narrow-low m e m-lo m-hi (le-trans (lit≤ tt) h) l ∙ pattern-low (closest m (2 ^ (926 - e))) (kept-low m (926 - e) m-hi (room e l)))
+      sym (value (lt-of-lt-of-le (lit< tt) h) (lt-of-lt-of-le l (lit≤ tt)) ∙ narrow-low m e m-lo m-hi (le-trans (lit≤ tt) h) l ∙
+      pattern-low (closest m (2 ^ (926 - e))) (kept-low m (926 - e) m-hi (room e l)))
     where
       room : (e : ℕ) → e < 897 → 30 ≤ 926 - e
       room e h = omega arith
@@ -312,7 +326,8 @@ neg-units f q k =
 
 pub neg-round : (f : Format) (a c : ℕ) → round f true a c ≡ neg (round f false a c)
 neg-round f a c =
-    round-is f true a c ∙ neg-units f (closest (a * 2 ^ low f) (c * 2 ^ (size (a * 2 ^ low f / c) - prec f))) (size (a * 2 ^ low f / c) - prec f) ∙ ap neg (sym (round-is f false a c))
+    round-is f true a c ∙ neg-units f (closest (a * 2 ^ low f) (c * 2 ^ (size (a * 2 ^ low f / c) - prec f))) (size (a * 2 ^ low f / c) - prec f) ∙
+    ap neg (sym (round-is f false a c))
 
 neg-neg : (x : Float) → neg (neg x) ≡ x
 unfolding neg
@@ -372,7 +387,8 @@ pub narrow-signed : (x : Float) → T (fits binary64 x) → 2 ^ 63 ≤ toBits bi
 narrow-signed x p h =
     let b = toBits binary64 x in
     sym (narrow-neg (ofBits binary64 (b - 2 ^ 63)))
-    ∙ ap narrow (sym (pattern-neg binary64 (b - 2 ^ 63) (low-part b (toBits-lt binary64 x p))) ∙ ap (ofBits binary64) (native.Mathlib.Nat.add-sub-of-le h) ∙ ofBits-toBits binary64 x p)
+    ∙ ap narrow (sym (pattern-neg binary64 (b - 2 ^ 63) (low-part b (toBits-lt binary64 x p))) ∙
+    ap (ofBits binary64) (native.Mathlib.Nat.add-sub-of-le h) ∙ ofBits-toBits binary64 x p)
   where
     low-part : (b : ℕ) → b < 2 ^ 64 → b - 2 ^ 63 < 2 ^ 63
     low-part b l = omega arith

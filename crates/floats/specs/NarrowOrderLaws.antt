@@ -27,7 +27,9 @@ units-over f s q k h = go (ltb (q * 2 ^ k) (overflow f)) (λ t. not-le-of-lt (lt
     go false t = refl
 
 pub fraction-sized : (f : Format) (s : Bool) (n c : ℕ) → Sized f (round f s n c) s (G f c n)
-fraction-sized f s n c = subst (λ (z : Float). Sized f z s (G f c n)) (sym (round-is f s n c)) (go (ltb (grid f n c) (overflow f)) (ltb→lt (grid f n c) (overflow f)) (nltb→le (grid f n c) (overflow f)))
+fraction-sized f s n c =
+    subst (λ (z : Float). Sized f z s (G f c n)) (sym (round-is f s n c))
+    (go (ltb (grid f n c) (overflow f)) (ltb→lt (grid f n c) (overflow f)) (nltb→le (grid f n c) (overflow f)))
   where
     q : ℕ
     q = kept (prec f) (n * 2 ^ low f) c
@@ -54,7 +56,8 @@ pub G-mono : (f : Format) (c a b : ℕ) → 0 < c → a ≤ b → G f c a ≤ G 
 G-mono f c a b C h =
     strip (overflow f) (G f c a) (G f c b)
     (le-trans (le-of-eq (sym (rank-is f (round f false a c) false (G f c a) (fraction-sized f false a c))))
-    (le-trans (le→rank f (round f false a c) (round f false b c) (round-fits f false a c) (round-fits f false b c) (no-nan f false a c) (no-nan f false b c) (round-mono f a c b c C C (mul-le-mul-right c h)))
+    (le-trans (le→rank f (round f false a c) (round f false b c) (round-fits f false a c) (round-fits f false b c) (no-nan f false a c)
+    (no-nan f false b c) (round-mono f a c b c C C (mul-le-mul-right c h)))
     (le-of-eq (rank-is f (round f false b c) false (G f c b) (fraction-sized f false b c)))))
   where
     strip : (o x y : ℕ) → o + x ≤ o + y → x ≤ y

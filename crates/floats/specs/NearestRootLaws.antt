@@ -1,5 +1,6 @@
 -- What `sqrt` means, said without its definition: the result is q * 2 ^ k units, with q of 24 digits or the next power of two,
--- and the exact root lies strictly between the two middles beside it: ((2 q - 1) * 2 ^ k) ^ 2 < 4 N < ((2 q + 1) * 2 ^ k) ^ 2, where N is the square of the exact root in units. Assumes nothing.
+-- and the exact root lies strictly between the two middles beside it: ((2 q - 1) * 2 ^ k) ^ 2 < 4 N < ((2 q + 1) * 2 ^ k) ^ 2, where N is the square
+-- of the exact root in units. Assumes nothing.
 use mathlib.Core.Path.{_≡_, sym, ap, _∙_, subst}
 use mathlib.Core.Logic.{_⊎_, inl, inr}
 use Prim.Native.Nat.{ℕ, suc, _+_, _-_, _*_, _/_, _%_, _^_, _≤_, _<_, zero-le}
@@ -79,7 +80,9 @@ module _ (n : ℕ) (r : Rep binary32 n) (p : 0 < n) where
   roots = isq-root 554 N (lt-of-lt-of-le (mul-lt-mul-of-pos-right (r .4) (pow-pos 149)) (lit≤ tt))
 
   big : 2 ^ 74 ≤ w
-  big = le-of-suc-le-suc (root-lt (2 ^ 74) (suc w) (lt-of-le-of-lt (le-trans (lit≤ tt) (le-trans (le-of-eq (sym (one-mul (2 ^ 149)))) (mul-le-mul-right (2 ^ 149) p))) (roots .1)))
+  big =
+      le-of-suc-le-suc (root-lt (2 ^ 74) (suc w)
+      (lt-of-le-of-lt (le-trans (lit≤ tt) (le-trans (le-of-eq (sym (one-mul (2 ^ 149)))) (mul-le-mul-right (2 ^ 149) p))) (roots .1)))
 
   long : 74 < size w
   long = lt-of-not-le (λ (g : size w ≤ 74). not-le-of-lt (lt-of-lt-of-le (size-lt w) (pow-mono g)) big)
@@ -105,7 +108,8 @@ module _ (n : ℕ) (r : Rep binary32 n) (p : 0 < n) where
   odd-mid e =
       no-tie (r .0) (r .1 + 151) ((2 * q + 1) * (2 * q + 1)) (k + k)
       (lt-of-lt-of-le (r .2) (le-trans (lit≤ tt) (mul-le-mul wide wide))) (odd-odd (2 * q + 1) (odd-one q))
-      (pow151 (r .0) (r .1) n (r .3) ∙ e ∙ mul-mul-mul-comm (2 * q + 1) (2 ^ k) (2 * q + 1) (2 ^ k) ∙ ap (λ (z : ℕ). (2 * q + 1) * (2 * q + 1) * z) (sym (pow-add 2 k k)))
+      (pow151 (r .0) (r .1) n (r .3) ∙ e ∙ mul-mul-mul-comm (2 * q + 1) (2 ^ k) (2 * q + 1) (2 ^ k) ∙
+      ap (λ (z : ℕ). (2 * q + 1) * (2 * q + 1) * z) (sym (pow-add 2 k k)))
     where
       wide : 8388608 ≤ 2 * q + 1
       wide = grow q q-lo
@@ -123,7 +127,9 @@ module _ (n : ℕ) (r : Rep binary32 n) (p : 0 < n) where
           half a h = omega arith
 
           split : (a b : ℕ) → a ≡ 2 * b + 1 → a * a ≡ 2 * (b * a) + a
-          split a b e = ap (λ (z : ℕ). z * a) e ∙ native.Mathlib.Nat.add-mul (2 * b) 1 a ∙ ap (λ (z : ℕ). z + 1 * a) (mul-assoc 2 b a) ∙ ap (λ (z : ℕ). 2 * (b * a) + z) (one-mul a)
+          split a b e =
+              ap (λ (z : ℕ). z * a) e ∙ native.Mathlib.Nat.add-mul (2 * b) 1 a ∙ ap (λ (z : ℕ). z + 1 * a) (mul-assoc 2 b a) ∙
+              ap (λ (z : ℕ). 2 * (b * a) + z) (one-mul a)
 
           last : (X a : ℕ) → a % 2 ≡ 1 → (2 * X + a) % 2 ≡ 1
           last X a h = omega arith
@@ -133,14 +139,17 @@ module _ (n : ℕ) (r : Rep binary32 n) (p : 0 < n) where
 
       pow151 : (m j n : ℕ) → n ≡ m * 2 ^ j → m * 2 ^ (j + 151) ≡ 4 * (n * 2 ^ 149)
       pow151 m j n e =
-          ap (λ (z : ℕ). m * z) (pow-add 2 j 151) ∙ sym (mul-assoc m (2 ^ j) (2 ^ 151)) ∙ ap (λ (z : ℕ). z * 2 ^ 151) (sym e) ∙ sym (mul-assoc n (2 ^ 149) 4) ∙ mul-comm (n * 2 ^ 149) 4
+          ap (λ (z : ℕ). m * z) (pow-add 2 j 151) ∙ sym (mul-assoc m (2 ^ j) (2 ^ 151)) ∙ ap (λ (z : ℕ). z * 2 ^ 151) (sym e) ∙
+          sym (mul-assoc n (2 ^ 149) 4) ∙ mul-comm (n * 2 ^ 149) 4
 
   root-nearest-at : (b : Bool) → (T b → mid < 4 * N) → (T (not b) → 4 * N ≤ mid) → Nearest N (cond b (suc q) q) k
   root-nearest-at true u v =
       record {
         digits = (le-trans q-lo (native.Mathlib.Nat.le-suc q), q-hi);
         above = subst (λ (z : ℕ). z * 2 ^ k * (z * 2 ^ k) < 4 * N) (sym (down q)) (u tt);
-        below = lt-of-le-of-lt (mul-le-mul (le-refl 4) (le-of-lt floor-hi)) (lt-of-le-of-lt (le-of-eq (sym (four (suc q) (2 ^ k)))) (square-lt (2 * suc q) (2 * suc q + 1) (2 ^ k) (pow-pos k) (next (suc q))));
+        below =
+            lt-of-le-of-lt (mul-le-mul (le-refl 4) (le-of-lt floor-hi))
+            (lt-of-le-of-lt (le-of-eq (sym (four (suc q) (2 ^ k)))) (square-lt (2 * suc q) (2 * suc q + 1) (2 ^ k) (pow-pos k) (next (suc q))));
       }
     where
       down : (q : ℕ) → 2 * suc q - 1 ≡ 2 * q + 1
@@ -151,7 +160,9 @@ module _ (n : ℕ) (r : Rep binary32 n) (p : 0 < n) where
   root-nearest-at false u v =
       record {
         digits = (q-lo, le-of-lt q-hi);
-        above = lt-of-lt-of-le (square-lt (2 * q - 1) (2 * q) (2 ^ k) (pow-pos k) (prev q (le-trans (lit≤ tt) q-lo))) (le-trans (le-of-eq (four q (2 ^ k))) (mul-le-mul (le-refl 4) floor-lo));
+        above =
+            lt-of-lt-of-le (square-lt (2 * q - 1) (2 * q) (2 ^ k) (pow-pos k) (prev q (le-trans (lit≤ tt) q-lo)))
+            (le-trans (le-of-eq (four q (2 ^ k))) (mul-le-mul (le-refl 4) floor-lo));
         below = strict (eq-or-lt-of-le (v tt));
       }
     where

@@ -47,7 +47,8 @@ zero-or a b e h = omega arith
 below-nn : (s : Bool) (a : ℕ) (t : Bool) (b : ℕ) → (T s → a ≡ 0) → (T t → b ≡ 0) → below s a t b ≡ ltb a b
 below-nn false a false b p q = refl
 below-nn false a true b p q = sym (bool-false (ltb a b) (λ t. not-below-zero a b (q tt) (ltb→lt a b t)))
-below-nn true a false b p q = same-test (ltb 0 (a + b)) (ltb a b) (λ t. lt→ltb a b (zero-and a b (p tt) (ltb→lt 0 (a + b) t))) (λ t. lt→ltb 0 (a + b) (zero-or a b (p tt) (ltb→lt a b t)))
+below-nn true a false b p q =
+    same-test (ltb 0 (a + b)) (ltb a b) (λ t. lt→ltb a b (zero-and a b (p tt) (ltb→lt 0 (a + b) t))) (λ t. lt→ltb 0 (a + b) (zero-or a b (p tt) (ltb→lt a b t)))
 below-nn true a true b p q =
     bool-false (ltb b a) (λ t. not-below-zero b a (p tt) (ltb→lt b a t)) ∙ sym (bool-false (ltb a b) (λ t. not-below-zero a b (q tt) (ltb→lt a b t)))
 
@@ -124,7 +125,9 @@ module _ (f : Format) (a b c : ℕ) where
 
   pub sum-np-gt : b < a → sum f true a false b c ≡ round f true (a - b) c
   unfolding sum
-  sum-np-gt h = ap (λ (z : Bool). cond z (round f false (b - a) c) (round f (ltb b a) (a - b) c)) (ltb-no a b (le-of-lt h)) ∙ ap (λ (z : Bool). round f z (a - b) c) (ltb-yes b a h)
+  sum-np-gt h =
+      ap (λ (z : Bool). cond z (round f false (b - a) c) (round f (ltb b a) (a - b) c)) (ltb-no a b (le-of-lt h)) ∙
+      ap (λ (z : Bool). round f z (a - b) c) (ltb-yes b a h)
 
   pub sum-np-eq : a ≡ b → sum f true a false b c ≡ round f false (a - b) c
   unfolding sum
@@ -155,7 +158,8 @@ none-sub a b p = omega arith
 module _ (f : Format) (x y : Float) (a b : ℕ) where
   add-go : (s t : Bool) → Val f x s a → Val f y t b → (T s → a ≡ 0) → (T t → b ≡ 0) → R f (a + b) < overflow f → NonNeg f (add f x y) (R f (a + b))
   add-go false false v w p q h = rounded-nn f (add f x y) (a + b) h (add-val f x y false a false b v w ∙ sum-same f a b (2 ^ low f) false)
-  add-go true true v w p q h = rounded-zero f (add f x y) (a + b) (both-none a b (p tt) (q tt)) h (add-val f x y true a true b v w ∙ sum-same f a b (2 ^ low f) true)
+  add-go true true v w p q h =
+      rounded-zero f (add f x y) (a + b) (both-none a b (p tt) (q tt)) h (add-val f x y true a true b v w ∙ sum-same f a b (2 ^ low f) true)
   add-go false true v w p q h =
       rounded-nn f (add f x y) (a + b) h
       (add-val f x y false a true b v w ∙ sum-pn-ge f a b (2 ^ low f) (le-zero a b (q tt)) ∙ ap (λ (z : ℕ). round f false z (2 ^ low f)) (same-sum a b (q tt)))
@@ -185,7 +189,8 @@ module _ (f : Format) (x y : Float) (a b : ℕ) where
       (sub-val f x y false a true b v w ∙ sum-same f a b (2 ^ low f) false ∙ ap (λ (z : ℕ). round f false z (2 ^ low f)) (sym (same-sum a b (q tt))))
   sub-go true false v w p q l h =
       rounded-zero f (sub f x y) (a - b) (gone a b (p tt)) h
-      (sub-val f x y true a false b v w ∙ sum-same f a b (2 ^ low f) true ∙ ap (λ (z : ℕ). round f true z (2 ^ low f)) (sym (same-sum a b (none-too a b (p tt) l))))
+      (sub-val f x y true a false b v w ∙ sum-same f a b (2 ^ low f) true ∙
+      ap (λ (z : ℕ). round f true z (2 ^ low f)) (sym (same-sum a b (none-too a b (p tt) l))))
     where
       gone : (a b : ℕ) → a ≡ 0 → a - b ≡ 0
       gone a b e = omega arith
@@ -200,7 +205,8 @@ module _ (f : Format) (x y : Float) (a b : ℕ) where
   sub-lt-go : (s t : Bool) → Val f x s a → Val f y t b → (T s → a ≡ 0) → (T t → b ≡ 0) → a < b → R f (b - a) < overflow f → Val f (sub f x y) true (R f (b - a))
   sub-lt-go false false v w p q l h = rounded f (sub f x y) true (b - a) h (sub-val f x y false a false b v w ∙ sum-pn-lt f a b (2 ^ low f) l)
   sub-lt-go true false v w p q l h =
-      rounded f (sub f x y) true (b - a) h (sub-val f x y true a false b v w ∙ sum-same f a b (2 ^ low f) true ∙ ap (λ (z : ℕ). round f true z (2 ^ low f)) (sym (none-sub a b (p tt))))
+      rounded f (sub f x y) true (b - a) h (sub-val f x y true a false b v w ∙ sum-same f a b (2 ^ low f) true ∙
+      ap (λ (z : ℕ). round f true z (2 ^ low f)) (sym (none-sub a b (p tt))))
   sub-lt-go false true v w p q l h = absurd (not-below-zero a b (q tt) l)
   sub-lt-go true true v w p q l h = absurd (not-below-zero a b (q tt) l)
 

@@ -1,4 +1,5 @@
--- Bit patterns and units: what a pattern below the infinity's is worth (`read-low`, `read-high`), and which pattern a number of units has (`write`). Assumes nothing.
+-- Bit patterns and units: what a pattern below the infinity's is worth (`read-low`, `read-high`), and which pattern a number of units has (`write`).
+-- Assumes nothing.
 use mathlib.Core.Path.{_≡_, refl, sym, ap, _∙_, subst}
 use Prim.Native.Nat.{ℕ, zero, suc, _+_, _-_, _*_, _/_, _%_, _^_, _≤_, _<_}
 use native.Mathlib.Nat.{le-refl, le-trans, le-of-eq, lt-of-lt-of-le, lt-irrefl, lt-of-not-le, not-le-of-lt, le-antisymm, mul-one, zero-add, mul-le-mul-right}
@@ -45,7 +46,8 @@ read-low f b h e = subst (λ (z : Float). Val f z false (b % hid f)) (sym (plain
 
 pub read-high : (f : Format) (b x : ℕ) → b < top f → b / hid f ≡ suc x → suc x < ones f → Val f (ofBits f b) false ((hid f + b % hid f) * 2 ^ x)
 read-high f b x h e l =
-    subst (λ (z : Float). Val f z false ((hid f + b % hid f) * 2 ^ x)) (sym (plain f b h ∙ ap (λ (z : ℕ). ofFields f false z (b % hid f)) e)) (fields-high f x (b % hid f) l)
+    subst (λ (z : Float). Val f z false ((hid f + b % hid f) * 2 ^ x)) (sym (plain f b h ∙ ap (λ (z : ℕ). ofFields f false z (b % hid f)) e))
+    (fields-high f x (b % hid f) l)
 
 -- ---- a number's digits
 pub size-is : (n z : ℕ) → 2 ^ z ≤ n → n < 2 ^ suc z → size n ≡ suc z
@@ -86,7 +88,8 @@ write f x q k lo hi v =
 pub write-small : (f : Format) (x : Float) (q : ℕ) → q < 2 ^ prec f → Val f x false q → toBits f x ≡ q
 write-small f x q h v =
     let z : size q - prec f ≡ 0 = none (size q) (prec f) (size-le q (prec f) h) in
-    write-val f x q v ∙ ap (λ (y : ℕ). y * hid f + q / 2 ^ y) z ∙ ap (λ (y : ℕ). y + q / 1) (native.Mathlib.Nat.zero-mul (hid f)) ∙ zero-add (q / 1) ∙ native.Mathlib.Nat.div-one q
+    write-val f x q v ∙ ap (λ (y : ℕ). y * hid f + q / 2 ^ y) z ∙ ap (λ (y : ℕ). y + q / 1) (native.Mathlib.Nat.zero-mul (hid f)) ∙
+    zero-add (q / 1) ∙ native.Mathlib.Nat.div-one q
   where
     none : (z p : ℕ) → z ≤ p → z - p ≡ 0
     none z p h = omega arith
@@ -112,7 +115,8 @@ write-carry f x q k e v =
 
 -- ---- a pattern up to the infinity's is no NaN's
 pub no-nan32 : (n : ℕ) → n ≤ 0x7f800000 → T (not (nanBits binary32 n))
-no-nan32 n h = subst (λ (b : Bool). T (not b)) (sym (nanBits-above binary32 n)) (le→nltb 0x7f800000 (n % 0x80000000) (le-trans (native.Mathlib.Nat.mod-le n 0x80000000) h))
+no-nan32 n h =
+    subst (λ (b : Bool). T (not b)) (sym (nanBits-above binary32 n)) (le→nltb 0x7f800000 (n % 0x80000000) (le-trans (native.Mathlib.Nat.mod-le n 0x80000000) h))
 
 -- ---- the sign's bit
 fields-neg : (f : Format) (x t : ℕ) → ofFields f true x t ≡ neg (ofFields f false x t)
@@ -124,7 +128,8 @@ fields-neg f zero t = odd-neg (prec f) t 0 (low f)
     odd-neg d (suc q) k l = unfold odd neg in refl
 fields-neg f (suc x) t = go (eqb (suc x) (ones f)) (eqb t 0) (hid f + t)
   where
-    go : (a b : Bool) (q : ℕ) → cond a (cond b (inf true) nan) (odd (prec f) true q x (low f)) ≡ neg (cond a (cond b (inf false) nan) (odd (prec f) false q x (low f)))
+    go : (a b : Bool) (q : ℕ) → cond a (cond b (inf true) nan) (odd (prec f) true q x (low f)) ≡ neg
+        (cond a (cond b (inf false) nan) (odd (prec f) false q x (low f)))
     go true true q = unfold neg in refl
     go true false q = unfold neg in refl
     go false b zero = unfold odd neg in refl
@@ -135,7 +140,8 @@ pattern-neg f b h = open-up ∙ fields-neg f (b / hid f) (b % hid f) ∙ ap neg 
   where
     open-up : ofBits f (top f + b) ≡ ofFields f true (b / hid f) (b % hid f)
     open-up =
-        unfold ofBits in (ap (λ (s : Bool). ofFields f s ((top f + b) % top f / hid f) ((top f + b) % hid f)) (is-true (leb (top f) (top f + b)) (lib.Dec.le→leb (top f) (top f + b) (native.Mathlib.Nat.le-add-right (top f) b)))
+        unfold ofBits in (ap (λ (s : Bool). ofFields f s ((top f + b) % top f / hid f) ((top f + b) % hid f))
+        (is-true (leb (top f) (top f + b)) (lib.Dec.le→leb (top f) (top f + b) (native.Mathlib.Nat.le-add-right (top f) b)))
         ∙ ap (λ (z : ℕ). ofFields f true (z / hid f) ((top f + b) % hid f)) (native.Mathlib.Nat.add-mod-left (top f) b ∙ mod-eq-of-lt h)
         ∙ ap (λ (z : ℕ). ofFields f true (b / hid f) z) (native.Mathlib.Nat.mul-add-mod-self-left (hid f) (suc (ones f)) b))
 

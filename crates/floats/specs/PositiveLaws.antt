@@ -1,4 +1,5 @@
--- A value that a program has tested: no NaN, not zero, not below zero. Its pattern is that of an infinity, or lies from 1 up to below that. And the root's own cases. Assumes nothing.
+-- A value that a program has tested: no NaN, not zero, not below zero. Its pattern is that of an infinity, or lies from 1 up to below that. And the
+-- root's own cases. Assumes nothing.
 use mathlib.Core.Path.{_≡_, refl, sym, ap, _∙_, subst}
 use mathlib.Core.Logic.{inl, inr}
 use Prim.Native.Nat.{ℕ, zero, suc, _+_, _-_, _*_, _/_, _^_, _≤_, _<_, zero-le}
@@ -30,7 +31,9 @@ less : (s : ℕ) → s ≤ 277 → s - 24 ≤ 277 - 24
 less s h = omega arith
 
 pub pattern-below : (x : Float) (n : ℕ) → Val binary32 x false n → n < 2 ^ 277 → toBits binary32 x < 0x7f800000
-pattern-below x n v h = subst (λ (b : ℕ). b < 0x7f800000) (sym (write-val binary32 x n v)) (below (size n - 24) (n / 2 ^ (size n - 24)) (less (size n) (size-le n 277 h)) (kept-lt 24 n))
+pattern-below x n v h =
+    subst (λ (b : ℕ). b < 0x7f800000) (sym (write-val binary32 x n v))
+    (below (size n - 24) (n / 2 ^ (size n - 24)) (less (size n) (size-le n 277 h)) (kept-lt 24 n))
 
 pub below-zero : (x : Float) (n : ℕ) → Val binary32 x true n → eq x z ≡ false → lt x z ≡ false → ⊥
 below-zero x n v e l = elim (eq-zero-or-pos n) [
@@ -45,7 +48,8 @@ sided : (x : Float) (s : Bool) (n : ℕ) → Val binary32 x s n → n < 2 ^ 277 
 sided x true n v h e l = absurd (below-zero x n v e l)
 sided x false n v h e l = pattern-below x n v h
 
-pub upright : (x : Float) → T (fits binary32 x) → ne x x ≡ false → eq x z ≡ false → lt x z ≡ false → (toBits binary32 x ≡ 0x7f800000 → ⊥) → toBits binary32 x < 0x7f800000
+pub upright : (x : Float) → T (fits binary32 x) → ne x x ≡ false → eq x z ≡ false → lt x z ≡ false → (toBits binary32 x ≡ 0x7f800000 → ⊥) →
+    toBits binary32 x < 0x7f800000
 upright nan p d e l n = absurd (true≢false (unfold ne in d))
 upright (inf true) p d e l n = absurd (true≢false (unfold lt in l))
 upright (inf false) p d e l n = absurd (n (unfold toBits in refl))
@@ -91,7 +95,8 @@ sqrt-below nan t = absurd (false≢true t)
 sqrt-below (inf true) t = refl
 sqrt-below (inf false) t = absurd (false≢true t)
 sqrt-below (fin true zero e) t =
-    absurd (lt-irrefl 0 (subst (λ (k : ℕ). 0 < k) (ap (λ (k : ℕ). k * 1 + 0 * 1 * down e) (zero-mul (up e)) ∙ ap (λ (k : ℕ). 0 + k) (zero-mul (down e))) (ltb→lt 0 (0 * up e * 1 + 0 * 1 * down e) (of-true t))))
+    absurd (lt-irrefl 0 (subst (λ (k : ℕ). 0 < k) (ap (λ (k : ℕ). k * 1 + 0 * 1 * down e) (zero-mul (up e)) ∙
+    ap (λ (k : ℕ). 0 + k) (zero-mul (down e))) (ltb→lt 0 (0 * up e * 1 + 0 * 1 * down e) (of-true t))))
 sqrt-below (fin true (suc m) e) t = refl
 sqrt-below (fin false m e) t =
     absurd (not-le-of-lt (ltb→lt (m * up e * 1) (0 * 1 * down e) (of-true t)) (native.Mathlib.Nat.le-trans (le-of-eq (zero-mul (down e))) zero-le))

@@ -1,4 +1,5 @@
--- Products and quotients in units: x of a units times y of b units is a * b / 2 ^ (2 * low), and x over y is a / b, each rounded, with the sign by the two signs.
+-- Products and quotients in units: x of a units times y of b units is a * b / 2 ^ (2 * low), and x over y is a / b, each rounded, with the sign by
+-- the two signs.
 -- Assumes nothing.
 use mathlib.Core.Path.{_≡_, refl, sym, ap, _∙_, subst}
 use Prim.Native.Nat.{ℕ, zero, suc, _*_, _^_, _<_}
@@ -33,7 +34,8 @@ mul-turned f (fin s m e) nan = refl
 mul-turned f (fin s m e) (inf t) = ap (λ (u : Bool). cond (eqb m 0) nan (inf u)) (unlike-turned s t)
 mul-turned f (fin s m e) (fin t n d) = rw (unlike-turned s t, mul-comm (m * up e) (n * up d), mul-comm (down e) (down d))
 
-pub mul-val : (f : Format) (x y : Float) (s : Bool) (a : ℕ) (t : Bool) (b : ℕ) → Val f x s a → Val f y t b → mul f x y ≡ round f (unlike s t) (a * b) (2 ^ low f * 2 ^ low f)
+pub mul-val : (f : Format) (x y : Float) (s : Bool) (a : ℕ) (t : Bool) (b : ℕ) → Val f x s a → Val f y t b →
+    mul f x y ≡ round f (unlike s t) (a * b) (2 ^ low f * 2 ^ low f)
 unfolding mul
 mul-val f nan y s a t b v w = absurd v
 mul-val f (inf s') y s a t b v w = absurd v
@@ -41,8 +43,10 @@ mul-val f (fin s' m e) nan s a t b v w = absurd w
 mul-val f (fin s' m e) (inf t') s a t b v w = absurd w
 mul-val f (fin s' m e) (fin t' n d) s a t b v w =
     let l = 2 ^ low f in
-    round-same f (unlike s' t') (m * up e * (n * up d)) (down e * down d) (a * b) (l * l) (mul-pos (down-pos e) (down-pos d)) (mul-pos (pow-pos (low f)) (pow-pos (low f)))
-    (mul-mul-mul-comm (m * up e) (n * up d) l l ∙ ap (λ (z : ℕ). z * (n * up d * l)) (v .1) ∙ ap (λ (z : ℕ). a * down e * z) (w .1) ∙ mul-mul-mul-comm a (down e) b (down d))
+    round-same f (unlike s' t') (m * up e * (n * up d)) (down e * down d) (a * b) (l * l) (mul-pos (down-pos e) (down-pos d))
+    (mul-pos (pow-pos (low f)) (pow-pos (low f)))
+    (mul-mul-mul-comm (m * up e) (n * up d) l l ∙ ap (λ (z : ℕ). z * (n * up d * l)) (v .1) ∙ ap (λ (z : ℕ). a * down e * z) (w .1) ∙
+    mul-mul-mul-comm a (down e) b (down d))
     ∙ ap (λ (z : Bool). round f (unlike z t') (a * b) (l * l)) (v .0) ∙ ap (λ (z : Bool). round f (unlike s z) (a * b) (l * l)) (w .0)
 
 -- the divisor is not zero
@@ -63,7 +67,9 @@ div-val f (fin s' m e) (fin t' n d) s a t b B v w =
     ∙ ap (λ (z : Bool). round f (unlike z t') a b) (v .0) ∙ ap (λ (z : Bool). round f (unlike s z) a b) (w .0)
   where
     some : (n : ℕ) → n * up d * 2 ^ low f ≡ b * down d → 0 < n
-    some zero h = absurd (lt-irrefl 0 (subst (λ (z : ℕ). 0 < z) (sym h ∙ ap (λ (z : ℕ). z * 2 ^ low f) (zero-mul (up d)) ∙ zero-mul (2 ^ low f)) (mul-pos B (down-pos d))))
+    some zero h =
+        absurd (lt-irrefl 0 (subst (λ (z : ℕ). 0 < z) (sym h ∙ ap (λ (z : ℕ). z * 2 ^ low f) (zero-mul (up d)) ∙
+        zero-mul (2 ^ low f)) (mul-pos B (down-pos d))))
     some (suc n) h = zero-lt-suc n
 
     not-zero : (n : ℕ) → 0 < n → eqb n 0 ≡ false
@@ -81,5 +87,8 @@ div-val f (fin s' m e) (fin t' n d) s a t b B v w =
         u ∙ ap (λ (z : ℕ). z * (b * D)) p ∙ ap (λ (z : ℕ). a * E * z) (sym q) ∙ sym r
 
 -- ---- sizes
-pub mul-size : (f : Format) (x y : Float) (s : Bool) (a : ℕ) (t : Bool) (b : ℕ) → Val f x s a → Val f y t b → Sized f (mul f x y) (unlike s t) (G f (2 ^ low f * 2 ^ low f) (a * b))
-mul-size f x y s a t b v w = subst (λ (z : Float). Sized f z (unlike s t) (G f (2 ^ low f * 2 ^ low f) (a * b))) (sym (mul-val f x y s a t b v w)) (fraction-sized f (unlike s t) (a * b) (2 ^ low f * 2 ^ low f))
+pub mul-size : (f : Format) (x y : Float) (s : Bool) (a : ℕ) (t : Bool) (b : ℕ) → Val f x s a → Val f y t b →
+    Sized f (mul f x y) (unlike s t) (G f (2 ^ low f * 2 ^ low f) (a * b))
+mul-size f x y s a t b v w =
+    subst (λ (z : Float). Sized f z (unlike s t) (G f (2 ^ low f * 2 ^ low f) (a * b))) (sym (mul-val f x y s a t b v w))
+    (fraction-sized f (unlike s t) (a * b) (2 ^ low f * 2 ^ low f))

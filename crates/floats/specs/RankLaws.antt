@@ -1,5 +1,7 @@
--- The order of all floats but the NaN, as the order of whole numbers. `rank f x` is the size in units, counted up from the middle where the sign is clear and down where it is set; the infinities are at the ends,
--- and both zeros in the middle. So `lt`, `le` and `eq` are those of the ranks (`rank-lt`, `rank-le`, `rank-eq`), and `omega` proves what follows from several comparisons.
+-- The order of all floats but the NaN, as the order of whole numbers. `rank f x` is the size in units, counted up from the middle where the sign is
+-- clear and down where it is set; the infinities are at the ends,
+-- and both zeros in the middle. So `lt`, `le` and `eq` are those of the ranks (`rank-lt`, `rank-le`, `rank-eq`), and `omega` proves what follows from
+-- several comparisons.
 -- Assumes nothing.
 use mathlib.Core.Path.{_≡_, refl, sym, ap, _∙_, subst}
 use mathlib.Core.Logic.{_⊎_, inl, inr}
@@ -51,7 +53,8 @@ rank-is f x s n (inl v) = go x (v .0)
     go nan w = absurd w
     go (inf t) w = absurd w
     go (fin t m e) w =
-        unfold rank in (ap (λ (z : ℕ). place (overflow f) t z) (ap (λ (z : ℕ). z / down e) (w .1) ∙ mul-div-cancel n (down-pos e)) ∙ ap (λ (b : Bool). place (overflow f) b n) (w .0))
+        unfold rank in (ap (λ (z : ℕ). place (overflow f) t z) (ap (λ (z : ℕ). z / down e) (w .1) ∙ mul-div-cancel n (down-pos e)) ∙
+        ap (λ (b : Bool). place (overflow f) b n) (w .0))
 
 -- ---- the three comparisons of two such values
 yes : (b : Bool) → T b → b ≡ true
@@ -64,7 +67,8 @@ no false h = refl
 
 module _ (O : ℕ) (a b : ℕ) (A : a ≤ O) (B : b ≤ O) where
   below-place : (s t : Bool) → below s a t b ≡ ltb (place O s a) (place O t b)
-  below-place false false = same-test (ltb a b) (ltb (O + a) (O + b)) (λ u. lt→ltb (O + a) (O + b) (p (ltb→lt a b u))) (λ u. lt→ltb a b (q (ltb→lt (O + a) (O + b) u)))
+  below-place false false =
+      same-test (ltb a b) (ltb (O + a) (O + b)) (λ u. lt→ltb (O + a) (O + b) (p (ltb→lt a b u))) (λ u. lt→ltb a b (q (ltb→lt (O + a) (O + b) u)))
     where
       p : a < b → O + a < O + b
       p h = omega arith
@@ -75,14 +79,17 @@ module _ (O : ℕ) (a b : ℕ) (A : a ≤ O) (B : b ≤ O) where
     where
       q : O + a < O - b → ⊥
       q h = omega arith
-  below-place true false = same-test (ltb 0 (a + b)) (ltb (O - a) (O + b)) (λ u. lt→ltb (O - a) (O + b) (p (ltb→lt 0 (a + b) u))) (λ u. lt→ltb 0 (a + b) (q (ltb→lt (O - a) (O + b) u)))
+  below-place true false =
+      same-test (ltb 0 (a + b)) (ltb (O - a) (O + b)) (λ u. lt→ltb (O - a) (O + b) (p (ltb→lt 0 (a + b) u)))
+      (λ u. lt→ltb 0 (a + b) (q (ltb→lt (O - a) (O + b) u)))
     where
       p : 0 < a + b → O - a < O + b
       p h = omega arith
 
       q : O - a < O + b → 0 < a + b
       q h = omega arith
-  below-place true true = same-test (ltb b a) (ltb (O - a) (O - b)) (λ u. lt→ltb (O - a) (O - b) (p (ltb→lt b a u))) (λ u. lt→ltb b a (q (ltb→lt (O - a) (O - b) u)))
+  below-place true true =
+      same-test (ltb b a) (ltb (O - a) (O - b)) (λ u. lt→ltb (O - a) (O - b) (p (ltb→lt b a u))) (λ u. lt→ltb b a (q (ltb→lt (O - a) (O - b) u)))
     where
       p : b < a → O - a < O - b
       p h = omega arith
@@ -172,7 +179,9 @@ module _ (O : ℕ) (P : 0 < O) where
   eq-left s t b h = sym (ap (λ (z : Bool). z && (Bool·beq s t || eqb O 0)) (no (eqb O b) (λ u. lt-irrefl b (subst (λ (z : ℕ). b < z) (eqb→eq O b u) h))))
 
   eq-both : (s t : Bool) → Bool·beq s t ≡ level s O t O
-  eq-both s t = sym (ap (λ (z : Bool). z && (Bool·beq s t || eqb O 0)) (yes (eqb O O) (lib.Dec.eqb-refl O)) ∙ ap (λ (z : Bool). Bool·beq s t || z) (no (eqb O 0) (λ u. lt-irrefl 0 (subst (λ (z : ℕ). 0 < z) (eqb→eq O 0 u) P))) ∙ drop-or (Bool·beq s t))
+  eq-both s t =
+      sym (ap (λ (z : Bool). z && (Bool·beq s t || eqb O 0)) (yes (eqb O O) (lib.Dec.eqb-refl O)) ∙
+      ap (λ (z : Bool). Bool·beq s t || z) (no (eqb O 0) (λ u. lt-irrefl 0 (subst (λ (z : ℕ). 0 < z) (eqb→eq O 0 u) P))) ∙ drop-or (Bool·beq s t))
     where
       drop-or : (b : Bool) → (b || false) ≡ b
       drop-or true = refl
@@ -182,24 +191,31 @@ module _ (f : Format) where
   O-pos : 0 < overflow f
   O-pos = pow-pos (low f + suc (emax f))
 
-  fin-inf : (x : Float) (s : Bool) (a : ℕ) (t : Bool) → Val f x s a → (lt x (inf t) ≡ not t) × (eq x (inf t) ≡ false) × (lt (inf t) x ≡ t) × (eq (inf t) x ≡ false)
+  fin-inf : (x : Float) (s : Bool) (a : ℕ) (t : Bool) → Val f x s a → (lt x (inf t) ≡ not t) × (eq x (inf t) ≡ false) × (lt (inf t) x ≡ t) ×
+      (eq (inf t) x ≡ false)
   fin-inf nan s a t v = absurd v
   fin-inf (inf u) s a t v = absurd v
   fin-inf (fin u m e) s a t v = unfold lt eq in (refl, refl, refl, refl)
 
   lt-sized : (x y : Float) (s : Bool) (a : ℕ) (t : Bool) (b : ℕ) → Sized f x s a → Sized f y t b → lt x y ≡ below s a t b
   lt-sized x y s a t b (inl v) (inl w) = lt-val f x y s a t b (v .0) (w .0)
-  lt-sized x y s a t b (inl v) (inr w) = ap (lt x) (w .0) ∙ fin-inf x s a t (v .0) .0 ∙ inf-right (overflow f) O-pos s a t (v .1) ∙ ap (λ (z : ℕ). below s a t z) (sym (w .1))
-  lt-sized x y s a t b (inr v) (inl w) = ap (λ (z : Float). lt z y) (v .0) ∙ fin-inf y t b s (w .0) .2 ∙ inf-left (overflow f) O-pos s t b (w .1) ∙ ap (λ (z : ℕ). below s z t b) (sym (v .1))
+  lt-sized x y s a t b (inl v) (inr w) =
+      ap (lt x) (w .0) ∙ fin-inf x s a t (v .0) .0 ∙ inf-right (overflow f) O-pos s a t (v .1) ∙ ap (λ (z : ℕ). below s a t z) (sym (w .1))
+  lt-sized x y s a t b (inr v) (inl w) =
+      ap (λ (z : Float). lt z y) (v .0) ∙ fin-inf y t b s (w .0) .2 ∙ inf-left (overflow f) O-pos s t b (w .1) ∙ ap (λ (z : ℕ). below s z t b) (sym (v .1))
   lt-sized x y s a t b (inr v) (inr w) =
-      ap (λ (z : Float). lt z y) (v .0) ∙ ap (lt (inf s)) (w .0) ∙ unfold lt in (inf-both (overflow f) O-pos s t) ∙ ap (λ (z : ℕ). below s z t (overflow f)) (sym (v .1)) ∙ ap (λ (z : ℕ). below s a t z) (sym (w .1))
+      ap (λ (z : Float). lt z y) (v .0) ∙ ap (lt (inf s)) (w .0) ∙ unfold lt in (inf-both (overflow f) O-pos s t) ∙
+      ap (λ (z : ℕ). below s z t (overflow f)) (sym (v .1)) ∙ ap (λ (z : ℕ). below s a t z) (sym (w .1))
 
   eq-sized : (x y : Float) (s : Bool) (a : ℕ) (t : Bool) (b : ℕ) → Sized f x s a → Sized f y t b → eq x y ≡ level s a t b
   eq-sized x y s a t b (inl v) (inl w) = eq-val f x y s a t b (v .0) (w .0)
-  eq-sized x y s a t b (inl v) (inr w) = ap (eq x) (w .0) ∙ fin-inf x s a t (v .0) .1 ∙ eq-right (overflow f) O-pos s a t (v .1) ∙ ap (λ (z : ℕ). level s a t z) (sym (w .1))
-  eq-sized x y s a t b (inr v) (inl w) = ap (λ (z : Float). eq z y) (v .0) ∙ fin-inf y t b s (w .0) .3 ∙ eq-left (overflow f) O-pos s t b (w .1) ∙ ap (λ (z : ℕ). level s z t b) (sym (v .1))
+  eq-sized x y s a t b (inl v) (inr w) =
+      ap (eq x) (w .0) ∙ fin-inf x s a t (v .0) .1 ∙ eq-right (overflow f) O-pos s a t (v .1) ∙ ap (λ (z : ℕ). level s a t z) (sym (w .1))
+  eq-sized x y s a t b (inr v) (inl w) =
+      ap (λ (z : Float). eq z y) (v .0) ∙ fin-inf y t b s (w .0) .3 ∙ eq-left (overflow f) O-pos s t b (w .1) ∙ ap (λ (z : ℕ). level s z t b) (sym (v .1))
   eq-sized x y s a t b (inr v) (inr w) =
-      ap (λ (z : Float). eq z y) (v .0) ∙ ap (eq (inf s)) (w .0) ∙ unfold eq in (eq-both (overflow f) O-pos s t) ∙ ap (λ (z : ℕ). level s z t (overflow f)) (sym (v .1)) ∙ ap (λ (z : ℕ). level s a t z) (sym (w .1))
+      ap (λ (z : Float). eq z y) (v .0) ∙ ap (eq (inf s)) (w .0) ∙ unfold eq in (eq-both (overflow f) O-pos s t) ∙
+      ap (λ (z : ℕ). level s z t (overflow f)) (sym (v .1)) ∙ ap (λ (z : ℕ). level s a t z) (sym (w .1))
 
 leb-of : (a b : ℕ) → (ltb a b || eqb a b) ≡ leb a b
 leb-of a b = same-test (ltb a b || eqb a b) (leb a b) (there (ltb a b) (ltb→lt a b)) back

@@ -1,4 +1,5 @@
--- `%` and `rem_euclid` on whole numbers of units: `%` is exact, and `rem_euclid` by a divisor above zero lies from 0 to the divisor, which itself can come out where the dividend is below zero.
+-- `%` and `rem_euclid` on whole numbers of units: `%` is exact, and `rem_euclid` by a divisor above zero lies from 0 to the divisor, which itself can
+-- come out where the dividend is below zero.
 -- Stated once over the format and the divisor, and then for PI and TAU. Assumes nothing.
 use mathlib.Core.Path.{_≡_, refl, sym, ap, _∙_, subst}
 use mathlib.Core.Logic.{inl, inr}
@@ -130,8 +131,10 @@ module _ (d : Float) (D : ℕ) (P : 0 < D) (w : Val binary32 d false D) (r : Rep
   pub rem-between : (x : Float) → T (fits binary32 x) → T (finite x) → T (le nought (remEuclid binary32 x d)) × T (le (remEuclid binary32 x d) d)
   rem-between x p t =
       let q = counted binary32 x p t in
-      let s = remEuclid-range binary32 x d (q .count) D P w r (q .sign) (q .val) (q .rep) in
-      (le-of binary32 nought (remEuclid binary32 x d) 0 (s .0) nought-nn (s .1) zero-le, le-of binary32 (remEuclid binary32 x d) d (s .0) D (s .1) (clear binary32 d D w r) (s .2))
+      let s = remEuclid-range binary32 x d (q .count) D P w r (q .sign) (q .val) (q .rep) in (
+        le-of binary32 nought (remEuclid binary32 x d) 0 (s .0) nought-nn (s .1) zero-le,
+        le-of binary32 (remEuclid binary32 x d) d (s .0) D (s .1) (clear binary32 d D w r) (s .2),
+      )
 
 pub rem-pi : (x : Float) → T (fits binary32 x) → T (finite x) → T (le nought (remEuclid binary32 x pi)) × T (le (remEuclid binary32 x pi) pi)
 rem-pi = rem-between pi P (lit< tt) pi-val pi-rep

@@ -1,5 +1,6 @@
 -- The square root, rounded to the nearest value, over whole numbers. `isqrt n` is the whole root: its square is at most n, and the next number's is above n.
--- x of n units has a root of √(n * 2 ^ low) units. `sqrt f x` keeps `prec` digits of that, and goes up by one where the root is past the middle; both are told by comparing squares.
+-- x of n units has a root of √(n * 2 ^ low) units. `sqrt f x` keeps `prec` digits of that, and goes up by one where the root is past the middle; both
+-- are told by comparing squares.
 -- A middle is never met: four times a whole number is no odd square. `root-nearest` says so. Assumes nothing.
 use mathlib.Core.Path.{_≡_, refl, sym, ap, _∙_, subst}
 use mathlib.Core.Logic.{_⊎_, inl, inr}
@@ -67,7 +68,9 @@ pub sqrt-at : (f : Format) (x : Float) (n : ℕ) → 0 < n → Val f x false n �
 unfolding sqrt
 sqrt-at f nan n p v = absurd v
 sqrt-at f (inf s) n p v = absurd v
-sqrt-at f (fin s zero e) n p v = absurd (lt-irrefl 0 (subst (λ (z : ℕ). 0 < z) (sym (v .1) ∙ ap (λ (z : ℕ). z * 2 ^ low f) (zero-mul (up e)) ∙ zero-mul (2 ^ low f)) (mul-pos p (down-pos e))))
+sqrt-at f (fin s zero e) n p v =
+    absurd (lt-irrefl 0 (subst (λ (z : ℕ). 0 < z) (sym (v .1) ∙ ap (λ (z : ℕ). z * 2 ^ low f) (zero-mul (up e)) ∙
+    zero-mul (2 ^ low f)) (mul-pos p (down-pos e))))
 sqrt-at f (fin true (suc m) e) n p v = absurd (mathlib.Core.Bool.true≢false (v .0))
 sqrt-at f (fin false (suc m) e) n p v = ap (λ (z : ℕ). rootUnits f (z * 2 ^ low f)) (ap (λ (z : ℕ). z / down e) (v .1) ∙ mul-div-cancel n (down-pos e))
 
@@ -99,12 +102,14 @@ module _ (M h q N : ℕ) (r : IsRoot M q) (e : N ≡ M * (2 ^ h * 2 ^ h)) where
   -- past the middle
   past : (middle q h * middle q h < 4 * N) → (2 * q + 1) * (2 * q + 1) < 4 * M
   past l = lt-of-mul-lt-mul-right (2 ^ h * 2 ^ h)
-      (subst (λ (z : ℕ). (2 * q + 1) * (2 * q + 1) * (2 ^ h * 2 ^ h) < z) (ap (λ (z : ℕ). 4 * z) e ∙ sym (mul-assoc 4 M (2 ^ h * 2 ^ h))) (subst (λ (z : ℕ). z < 4 * N) (square-shift (2 * q + 1)) l))
+      (subst (λ (z : ℕ). (2 * q + 1) * (2 * q + 1) * (2 ^ h * 2 ^ h) < z) (ap (λ (z : ℕ). 4 * z) e ∙
+      sym (mul-assoc 4 M (2 ^ h * 2 ^ h))) (subst (λ (z : ℕ). z < 4 * N) (square-shift (2 * q + 1)) l))
 
   past-back : (2 * q + 1) * (2 * q + 1) < 4 * M → middle q h * middle q h < 4 * N
   past-back l =
       subst (λ (z : ℕ). z < 4 * N) (sym (square-shift (2 * q + 1)))
-      (subst (λ (z : ℕ). (2 * q + 1) * (2 * q + 1) * (2 ^ h * 2 ^ h) < z) (mul-assoc 4 M (2 ^ h * 2 ^ h) ∙ ap (λ (z : ℕ). 4 * z) (sym e)) (mul-lt-mul-of-pos-right l P))
+      (subst (λ (z : ℕ). (2 * q + 1) * (2 * q + 1) * (2 ^ h * 2 ^ h) < z) (mul-assoc 4 M (2 ^ h * 2 ^ h) ∙
+      ap (λ (z : ℕ). 4 * z) (sym e)) (mul-lt-mul-of-pos-right l P))
 
 -- (2 q + 1) ^ 2 = 4 (q ^ 2 + q) + 1
 odd-square : (q : ℕ) → (2 * q + 1) * (2 * q + 1) ≡ 4 * (q * q + q) + 1
@@ -138,7 +143,8 @@ module _ (M h q N : ℕ) (r : IsRoot M q) (lo : 2 ^ 23 ≤ q) (hi : q < 2 ^ 24) 
       let w = wholeRoot 554 N in
       let i = isq-root 554 N small in
       let a : 2 ^ (23 + h) ≤ w = le-trans (le-of-eq (pow-add 2 23 h)) (le-trans (mul-le-mul-right (2 ^ h) lo) (low-end M h q N r e w i)) in
-      let b : w < 2 ^ suc (23 + h) = lt-of-lt-of-le (high-end M h q N r e w i) (le-trans (mul-le-mul-right (2 ^ h) hi) (le-of-eq (sym (pow-add 2 24 h) ∙ ap (λ (z : ℕ). 2 ^ z) (next h)))) in
+      let b : w < 2 ^ suc (23 + h) = lt-of-lt-of-le (high-end M h q N r e w i)
+      (le-trans (mul-le-mul-right (2 ^ h) hi) (le-of-eq (sym (pow-add 2 24 h) ∙ ap (λ (z : ℕ). 2 ^ z) (next h)))) in
       let k : size w - 24 ≡ h = ap (λ (z : ℕ). z - 24) (size-is w (23 + h) a b) ∙ less h in
       ap (λ (z : ℕ). units binary32 false (cond (ltb (middle (w / 2 ^ z) z * middle (w / 2 ^ z) z) (4 * N)) (suc (w / 2 ^ z)) (w / 2 ^ z)) z) k
       ∙ ap (λ (z : ℕ). units binary32 false (cond (ltb (middle z h * middle z h) (4 * N)) (suc z) z) h) (kept-root M h q N r e w i)
@@ -215,7 +221,8 @@ module _ (m h q : ℕ) (r : IsRoot m q) (a : 2 ^ 46 ≤ m) (b : m < 2 ^ 48) (l :
 pub even-split : (m j : ℕ) → 24 ≤ j → j % 2 ≡ 0 → m * 16777216 * (2 ^ ((j - 24) / 2) * 2 ^ ((j - 24) / 2)) ≡ m * 2 ^ j
 even-split m j h e =
     mul-assoc m 16777216 (2 ^ ((j - 24) / 2) * 2 ^ ((j - 24) / 2))
-    ∙ ap (λ (z : ℕ). m * (2 ^ 24 * z)) (sym (pow-add 2 ((j - 24) / 2) ((j - 24) / 2))) ∙ ap (λ (z : ℕ). m * z) (sym (pow-add 2 24 ((j - 24) / 2 + (j - 24) / 2)) ∙ ap (λ (z : ℕ). 2 ^ z) (back j h e))
+    ∙ ap (λ (z : ℕ). m * (2 ^ 24 * z)) (sym (pow-add 2 ((j - 24) / 2) ((j - 24) / 2))) ∙
+    ap (λ (z : ℕ). m * z) (sym (pow-add 2 24 ((j - 24) / 2 + (j - 24) / 2)) ∙ ap (λ (z : ℕ). 2 ^ z) (back j h e))
   where
     back : (j : ℕ) → 24 ≤ j → j % 2 ≡ 0 → 24 + ((j - 24) / 2 + (j - 24) / 2) ≡ j
     back j h e = omega arith
@@ -223,7 +230,8 @@ even-split m j h e =
 pub odd-split : (m j : ℕ) → 23 ≤ j → (j % 2 ≡ 0 → ⊥) → m * 8388608 * (2 ^ ((j - 23) / 2) * 2 ^ ((j - 23) / 2)) ≡ m * 2 ^ j
 odd-split m j h e =
     mul-assoc m 8388608 (2 ^ ((j - 23) / 2) * 2 ^ ((j - 23) / 2))
-    ∙ ap (λ (z : ℕ). m * (2 ^ 23 * z)) (sym (pow-add 2 ((j - 23) / 2) ((j - 23) / 2))) ∙ ap (λ (z : ℕ). m * z) (sym (pow-add 2 23 ((j - 23) / 2 + (j - 23) / 2)) ∙ ap (λ (z : ℕ). 2 ^ z) (back j h e))
+    ∙ ap (λ (z : ℕ). m * (2 ^ 23 * z)) (sym (pow-add 2 ((j - 23) / 2) ((j - 23) / 2))) ∙
+    ap (λ (z : ℕ). m * z) (sym (pow-add 2 23 ((j - 23) / 2 + (j - 23) / 2)) ∙ ap (λ (z : ℕ). 2 ^ z) (back j h e))
   where
     back : (j : ℕ) → 23 ≤ j → (j % 2 ≡ 0 → ⊥) → 23 + ((j - 23) / 2 + (j - 23) / 2) ≡ j
     back j h e = omega arith
@@ -231,14 +239,16 @@ odd-split m j h e =
 -- t * 2 ^ i has at most 23 zeros put on while it is below 2 ^ 23
 pub few-shifts : (t m i : ℕ) → 0 < t → m ≡ t * 2 ^ i → m < 8388608 → i < 23
 few-shifts t m i p e h =
-    lt-of-not-le (λ (g : 23 ≤ i). not-le-of-lt h (le-trans (pow-mono g) (le-trans (le-of-eq (sym (native.Mathlib.Nat.one-mul (2 ^ i)))) (le-trans (mul-le-mul-right (2 ^ i) p) (le-of-eq (sym e))))))
+    lt-of-not-le (λ (g : 23 ≤ i). not-le-of-lt h
+    (le-trans (pow-mono g) (le-trans (le-of-eq (sym (native.Mathlib.Nat.one-mul (2 ^ i)))) (le-trans (mul-le-mul-right (2 ^ i) p) (le-of-eq (sym e))))))
 
 pub shift-more : (t m i : ℕ) → m ≡ t * 2 ^ i → m * 2 ≡ t * 2 ^ (i + 1)
 shift-more t m i e = ap (λ (z : ℕ). z * 2) e ∙ mul-assoc t (2 ^ i) 2 ∙ ap (λ (z : ℕ). t * z) (sym (pow-add 2 i 1))
 
 pub shift-back : (t m i : ℕ) → i ≤ 149 → m ≡ t * 2 ^ i → m * 2 ^ (149 - i) ≡ t * 2 ^ 149
 shift-back t m i h e =
-    ap (λ (z : ℕ). z * 2 ^ (149 - i)) e ∙ mul-assoc t (2 ^ i) (2 ^ (149 - i)) ∙ ap (λ (z : ℕ). t * z) (sym (pow-add 2 i (149 - i)) ∙ ap (λ (z : ℕ). 2 ^ z) (native.Mathlib.Nat.add-sub-of-le h))
+    ap (λ (z : ℕ). z * 2 ^ (149 - i)) e ∙ mul-assoc t (2 ^ i) (2 ^ (149 - i)) ∙
+    ap (λ (z : ℕ). t * z) (sym (pow-add 2 i (149 - i)) ∙ ap (λ (z : ℕ). 2 ^ z) (native.Mathlib.Nat.add-sub-of-le h))
 
 -- ---- the root of what a pattern stands for
 pub sqrt-low : (b : ℕ) → 0 < b → b < 0x7f800000 → b / 8388608 ≡ 0 → rootUnits binary32 (b % 8388608 * 2 ^ 149) ≡ sqrt binary32 (ofBits binary32 b)
@@ -247,14 +257,16 @@ sqrt-low b p l e = sym (sqrt-at binary32 (ofBits binary32 b) (b % 8388608) (rest
     rest : (b : ℕ) → 0 < b → b / 8388608 ≡ 0 → 0 < b % 8388608
     rest b p e = omega arith
 
-pub sqrt-high : (b : ℕ) → b < 0x7f800000 → (b / 8388608 ≡ 0 → ⊥) → rootUnits binary32 ((8388608 + b % 8388608) * 2 ^ (b / 8388608 + 148)) ≡ sqrt binary32 (ofBits binary32 b)
+pub sqrt-high : (b : ℕ) → b < 0x7f800000 → (b / 8388608 ≡ 0 → ⊥) →
+    rootUnits binary32 ((8388608 + b % 8388608) * 2 ^ (b / 8388608 + 148)) ≡ sqrt binary32 (ofBits binary32 b)
 sqrt-high b l n =
     let x = b / 8388608 - 1 in
     let e : b / 8388608 ≡ suc x = up-one (b / 8388608) n in
     let u : suc x < 255 = subst (λ (z : ℕ). z < 255) e (field b l) in
     let v = read-high binary32 b x (lt-of-lt-of-le l (lit≤ tt)) e u in
     ap (λ (z : ℕ). rootUnits binary32 ((8388608 + b % 8388608) * 2 ^ z)) (shifted (b / 8388608) n)
-    ∙ ap (λ (z : ℕ). rootUnits binary32 z) (ap (λ (z : ℕ). (8388608 + b % 8388608) * z) (pow-add 2 x 149) ∙ sym (mul-assoc (8388608 + b % 8388608) (2 ^ x) (2 ^ 149)))
+    ∙ ap (λ (z : ℕ). rootUnits binary32 z) (ap (λ (z : ℕ). (8388608 + b % 8388608) * z) (pow-add 2 x 149) ∙
+    sym (mul-assoc (8388608 + b % 8388608) (2 ^ x) (2 ^ 149)))
     ∙ sym (sqrt-at binary32 (ofBits binary32 b) ((8388608 + b % 8388608) * 2 ^ x) (mul-pos (some (b % 8388608)) (pow-pos x)) v)
   where
     up-one : (d : ℕ) → (d ≡ 0 → ⊥) → d ≡ suc (d - 1)

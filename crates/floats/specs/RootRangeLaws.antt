@@ -22,7 +22,12 @@ zero0 = fin false 0 (pos 0)
 
 -- ---- a root is a NaN or not below zero
 of-le : (a b : ℕ) → a ≤ b → T (ltb a b || (eqb a b && true))
-of-le a b h = elim (eq-or-lt-of-le h) [ inl e ↦ or-r (ltb a b) (eqb a b && true) (and-one (eqb a b) (eq→eqb e)) | inr l ↦ or-l (ltb a b) (eqb a b && true) (lt→ltb a b l) ]
+of-le a b h =
+    elim (eq-or-lt-of-le h) [
+      | inl e ↦ or-r (ltb a b) (eqb a b && true) (and-one (eqb a b) (eq→eqb e))
+      | inr l ↦ or-l (ltb a b) (eqb a b && true)
+          (lt→ltb a b l)
+    ]
   where
     and-one : (x : Bool) → T x → T (x && true)
     and-one true t = tt
@@ -45,7 +50,12 @@ units-above f q k = go (ltb (q * 2 ^ k) (2 ^ (low f + suc (emax f))))
     go false = unfold le in tt
 
 zero-above : (s : Bool) (e : ℤ) → T (le zero0 (fin s zero e))
-zero-above s e = subst T (sym (le-val binary32 zero0 (fin s zero e) false 0 s 0 (refl, refl) (refl, ap (λ (z : ℕ). z * 2 ^ 149) (zero-mul (up e)) ∙ sym (zero-mul (down e))))) (go s)
+zero-above s e =
+    subst T (sym (le-val binary32 zero0 (fin s zero e) false 0 s 0 (refl, refl) (
+      refl,
+      ap (λ (z : ℕ). z * 2 ^ 149) (zero-mul (up e)) ∙
+          sym (zero-mul (down e)),
+    ))) (go s)
   where
     go : (s : Bool) → T (below false 0 s 0 || level false 0 s 0)
     go true = tt
@@ -71,5 +81,7 @@ pi-between = (tt, tt)
 pub capped-root : (v : Float) → T (fits binary32 v) → T (le nought (min (sqrt binary32 v) pi)) × T (le (min (sqrt binary32 v) pi) pi)
 capped-root v p =
     let q : T (fits binary32 pi) = lib.Ieee.Bits.ofBits-fits binary32 0x40490fdb in
-    let n = le-no-nan nought pi (pi-between .0) in
-    (min-above nought (sqrt binary32 v) pi (λ t. subst (λ (z : Float). T (le z (sqrt binary32 v))) (sym nought-is) (sqrt-above v t)) (pi-between .0), min-right binary32 (sqrt binary32 v) pi (sqrt-fits binary32 v p) q (n .1))
+    let n = le-no-nan nought pi (pi-between .0) in (
+      min-above nought (sqrt binary32 v) pi (λ t. subst (λ (z : Float). T (le z (sqrt binary32 v))) (sym nought-is) (sqrt-above v t)) (pi-between .0),
+      min-right binary32 (sqrt binary32 v) pi (sqrt-fits binary32 v p) q (n .1),
+    )

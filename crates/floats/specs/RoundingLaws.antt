@@ -1,4 +1,5 @@
--- `R f n`: n units rounded to a number of units that the format holds. It keeps the order, and it changes nothing at a number that the format holds (`Rep f n`).
+-- `R f n`: n units rounded to a number of units that the format holds. It keeps the order, and it changes nothing at a number that the format holds
+-- (`Rep f n`).
 -- What fits the format has such a number of units. Remainders, and what lies just below a held number, are worked out on whole numbers. Assumes nothing.
 use mathlib.Core.Path.{_≡_, refl, sym, ap, _∙_, subst}
 use Prim.Native.Nat.{ℕ, zero, suc, _+_, _-_, _*_, _%_, _^_, _≤_, _<_}
@@ -73,7 +74,8 @@ finite-under (inf false) (fin s m e) u t h = absurd h
 finite-under (fin s m e) y u t h = tt
 
 upper-round : (f : Format) (n : ℕ) → Upper (round f false n (2 ^ low f))
-upper-round f n = subst Upper (sym (round-is f false n (2 ^ low f))) (go (kept (prec f) (n * 2 ^ low f) (2 ^ low f)) (drop (prec f) (n * 2 ^ low f) (2 ^ low f)))
+upper-round f n =
+    subst Upper (sym (round-is f false n (2 ^ low f))) (go (kept (prec f) (n * 2 ^ low f) (2 ^ low f)) (drop (prec f) (n * 2 ^ low f) (2 ^ low f)))
   where
     pick : (b : Bool) (x : Float) → Upper x → Upper (cond b x (inf false))
     pick true x u = u
@@ -84,7 +86,9 @@ upper-round f n = subst Upper (sym (round-is f false n (2 ^ low f))) (go (kept (
     odd-upper d (suc q) k l = unfold lib.Ieee.odd in refl
 
     go : (q k : ℕ) → Upper (units f false q k)
-    go q k = unfold units in pick (ltb (q * 2 ^ k) (2 ^ (low f + suc (emax f)))) (lib.Ieee.odd (suc (prec f)) false q k (low f)) (odd-upper (suc (prec f)) q k (low f))
+    go q k =
+        unfold units in pick (ltb (q * 2 ^ k) (2 ^ (low f + suc (emax f)))) (lib.Ieee.odd (suc (prec f)) false q k (low f))
+        (odd-upper (suc (prec f)) q k (low f))
 
 le-units : (a b : ℕ) → T (below false a false b || level false a false b) → a ≤ b
 le-units a b t = go (ltb a b) (ltb→lt a b) t
@@ -121,7 +125,8 @@ expo l (pos k) = k + l
 expo l (negsuc k) = l - suc k
 
 pow-le-back : (i j : ℕ) → 2 ^ i ≤ 2 ^ j → i ≤ j
-pow-le-back i j h = native.Mathlib.Nat.le-of-suc-le-suc (lt-of-not-le (λ (g : suc j ≤ i). not-le-of-lt (lt-of-lt-of-le (pow-lt (le-refl (suc j))) (pow-mono g)) h))
+pow-le-back i j h =
+    native.Mathlib.Nat.le-of-suc-le-suc (lt-of-not-le (λ (g : suc j ≤ i). not-le-of-lt (lt-of-lt-of-le (pow-lt (le-refl (suc j))) (pow-mono g)) h))
 
 expo-val : (l m : ℕ) (e : ℤ) → down e ≤ 2 ^ l → m * up e * 2 ^ l ≡ m * 2 ^ expo l e * down e
 expo-val l m (pos k) h = mul-assoc m (2 ^ k) (2 ^ l) ∙ ap (λ (z : ℕ). m * z) (sym (pow-add 2 k l)) ∙ sym (mul-one (m * 2 ^ (k + l)))
@@ -164,7 +169,8 @@ fair-units : (l t n x e : ℕ) → 0 < e → x * 2 ^ l ≡ n * e → x < 2 ^ t *
 fair-units l t n x e E h k =
     lt-of-mul-lt-mul-right e
     (subst (λ (z : ℕ). z < 2 ^ (l + t) * e) h
-    (lt-of-lt-of-le (mul-lt-mul-of-pos-right k (pow-pos l)) (le-of-eq (mul-right-comm (2 ^ t) e (2 ^ l) ∙ ap (λ (z : ℕ). z * e) (sym (pow-add 2 t l) ∙ ap (λ (z : ℕ). 2 ^ z) (add-comm t l))))))
+    (lt-of-lt-of-le (mul-lt-mul-of-pos-right k (pow-pos l)) (le-of-eq (mul-right-comm (2 ^ t) e (2 ^ l) ∙
+    ap (λ (z : ℕ). z * e) (sym (pow-add 2 t l) ∙ ap (λ (z : ℕ). 2 ^ z) (add-comm t l))))))
 
 -- a finite value as its sign and its number of units
 pub record Counted (f : Format) (x : Float) : Type 0 where
@@ -220,12 +226,14 @@ rep-mod f a b B (q, j, qs, qe, qo) (p, k, ps, pe, po) = go (leb j k) (leb→le j
 
     go : (c : Bool) → (T c → j ≤ k) → (T (not c) → k < j) → Rep f (a % b)
     go true h n =
-        let e : b ≡ p * 2 ^ (k - j) * 2 ^ j = pe ∙ ap (λ (z : ℕ). p * 2 ^ z) (sym (sub-add-cancel (h tt))) ∙ ap (λ (z : ℕ). p * z) (shift k j) ∙ sym (mul-assoc p (2 ^ (k - j)) (2 ^ j)) in
+        let e : b ≡ p * 2 ^ (k - j) * 2 ^ j = pe ∙ ap (λ (z : ℕ). p * 2 ^ z) (sym (sub-add-cancel (h tt))) ∙ ap (λ (z : ℕ). p * z) (shift k j) ∙
+        sym (mul-assoc p (2 ^ (k - j)) (2 ^ j)) in
         let r : a % b ≡ q % (p * 2 ^ (k - j)) * 2 ^ j =
         ap (λ (z : ℕ). z % b) qe ∙ ap (λ (z : ℕ). q * 2 ^ j % z) e ∙ mod-scale q (p * 2 ^ (k - j)) (2 ^ j) (mul-pos P (pow-pos (k - j))) (pow-pos j) in
         (q % (p * 2 ^ (k - j)), j, lt-of-le-of-lt (mod-le q (p * 2 ^ (k - j))) qs, r, small)
     go false h n =
-        let e : a ≡ q * 2 ^ (j - k) * 2 ^ k = qe ∙ ap (λ (z : ℕ). q * 2 ^ z) (sym (sub-add-cancel (le-of-lt (n tt)))) ∙ ap (λ (z : ℕ). q * z) (shift j k) ∙ sym (mul-assoc q (2 ^ (j - k)) (2 ^ k)) in
+        let e : a ≡ q * 2 ^ (j - k) * 2 ^ k = qe ∙ ap (λ (z : ℕ). q * 2 ^ z) (sym (sub-add-cancel (le-of-lt (n tt)))) ∙
+        ap (λ (z : ℕ). q * z) (shift j k) ∙ sym (mul-assoc q (2 ^ (j - k)) (2 ^ k)) in
         let r : a % b ≡ q * 2 ^ (j - k) % p * 2 ^ k =
         ap (λ (z : ℕ). z % b) e ∙ ap (λ (z : ℕ). q * 2 ^ (j - k) * 2 ^ k % z) pe ∙ mod-scale (q * 2 ^ (j - k)) p (2 ^ k) P (pow-pos k) in
         (q * 2 ^ (j - k) % p, k, lt-of-lt-of-le (mod-lt (q * 2 ^ (j - k)) P) (le-of-lt ps), r, small)
@@ -233,8 +241,11 @@ rep-mod f a b B (q, j, qs, qe, qo) (p, k, ps, pe, po) = go (leb j k) (leb→le j
 -- ---- from 2 ^ (prec - 1 + k) units on, the format holds only multiples of 2 ^ k units
 pub rep-step : (f : Format) (k n : ℕ) → Rep f n → 2 ^ (prec f - 1 + k) ≤ n → (m : ℕ) × (n ≡ m * 2 ^ k)
 rep-step f k n (q, j, qs, qe, qo) h =
-    let j-ge : k ≤ j = reach f (lt-of-le-of-lt h (subst (λ (z : ℕ). z < 2 ^ (prec f + j)) (sym qe) (shl-lt (prec f) j qs))) in
-    (q * 2 ^ (j - k), qe ∙ ap (λ (z : ℕ). q * 2 ^ z) (sym (sub-add-cancel j-ge)) ∙ ap (λ (z : ℕ). q * z) (pow-add 2 (j - k) k) ∙ sym (mul-assoc q (2 ^ (j - k)) (2 ^ k)))
+    let j-ge : k ≤ j = reach f (lt-of-le-of-lt h (subst (λ (z : ℕ). z < 2 ^ (prec f + j)) (sym qe) (shl-lt (prec f) j qs))) in (
+      q * 2 ^ (j - k),
+      qe ∙ ap (λ (z : ℕ). q * 2 ^ z) (sym (sub-add-cancel j-ge)) ∙ ap (λ (z : ℕ). q * z) (pow-add 2 (j - k) k) ∙
+          sym (mul-assoc q (2 ^ (j - k)) (2 ^ k)),
+    )
   where
     pow-lt-back : (i d : ℕ) → 2 ^ i < 2 ^ d → i < d
     pow-lt-back i d g = lt-of-not-le (λ (u : d ≤ i). not-le-of-lt g (pow-mono u))

@@ -15,7 +15,8 @@ pub key-clear : (x : Float) → toBits binary32 x < 0x80000000 → toBits binary
 unfolding totalKey
 key-clear x h = go (leb 0x80000000 (toBits binary32 x)) (leb→le 0x80000000 (toBits binary32 x))
   where
-    go : (b : Bool) → (T b → 0x80000000 ≤ toBits binary32 x) → toBits binary32 x + 0x80000000 ≡ cond b (0xffffffff - toBits binary32 x) (toBits binary32 x + 0x80000000)
+    go : (b : Bool) → (T b → 0x80000000 ≤ toBits binary32 x) →
+        toBits binary32 x + 0x80000000 ≡ cond b (0xffffffff - toBits binary32 x) (toBits binary32 x + 0x80000000)
     go true l = absurd (not-le-of-lt h (l tt))
     go false l = refl
 
@@ -23,6 +24,7 @@ pub key-set : (x : Float) → 0x80000000 ≤ toBits binary32 x → 0xffffffff - 
 unfolding totalKey
 key-set x h = go (leb 0x80000000 (toBits binary32 x)) (nleb→lt 0x80000000 (toBits binary32 x))
   where
-    go : (b : Bool) → (T (not b) → toBits binary32 x < 0x80000000) → 0xffffffff - toBits binary32 x ≡ cond b (0xffffffff - toBits binary32 x) (toBits binary32 x + 0x80000000)
+    go : (b : Bool) → (T (not b) → toBits binary32 x < 0x80000000) →
+        0xffffffff - toBits binary32 x ≡ cond b (0xffffffff - toBits binary32 x) (toBits binary32 x + 0x80000000)
     go true l = refl
     go false l = absurd (not-le-of-lt (l tt) h)

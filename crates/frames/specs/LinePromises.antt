@@ -6,7 +6,6 @@ use mathlib.Core.List.{List, [], _∷_, _++_}
 use Prim.Native.Nat.{ℕ, _+_, _*_, _%_, _^_, _≤_, _<_}
 use native.Mathlib.Omega.{arith}
 use lib.ListN.{length, getD}
-use lib.Ieee.{Float}
 use Rattle.hex.specs.Hex.{valueOf, valuesOf, byteText, countText, wordsText}
 use Rattle.shapes.specs.Shapes.{shapeOf}
 use Rattle.shapes.specs.declared.Fault.{Fault}
@@ -23,7 +22,8 @@ use Rattle.checked.specs.declared.RingAnswer.the-variants as Rings
 use Rattle.checked.specs.declared.DiskAnswer.{DiskAnswer}
 use Rattle.checked.specs.declared.DiskAnswer.the-variants as Disks
 use Rattle.frames.specs.declared.Answer.{Answer}
-use Rattle.frames.specs.Frames.{answerOf, shapedAnswer, ringAnswered, diskAnswered, diskOfLine, countsWord, valueWords, ringText, diskText, refusalText, textOf, numberOf}
+use Rattle.frames.specs.Frames.{answerOf, shapedAnswer, ringAnswered, diskAnswered, diskOfLine, valueWords, ringText, diskText, refusalText, textOf}
+use Rattle.frames.specs.Frames.{numberOf}
 
 -- counts side by side, a byte each, as they are
 abbrev pub plainWord : List ℕ → ℕ

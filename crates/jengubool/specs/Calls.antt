@@ -40,7 +40,8 @@ ringCall samples angles fit counts =
     (ringStored (checkedRing samples angles) fit counts))
 
 unfoldable pub diskStored : DiskAnswer → List Float → List ℕ → Stored
-diskStored (Disks.Fitted m known) fit counts = record { code = 0; fit = stored (measuredValues m) 0 fit; counts = stored (map wide (measuredCounts m known)) 0 counts }
+diskStored (Disks.Fitted m known) fit counts =
+    record { code = 0; fit = stored (measuredValues m) 0 fit; counts = stored (map wide (measuredCounts m known)) 0 counts }
 diskStored (Disks.Refused number place) fit counts = record { code = number * 65536 + place; fit = fit; counts = counts }
 
 unfoldable pub diskCall : DiskData → Float → Float → List Float → List ℕ → Stored

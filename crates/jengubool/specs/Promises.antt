@@ -1,4 +1,5 @@
--- What the value calls return and leave in a caller's buffers: 0 with the answer's values and true counts in front, or number and place with both buffers as they came. Assumes nothing.
+-- What the value calls return and leave in a caller's buffers: 0 with the answer's values and true counts in front, or number and place with both
+-- buffers as they came. Assumes nothing.
 use mathlib.Core.Path.{_≡_, refl}
 use mathlib.Core.Bool.{Bool, true, false, cond}
 use mathlib.Core.List.{List}
@@ -9,7 +10,8 @@ use lib.ListN.{length}
 use lib.Dec.{ltb}
 use lib.Ieee.{Float}
 use Rattle.data.specs.Data.{DiskData}
-use Rattle.checked.specs.Checked.{checkedRing, checkedDisk, ringFitted, errorsKnown, measuredOf, ringNumber, ringPlace, ringValues, ringCounts, diskNumber, diskPlace, diskValues, diskCounts, flag}
+use Rattle.checked.specs.Checked.{checkedRing, checkedDisk, ringFitted, errorsKnown, measuredOf, ringNumber, ringPlace, ringValues, ringCounts, diskNumber}
+use Rattle.checked.specs.Checked.{diskPlace, diskValues, diskCounts, flag}
 use Rattle.robust.specs.Robust.{fitRing}
 use Rattle.score.specs.Score.{fitStdErrors}
 use Rattle.checked.specs.Promises.{answered-is-the-fit, answered-values, ring-bill, disk-answered-is-the-fit, disk-answered-values, disk-trials}
@@ -29,7 +31,8 @@ module _ (fit : List Float) (counts : List ℕ) where
   stored-keeps (Fitted r known) h = absurd (h refl)
   stored-keeps (Refused number place) h = refl
 
-  short-keeps : (a b : Bool) (r : Stored) → ((r .code ≡ 0 → ⊥) → r ≡ refusal (r .code)) → let s = cond a (refusal 65536) (cond b (refusal 65536) r) in (s .code ≡ 0 → ⊥) → s ≡ refusal (s .code)
+  short-keeps : (a b : Bool) (r : Stored) → ((r .code ≡ 0 → ⊥) → r ≡ refusal (r .code)) →
+      let s = cond a (refusal 65536) (cond b (refusal 65536) r) in (s .code ≡ 0 → ⊥) → s ≡ refusal (s .code)
   short-keeps true b r f h = refl
   short-keeps false true r f h = refl
   short-keeps false false r f h = f h

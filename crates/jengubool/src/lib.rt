@@ -109,7 +109,8 @@ fn put_counts(r: RingFit, known: bool, counts: &mut [u32])
 
 fn ring_stored(a: RingAnswer, fit: &mut [f32], counts: &mut [u32]) -> u32
     requires { ⌜ (6 ≤ length (now fit)) × (4 ≤ length (now counts)) ⌝ }
-    ensures { λ r. ⌜ _≡_ {A = J.Stored} (record { code = r; fit = now (fit .exit); counts = now (counts .exit) }) (J.ringStored a (now (fit .entry)) (now (counts .entry))) ⌝ }
+    ensures { λ r. ⌜ _≡_ {A = J.Stored} (record { code = r; fit = now (fit .exit); counts = now (counts .exit) })
+        (J.ringStored a (now (fit .entry)) (now (counts .entry))) ⌝ }
 {
     match a {
         RingAnswer::Fitted(r, known) => {
@@ -129,7 +130,8 @@ pub extern "C" fn jb_fit_ring(
     fit: &mut [f32],
     counts: &mut [u32],
 ) -> u32
-    ensures { λ r. ⌜ _≡_ {A = J.Stored} (record { code = r; fit = now (fit .exit); counts = now (counts .exit) }) (J.ringCall (now (samples .entry)) (now (angles .entry)) (now (fit .entry)) (now (counts .entry))) ⌝ }
+    ensures { λ r. ⌜ _≡_ {A = J.Stored} (record { code = r; fit = now (fit .exit); counts = now (counts .exit) })
+        (J.ringCall (now (samples .entry)) (now (angles .entry)) (now (fit .entry)) (now (counts .entry))) ⌝ }
 {
     if fit.len() < 6 {
         return 65536;
@@ -170,7 +172,8 @@ fn put_trials(m: Measured, known: bool, counts: &mut [u32])
 
 fn disk_stored(a: DiskAnswer, fit: &mut [f32], counts: &mut [u32]) -> u32
     requires { ⌜ (11 ≤ length (now fit)) × (2 ≤ length (now counts)) ⌝ }
-    ensures { λ r. ⌜ _≡_ {A = J.Stored} (record { code = r; fit = now (fit .exit); counts = now (counts .exit) }) (J.diskStored a (now (fit .entry)) (now (counts .entry))) ⌝ }
+    ensures { λ r. ⌜ _≡_ {A = J.Stored} (record { code = r; fit = now (fit .exit); counts = now (counts .exit) })
+        (J.diskStored a (now (fit .entry)) (now (counts .entry))) ⌝ }
 {
     match a {
         DiskAnswer::Fitted(m, known) => {
@@ -196,7 +199,9 @@ pub extern "C" fn jb_fit_disk(
     fit: &mut [f32],
     counts: &mut [u32],
 ) -> u32
-    ensures { λ r. ⌜ _≡_ {A = J.Stored} (record { code = r; fit = now (fit .exit); counts = now (counts .exit) }) (J.diskCall (diskOf «val_energy» (now (xs .entry)) (now (ys .entry)) (now («vals_centered» .entry)) (now («grad_angles» .entry)) (now («grad_weights» .entry))) base0 base1 (now (fit .entry)) (now (counts .entry))) ⌝ }
+    ensures { λ r. ⌜ _≡_ {A = J.Stored} (record { code = r; fit = now (fit .exit); counts = now (counts .exit) })
+        (J.diskCall (diskOf «val_energy» (now (xs .entry)) (now (ys .entry)) (now («vals_centered» .entry)) (now («grad_angles» .entry))
+        (now («grad_weights» .entry))) base0 base1 (now (fit .entry)) (now (counts .entry))) ⌝ }
 {
     if fit.len() < 11 {
         return 65536;

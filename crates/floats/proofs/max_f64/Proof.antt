@@ -19,11 +19,13 @@ returns-3 c = let a = c .before .before .before .args in
 
 returns-4 : tie.Need-returns-4
 returns-4 c = let s = c .before .before .before .before .before in
-    max-zeros binary64 (s .args .x) (s .args .y) (of-true (s .good .0 .1)) (of-true (s .good .1 .0 .1)) (c .before .if4 .taken) (subst (λ (z : Float). eq (s .args .x) z ≡ true) nought64 (c .if5 .taken))
+    max-zeros binary64 (s .args .x) (s .args .y) (of-true (s .good .0 .1)) (of-true (s .good .1 .0 .1)) (c .before .if4 .taken)
+    (subst (λ (z : Float). eq (s .args .x) z ≡ true) nought64 (c .if5 .taken))
 
 returns-5 : tie.Need-returns-5
 returns-5 c = let a = c .before .before .before .before .before .args in
-    sym (ap (λ (b : Bool). cond b (a .y) (a .x)) (before-same _ _ (c .before .before .if3 .left) (c .before .if4 .taken) (subst (λ (z : Float). eq (a .x) z ≡ false) nought64 (c .if5 .left))))
+    sym (ap (λ (b : Bool). cond b (a .y) (a .x))
+    (before-same _ _ (c .before .before .if3 .left) (c .before .if4 .taken) (subst (λ (z : Float). eq (a .x) z ≡ false) nought64 (c .if5 .left))))
     ∙ max-pick _ _ (c .before .before .before .before .if1 .left) (c .before .before .before .if2 .left)
 
 returns-6 : tie.Need-returns-6

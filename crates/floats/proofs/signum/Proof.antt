@@ -23,7 +23,8 @@ returns-3 c = search needs
 returns-4 : tie.Need-returns-4
 returns-4 c = let s = c .before .before .before in
     let x = s .args .x in
-    signum-above x (of-true (s .good .0 .1)) (c .before .before .if1 .left) (subst (λ (z : Float). lt x z ≡ false) zero32 (c .before .if2 .left)) (subst (λ (z : Float). eq x z ≡ false) zero32 (c .if3 .left))
+    signum-above x (of-true (s .good .0 .1)) (c .before .before .if1 .left) (subst (λ (z : Float). lt x z ≡ false) zero32 (c .before .if2 .left))
+    (subst (λ (z : Float). eq x z ≡ false) zero32 (c .if3 .left))
 
 pub signum-spec : {M : Type 1} → statement M
 signum-spec = tie.close (tie.spec returns returns-2 zero-signum-requires returns-3 returns-4)

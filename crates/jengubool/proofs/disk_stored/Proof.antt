@@ -6,7 +6,11 @@ use Rattle.jengubool.proofs.disk_stored.Tie as tie
 
 returns : tie.Need-returns
 unfolding J.diskStored
-returns c = rw (c .before .before .before .before .before .before .before .before .before .a .given .1, c .before .before .before .before .before .before .put-disk .ensures, c .before .before .put-trials .ensures)
+returns c =
+    let at-a = c .before .before .before .before .before .before .before .before .before .a in
+    let at-put-disk = c .before .before .before .before .before .before .put-disk in
+    let at-put-trials = c .before .before .put-trials in
+    rw (at-a .given .1, at-put-disk .ensures, at-put-trials .ensures)
 
 returns-2 : tie.Need-returns-2
 unfolding J.diskStored

@@ -15,7 +15,12 @@ returns-2 c = rw (le-ltb _ _ (c .before .if1 .left), lt-ltb _ _ (c .if2 .taken))
 
 returns-3 : tie.Need-returns-3
 unfolding J.diskCall
-returns-3 c = rw (le-ltb _ _ (c .before .before .before .before .before .before .before .before .before .if1 .left), le-ltb _ _ (c .before .before .before .before .before .before .before .before .if2 .left), ← c .before .before .before .before .before .before .before .fit-disk .ensures) (c .before .before .before .before .disk-stored .ensures)
+returns-3 c =
+    let at-if1 = c .before .before .before .before .before .before .before .before .before .if1 in
+    let at-if2 = c .before .before .before .before .before .before .before .before .if2 in
+    let at-fit-disk = c .before .before .before .before .before .before .before .fit-disk in
+    let at-disk-stored = c .before .before .before .before .disk-stored in
+    rw (le-ltb _ _ (at-if1 .left), le-ltb _ _ (at-if2 .left), ← at-fit-disk .ensures) (at-disk-stored .ensures)
 
 pub jb-fit-disk-spec : {M : Type 1} → statement M
 jb-fit-disk-spec =

@@ -4,10 +4,6 @@ use Rattle.jengubool.specs.Calls as J
 use borrow.Author.Needs.{needs}
 use Rattle.jengubool.proofs.jb_fit_ring.Statement.{statement}
 use Rattle.jengubool.proofs.jb_fit_ring.Tie as tie
-use Rattle.jengubool.proofs.jb_fit_ring.Reads as reads
-use Rattle.jengubool.proofs.jb_fit_ring.Lts as lts
-use Rattle.checked.proofs.fit_ring.Reads as fit-ring-reads
-use Rattle.jengubool.proofs.ring_stored.Reads as ring-stored-reads
 
 returns : tie.Need-returns
 unfolding J.ringCall
@@ -31,7 +27,12 @@ same-length-2 c = search needs
 
 returns-3 : tie.Need-returns-3
 unfolding J.ringCall
-returns-3 c = rw (le-ltb _ _ (c .before .before .before .before .before .before .before .before .before .if1 .left), le-ltb _ _ (c .before .before .before .before .before .before .before .before .if2 .left), ← c .before .before .before .before .before .before .before .fit-ring .ensures) (c .before .before .before .before .ring-stored .ensures)
+returns-3 c =
+    let at-if1 = c .before .before .before .before .before .before .before .before .before .if1 in
+    let at-if2 = c .before .before .before .before .before .before .before .before .if2 in
+    let at-fit-ring = c .before .before .before .before .before .before .before .fit-ring in
+    let at-ring-stored = c .before .before .before .before .ring-stored in
+    rw (le-ltb _ _ (at-if1 .left), le-ltb _ _ (at-if2 .left), ← at-fit-ring .ensures) (at-ring-stored .ensures)
 
 pub jb-fit-ring-spec : {M : Type 1} → statement M
 jb-fit-ring-spec =

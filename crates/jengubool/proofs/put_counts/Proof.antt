@@ -1,13 +1,9 @@
 -- Four stores in their order. Assumes nothing.
 use lib.ListN.{length-set}
 use native.Mathlib.Omega.{arith}
-use mathlib.Core.Path.{refl}
 use borrow.Author.Needs.{needs}
 use Rattle.jengubool.proofs.put_counts.Statement.{statement}
 use Rattle.jengubool.proofs.put_counts.Tie as tie
-use Rattle.jengubool.proofs.put_counts.Reads as reads
-use Rattle.jengubool.proofs.put_counts.Lts as lts
-use Rattle.jengubool.proofs.as_number.Reads as as-number-reads
 
 as-number-requires : tie.Need-as-number-requires
 as-number-requires c κs = search needs

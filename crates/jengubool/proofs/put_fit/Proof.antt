@@ -5,8 +5,6 @@ use mathlib.Core.Path.{refl}
 use borrow.Author.Needs.{needs}
 use Rattle.jengubool.proofs.put_fit.Statement.{statement}
 use Rattle.jengubool.proofs.put_fit.Tie as tie
-use Rattle.jengubool.proofs.put_fit.Reads as reads
-use Rattle.jengubool.proofs.put_fit.Lts as lts
 
 slice-write-fit : tie.Need-slice-write-fit
 slice-write-fit c = search needs

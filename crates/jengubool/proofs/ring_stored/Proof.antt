@@ -3,10 +3,6 @@ use Rattle.jengubool.specs.Calls as J
 use borrow.Author.Needs.{needs}
 use Rattle.jengubool.proofs.ring_stored.Statement.{statement}
 use Rattle.jengubool.proofs.ring_stored.Tie as tie
-use Rattle.jengubool.proofs.ring_stored.Reads as reads
-use Rattle.jengubool.proofs.ring_stored.Lts as lts
-use Rattle.jengubool.proofs.put_counts.Reads as put-counts-reads
-use Rattle.jengubool.proofs.put_fit.Reads as put-fit-reads
 
 enum-known-a : tie.Need-enum-known-a
 enum-known-a c = search needs
@@ -40,7 +36,11 @@ same-length-2 c = search needs
 
 returns : tie.Need-returns
 unfolding J.ringStored
-returns c = rw (c .before .before .before .before .before .before .before .before .before .a .given .1, c .before .before .before .before .before .before .put-fit .ensures, c .before .before .put-counts .ensures)
+returns c =
+    let at-a = c .before .before .before .before .before .before .before .before .before .a in
+    let at-put-fit = c .before .before .before .before .before .before .put-fit in
+    let at-put-counts = c .before .before .put-counts in
+    rw (at-a .given .1, at-put-fit .ensures, at-put-counts .ensures)
 
 returns-2 : tie.Need-returns-2
 unfolding J.ringStored

@@ -1,6 +1,5 @@
 -- Each test of the code is that of the definition, in the same order; the three slots of an axis start at `from`. Assumes nothing.
 use mathlib.Core.Path.{sym, _∙_}
-use native.Mathlib.Omega.{arith}
 use borrow.Author.Needs.{needs}
 use Rattle.search_rows.specs.Rows.{slotOf}
 use Rattle.search_rows.proofs.slot_of.Statement.{statement}
