@@ -5,7 +5,7 @@ use mathlib.Core.Bool.{Bool}
 use Prim.Native.Nat.{ℕ, _+_, _≤_}
 use native.Mathlib.Omega.{arith}
 use lib.ListN.{length, length-append}
-use Rattle.hex.specs.Hex.{byteText, countText, wordsText, put}
+use Rattle.hex.specs.Hex.{byteText, countText, put}
 use Rattle.hex.specs.HexLaws.{words-length, put-put}
 use Rattle.robust.specs.declared.RingFit.{RingFit}
 use Rattle.checked.specs.declared.Measured.{Measured}

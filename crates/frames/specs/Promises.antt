@@ -1,14 +1,11 @@
 -- What the line call promises, for every line and every lent buffer. `replyOf` is its definition: the contract of `frames::answer_line` says that the number returned and the whole buffer equal it. Assumes nothing.
-use mathlib.Core.Path.{_≡_, refl, sym, ap, _∙_}
-use mathlib.Core.Bool.{true, false}
-use mathlib.Core.List.{List, [], _∷_, _++_, map}
-use Prim.Native.Nat.{ℕ, _+_, _<_, _≤_}
-use native.Mathlib.Omega.{arith}
-use lib.ListN.{length, drop, replicate}
+use mathlib.Core.Path.{_≡_}
+use mathlib.Core.List.{List, _++_}
+use Prim.Native.Nat.{ℕ, _<_, _≤_}
+use lib.ListN.{length, drop}
 use borrow.Author.Tests.{lt-ltb, le-ltb}
-use Rattle.hex.specs.Hex.{put}
 use Rattle.hex.specs.HexLaws.{put-zero}
-use Rattle.frames.specs.Frames.{Reply, replyOf, answerOf, textOf, numberOf}
+use Rattle.frames.specs.Frames.{replyOf, answerOf, textOf, numberOf}
 
 -- a buffer under 98 bytes keeps every byte, and the number is 1
 pub short-buffer : (line out : List ℕ) → length out < 98 → replyOf line out ≡ record { number = 1; buffer = out }

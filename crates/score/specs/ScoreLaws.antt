@@ -7,7 +7,6 @@ use Prim.Native.Nat.{ℕ}
 use lib.Dec.{T}
 use lib.Ieee.{Float, binary32, le, fits}
 use lib.Ieee.Fits.{div-fits}
-use lib.ListN.{length}
 use Rattle.floats.specs.Ops.{_⊖_, _⊗_, _⊘_, nought, one}
 use Rattle.floats.specs.Library.{narrow}
 use Rattle.geometry.specs.Geometry.{validPair}
@@ -15,7 +14,7 @@ use Rattle.solver_axes.specs.Canonical.{CanonicalRange}
 use Rattle.solver_axes.specs.CanonicalLaws.{canonical-range}
 use Rattle.solver_elimination.specs.SolveLaws.{Bounded, errors-bounded}
 use Rattle.floats.specs.Rows.{Row, at, count}
-use Rattle.data.specs.Data.{DiskData, diskOf}
+use Rattle.data.specs.Data.{DiskData}
 use Rattle.candidates.specs.declared.CandidateSet.{CandidateSet}
 use Rattle.score_edges.specs.Edges.{edgeWeightTotal, rankedSum}
 use Rattle.loops.specs.TabLaws.{Stores}
