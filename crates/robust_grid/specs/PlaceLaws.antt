@@ -1,21 +1,20 @@
 -- The grid stands sample by sample in one buffer, 24 places each: what is written of one sample leaves the others, and the sums that a lane adds up from its
 -- places are those of its pair's rows. Assumes nothing.
-use mathlib.Core.Path.{_≡_, refl, sym, ap, _∙_}
-use mathlib.Core.List.{[], _∷_, _++_}
-use Prim.Native.Nat.{ℕ, zero, suc, _+_, _*_, _≤_, _<_}
+use mathlib.Core.Path.{_≡_, sym, ap, _∙_}
+use mathlib.Core.List.{_++_}
+use Prim.Native.Nat.{ℕ, _+_, _*_, _≤_, _<_}
 use native.Mathlib.Omega.{arith}
 use borrow.Author.Count.{below-none, below-more}
 use lib.ListN.{length, take, drop}
 use lib.Seq.{getD-take, getD-drop}
 use lib.Ieee.{Float, nan}
-use Rattle.floats.specs.Ops.{nought}
 use Rattle.floats.specs.Rows.{Row, at}
 use Rattle.elementary.specs.Elementary.{sinCos}
 use Rattle.elementary.specs.declared.SinCos.{SinCos}
 use Rattle.loops.specs.Loops.{tab}
-use Rattle.loops.specs.IterLaws.{iter-zero, iter-next, iter-same, range-same}
+use Rattle.loops.specs.IterLaws.{iter-same, range-same}
 use Rattle.loops.specs.TabLaws.{tab-length, tab-at, tab-same, part-kept, part-same}
-use Rattle.seed.specs.Seed.{zeros, summedBy, pairSums, scoreSeedPair}
+use Rattle.seed.specs.Seed.{zeros, pairSums, scoreSeedPair}
 use Rattle.seed.specs.declared.Seed.{Seed}
 use Rattle.seed.specs.declared.Seed.the-variants.{Nothing}
 use Rattle.robust_grid.specs.Grid.{gridAngle, factor, gridRow, pairAt, pairsFrom, bestOf, bestSeed}

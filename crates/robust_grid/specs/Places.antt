@@ -2,20 +2,15 @@
 -- Definitions only.
 use mathlib.Core.Path.{_≡_}
 use mathlib.Core.Bool.{cond}
-use mathlib.Core.List.{[], _∷_}
-use Prim.Native.Nat.{ℕ, _+_, _*_, _≤_, _<_}
+use Prim.Native.Nat.{ℕ, _+_, _*_, _<_}
 use lib.Dec.{leb, eqb}
-use lib.ListN.{length, take, drop}
-use lib.Ieee.{Float, nan, binary32}
-use Rattle.floats.specs.Ops.{_⊕_, _⊖_, _⊗_, _⊘_, nought}
+use lib.ListN.{take, drop}
+use lib.Ieee.{Float}
 use Rattle.floats.specs.Rows.{Row, at, count}
-use Rattle.floats.specs.Library.{max, sqrt}
 use Rattle.elementary.specs.Elementary.{sinCos}
-use Rattle.loops.specs.Loops.{iter, range, tab}
-use Rattle.seed.specs.Seed.{zeros, summedBy, scored}
-use Rattle.seed.specs.declared.Sums.{Sums}
+use Rattle.loops.specs.Loops.{range, tab}
+use Rattle.seed.specs.Seed.{scored}
 use Rattle.seed.specs.declared.Seed.{Seed}
-use Rattle.seed.specs.declared.Seed.the-variants.{Found, Nothing}
 use Rattle.robust_lanes.specs.Lanes.{inserted, sumsAt}
 use Rattle.robust_grid.specs.Grid.{gridAngle, factor}
 
