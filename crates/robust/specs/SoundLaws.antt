@@ -21,7 +21,8 @@ use Rattle.seed.specs.declared.Sums.{Sums}
 use Rattle.seed.specs.declared.Seed.{Seed}
 use Rattle.seed.specs.declared.Seed.the-variants.{Found, Nothing}
 use Rattle.seed.specs.declared.SeedCandidate.{SeedCandidate}
-use Rattle.robust_grid.specs.Grid.{gridAngle, gridRow, inserted, pairAt, pairsFrom, bestOf, bestSeed}
+use Rattle.robust_lanes.specs.Lanes.{inserted}
+use Rattle.robust_grid.specs.Grid.{gridAngle, gridRow, pairAt, pairsFrom, bestOf, bestSeed}
 use Rattle.robust.specs.declared.RingFit.{RingFit}
 use Rattle.robust.specs.Robust as R
 

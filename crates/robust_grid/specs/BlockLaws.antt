@@ -12,12 +12,13 @@ use Rattle.loops.specs.IterLaws.{range-start, range-more, range-idle}
 use Rattle.seed.specs.Seed.{scored}
 use Rattle.seed.specs.declared.Sums.{Sums}
 use Rattle.seed.specs.declared.Seed.{Seed}
-use Rattle.robust_grid.specs.declared.Lanes.{Lanes}
-use Rattle.robust_grid.specs.Grid.{gridAngle, inserted}
-use Rattle.robust_grid.specs.Places.{sumsAt, laneSums, meanSquare, meanSquares, Squared, Bounded, lastOf, stepAt, scoreAt}
+use Rattle.robust_lanes.specs.declared.Lanes.{Lanes}
+use Rattle.robust_lanes.specs.Lanes.{inserted, sumsAt, laneSums, meanSquare, meanSquares, Squared, Bounded}
+use Rattle.robust_lanes.specs.LaneLaws.{four-at}
+use Rattle.robust_lanes.specs.SkipLaws.{scored-squared, skipped}
+use Rattle.robust_grid.specs.Grid.{gridAngle}
+use Rattle.robust_grid.specs.Places.{lastOf, stepAt, scoreAt}
 use Rattle.robust_grid.specs.PairLaws.{step-none, step-some}
-use Rattle.robust_grid.specs.SkipLaws.{scored-squared, skipped}
-use Rattle.robust_grid.specs.PlaceLaws.{four-at}
 
 -- ---- the turns
 module _ (score : ℕ → ℕ → Seed) (a b : ℕ) (top₀ : Seed) where

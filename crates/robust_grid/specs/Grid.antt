@@ -11,9 +11,10 @@ use Rattle.elementary.specs.declared.SinCos.{SinCos}
 use Rattle.geometry.specs.Geometry.{validPair}
 use Rattle.loops.specs.Loops.{iter, range, tab}
 use Rattle.solver.specs.Solver.{tanhBeta}
-use Rattle.seed.specs.Seed.{robustGridStepDeg, robustGridSteps, scoreSeedPair, insertSeedCandidate}
+use Rattle.seed.specs.Seed.{robustGridStepDeg, robustGridSteps, scoreSeedPair}
 use Rattle.seed.specs.declared.Seed.{Seed}
-use Rattle.seed.specs.declared.Seed.the-variants.{Found, Nothing}
+use Rattle.seed.specs.declared.Seed.the-variants.{Nothing}
+use Rattle.robust_lanes.specs.Lanes.{inserted}
 
 -- the angle number a, which the Rust calls ai or bi
 abbrev pub gridAngle : ℕ → Float
@@ -26,10 +27,6 @@ factor s c t = tanh (tanhBeta ⊗ (s ⊗ t .c ⊖ c ⊗ t .s))
 -- the row of the angle a
 unfoldable pub gridRow : ℕ → Row → Row → ℕ → Row
 gridRow n sphi cphi a = tab (λ i. factor (at sphi i) (at cphi i) (sinCos (gridAngle a))) n
-
-unfoldable pub inserted : Seed → Seed → Seed
-inserted top Nothing = top
-inserted top (Found c) = insertSeedCandidate top c
 
 -- `score a b` is the score of a pair; all allowed pairs in their order
 module _ (score : ℕ → ℕ → Seed) where

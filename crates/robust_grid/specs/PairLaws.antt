@@ -19,7 +19,8 @@ use Rattle.loops.specs.IterLaws.{iter-same, iter-next, range-start, range-first
 use Rattle.seed.specs.Seed.{robustGridStepDeg}
 use Rattle.seed.specs.declared.Seed.{Seed}
 use Rattle.seed.specs.declared.Seed.the-variants.{Nothing}
-use Rattle.robust_grid.specs.Grid.{gridAngle, inserted, pairAt, pairsFrom, bestOf}
+use Rattle.robust_grid.specs.Grid.{gridAngle, pairAt, pairsFrom, bestOf}
+use Rattle.robust_lanes.specs.Lanes.{inserted}
 use Rattle.robust_grid.specs.Places.{lastOf, stepAt}
 
 -- the literal of the code: 8 degrees

@@ -1,26 +1,25 @@
 -- The grid stands sample by sample in one buffer, 24 places each: what is written of one sample leaves the others, and the sums that a lane adds up from its
 -- places are those of its pair's rows. Assumes nothing.
-use mathlib.Core.Path.{_≡_, refl, sym, ap, _∙_}
-use mathlib.Core.List.{[], _∷_, _++_}
-use Prim.Native.Nat.{ℕ, zero, suc, _+_, _*_, _≤_, _<_}
+use mathlib.Core.Path.{_≡_, sym, ap, _∙_}
+use mathlib.Core.List.{_++_}
+use Prim.Native.Nat.{ℕ, _+_, _*_, _≤_, _<_}
 use native.Mathlib.Omega.{arith}
 use borrow.Author.Count.{below-none, below-more}
 use lib.ListN.{length, take, drop}
 use lib.Seq.{getD-take, getD-drop}
 use lib.Ieee.{Float, nan}
-use Rattle.floats.specs.Ops.{nought}
 use Rattle.floats.specs.Rows.{Row, at}
 use Rattle.elementary.specs.Elementary.{sinCos}
 use Rattle.elementary.specs.declared.SinCos.{SinCos}
 use Rattle.loops.specs.Loops.{tab}
-use Rattle.loops.specs.IterLaws.{iter-zero, iter-next, iter-same, range-same}
+use Rattle.loops.specs.IterLaws.{iter-same, range-same}
 use Rattle.loops.specs.TabLaws.{tab-length, tab-at, tab-same, part-kept, part-same}
-use Rattle.seed.specs.Seed.{zeros, summedBy, pairSums, scoreSeedPair}
+use Rattle.seed.specs.Seed.{zeros, pairSums, scoreSeedPair}
 use Rattle.seed.specs.declared.Seed.{Seed}
 use Rattle.seed.specs.declared.Seed.the-variants.{Nothing}
-use Rattle.robust_grid.specs.declared.Lanes.{Lanes}
 use Rattle.robust_grid.specs.Grid.{gridAngle, factor, gridRow, pairAt, pairsFrom, bestOf, bestSeed}
-use Rattle.robust_grid.specs.Places.{Axes, rowFrom, sampleRow, rowAt, Grid, sumsAt, four, laneSums, added, scoreAt}
+use Rattle.robust_grid.specs.Places.{Axes, rowFrom, sampleRow, rowAt, Grid, scoreAt}
+use Rattle.robust_lanes.specs.Lanes.{sumsAt}
 
 -- ---- scores that agree on the grid have the same best
 module _ (f g : ℕ → ℕ → Seed) (h : (a b : ℕ) → a < 23 → b < 23 → f a b ≡ g a b) where
@@ -80,32 +79,3 @@ module _ {sphi cphi : Row} where
     pub grid-best : (centeredSs mean : Float) → bestOf (scoreAt n h centered centeredSs mean) ≡ bestSeed n sphi cphi centered centeredSs mean
     unfolding bestSeed scoreAt scoreSeedPair
     grid-best centeredSs mean = best-same _ _ (λ a b x y. rw (sums-same a b x y))
-
--- ---- four lanes
-pub four-at : (f : ℕ → Float) (k : ℕ) → k < 4 → at (four f) k ≡ f k
-four-at f zero l = refl
-four-at f (suc zero) l = refl
-four-at f (suc (suc zero)) l = refl
-four-at f (suc (suc (suc zero))) l = refl
-four-at f (suc (suc (suc (suc k)))) l = absurd (none k l)
-  where
-    none : (k : ℕ) → suc (suc (suc (suc k))) < 4 → ⊥
-    none k l = omega arith
-
--- the places as the code names them
-pub lane-places : (h : Row) (p : ℕ) → _≡_ {A = Row} (at h p ∷ at h (p + 1) ∷ at h (p + 2) ∷ at h (p + 3) ∷ []) (four (λ k. at h (p + k)))
-lane-places h p = let z : p + 0 ≡ p = omega arith in rw z
-
-module _ (centered h : Row) (a b : ℕ) where
-  pub lanes-none : record { «q_sum» = four (λ k. nought); «q2_sum» = four (λ k. nought); num = four (λ k. nought) } ≡ laneSums 0 centered h a b
-  unfolding laneSums sumsAt
-  lanes-none = simp iter-zero
-
-  next : (i k : ℕ) → sumsAt (i + 1) centered h a (b + k) ≡ summedBy (at centered i) (at h (i * 24 + a)) (at h (i * 24 + b + k)) (sumsAt i centered h a (b + k))
-  unfolding sumsAt
-  next i k = let z : i * 24 + (b + k) ≡ i * 24 + b + k = omega arith in rw (iter-next, z)
-
-  pub lanes-more : (i : ℕ) (s t : Lanes) (y : Row) → s ≡ laneSums i centered h a b → y ≡ four (λ k. at h (i * 24 + b + k))
-      → t ≡ added s (at centered i) (at h (i * 24 + a)) y → t ≡ laneSums (i + 1) centered h a b
-  unfolding laneSums summedBy
-  lanes-more i s t y e g d = d ∙ (rw (e, g, next i 0, next i 1, next i 2, next i 3))

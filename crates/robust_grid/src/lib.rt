@@ -1,14 +1,14 @@
 // The grid of seeds behind a suspicious start: ring_fit/robust.rs, robust_grid_fit from the rows to the best seed.
+use robust_lanes::Best;
 use seed::Seed;
 use seed::Sums;
 ghost use mathlib.Core.Path.{_≡_};
 ghost use Prim.Native.Nat.{_+_, _*_, _≤_, _<_};
 ghost use lib.ListN.{length};
-ghost use Rattle.floats.specs.Ops.{nought};
-ghost use Rattle.floats.specs.Library.{max};
 ghost use Rattle.floats.specs.Rows.{count};
 ghost use Rattle.robust_grid.specs.Grid as G;
 ghost use Rattle.robust_grid.specs.Places as P;
+ghost use Rattle.robust_lanes.specs.Lanes as L;
 
 const TANH_BETA: f32 = 4.0;
 
@@ -61,124 +61,6 @@ pub fn fill_grid(sphi: &[f32], cphi: &[f32], h: &mut [f32])
     }
 }
 
-// The sums of four pairs side by side: of the angle a with b, b + 1, b + 2 and b + 3.
-pub struct Lanes {
-    pub q_sum: [f32; 4],
-    pub q2_sum: [f32; 4],
-    pub num: [f32; 4],
-}
-
-fn times(x: f32, y: [f32; 4]) -> [f32; 4]
-    ensures { λ r. ⌜ r ≡ P.times x y ⌝ }
-{
-    [x * y[0], x * y[1], x * y[2], x * y[3]]
-}
-
-fn plus(x: [f32; 4], y: [f32; 4]) -> [f32; 4]
-    ensures { λ r. ⌜ r ≡ P.plus x y ⌝ }
-{
-    [x[0] + y[0], x[1] + y[1], x[2] + y[2], x[3] + y[3]]
-}
-
-fn squared(y: [f32; 4]) -> [f32; 4]
-    ensures { λ r. ⌜ r ≡ P.squared y ⌝ }
-{
-    [y[0] * y[0], y[1] * y[1], y[2] * y[2], y[3] * y[3]]
-}
-
-// A sample v more, which has the factor x at the angle a and the factors y at the other four.
-fn added(s: Lanes, v: f32, x: f32, y: [f32; 4]) -> Lanes
-    ensures { λ r. ⌜ r ≡ P.added s v x y ⌝ }
-{
-    let q = times(x, y);
-    let old_q = s.q_sum;
-    let old_q2 = s.q2_sum;
-    let old_num = s.num;
-    let q_sum = plus(old_q, q);
-    let q2_sum = plus(old_q2, squared(q));
-    let num = plus(old_num, times(v, q));
-    Lanes { q_sum, q2_sum, num }
-}
-
-// Each lane adds its samples in their order. From b = 20 on the last lanes run past the grid's angles into the next
-// sample's places; nothing is asked of them.
-fn lane_sums(h: &[f32], centered: &[f32], a: usize, b: usize) -> Lanes
-    requires { ⌜ P.Room (now centered) (now h) × (a < 23) × (b < 23) ⌝ }
-    ensures { λ r. ⌜ r ≡ P.laneSums (length (now (centered .entry))) (now (centered .entry)) (now (h .entry)) a b ⌝ }
-{
-    let n = centered.len();
-    let none = [0.0f32; 4];
-    let mut s = Lanes {
-        q_sum: none,
-        q2_sum: none,
-        num: none,
-    };
-    for i in 0..n {
-        let k = i * 24 + b;
-        let y = [h[k], h[k + 1], h[k + 2], h[k + 3]];
-        let next = added(s, centered[i], h[i * 24 + a], y);
-        s = next;
-    }
-    s
-}
-
-// `max` with 0: a NaN and -0 become 0 too.
-fn ahead(x: f32) -> f32
-    ensures { λ r. ⌜ r ≡ max x nought ⌝ }
-{
-    if x > 0.0 {
-        return x;
-    }
-    0.0
-}
-
-// What the root of a pair's residual is taken of.
-fn mean_square(q_sum: f32, q2_sum: f32, num: f32, n: f32, centered_ss: f32) -> f32
-    ensures { λ r. ⌜ r ≡ P.meanSquare n «centered_ss» «q_sum» «q2_sum» num ⌝ }
-{
-    let denom = q2_sum - q_sum * (q_sum / n);
-    ahead(centered_ss - num * num / denom) / n
-}
-
-fn mean_squares(s: Lanes, n: f32, centered_ss: f32) -> [f32; 4]
-    ensures { λ r. ⌜ r ≡ P.meanSquares s n «centered_ss» ⌝ }
-{
-    let q = s.q_sum;
-    let q2 = s.q2_sum;
-    let num = s.num;
-    [
-        mean_square(q[0], q2[0], num[0], n, centered_ss),
-        mean_square(q[1], q2[1], num[1], n, centered_ss),
-        mean_square(q[2], q2[2], num[2], n, centered_ss),
-        mean_square(q[3], q2[3], num[3], n, centered_ss),
-    ]
-}
-
-// The best seed so far, and what the root of its residual was taken of: NaN where there is none.
-pub struct Best {
-    pub top: Seed,
-    pub bound: f32,
-}
-
-// A candidate whose mean square is x.
-fn tried(best: Best, x: f32, c: Seed) -> Best
-    requires { ⌜ P.Kept best × P.Squared x c ⌝ }
-    ensures { λ r. ⌜ (r .top ≡ G.inserted (best .top) c) × P.Kept r ⌝ }
-{
-    let next = Best { top: c, bound: x };
-    let Seed::Found(s) = c else {
-        return best;
-    };
-    let top = best.top;
-    let Seed::Found(d) = top else {
-        return next;
-    };
-    if s.rms < d.rms {
-        return next;
-    }
-    best
-}
-
 // The last angle with which a makes an allowed pair: 21 steps on, or the grid's last.
 fn last_of(a: usize) -> usize
     ensures { λ r. ⌜ r ≡ P.lastOf a ⌝ }
@@ -201,13 +83,13 @@ fn block(
     a: usize,
     b: usize,
 ) -> Best
-    requires { ⌜ P.Kept best0 × P.Room (now centered) (now h) × (n ≡ count (length (now centered))) × (a < 21) × (b < 23) ⌝ }
+    requires { ⌜ L.Kept best0 × L.Room (now centered) (now h) × (n ≡ count (length (now centered))) × (a < 21) × (b < 23) ⌝ }
     ensures { λ r. ⌜ (r .top ≡ P.blockOf (length (now (centered .entry))) (now (h .entry)) (now (centered .entry)) «centered_ss» mean
-        a b (best0 .top)) × P.Kept r ⌝ }
+        a b (best0 .top)) × L.Kept r ⌝ }
 {
     let mut best = best0;
-    let s = lane_sums(h, centered, a, b);
-    let xs = mean_squares(s, n, centered_ss);
+    let s = robust_lanes::lane_sums(h, centered, a, b);
+    let xs = robust_lanes::mean_squares(s, n, centered_ss);
     let q = s.q_sum;
     let q2 = s.q2_sum;
     let num = s.num;
@@ -224,7 +106,7 @@ fn block(
             num: num[k],
         };
         let c = seed::score_sums(n, centered_ss, mean, sums, grid_angle(a), grid_angle(b + k));
-        best = tried(best, xs[k], c);
+        best = robust_lanes::tried(best, xs[k], c);
     }
     best
 }
@@ -232,7 +114,7 @@ fn block(
 // The seed of least residual over all allowed pairs, the earlier on a tie. Of the 253 pairs the 230 that are 2 to 21 steps
 // apart are allowed.
 pub fn best_seed(h: &[f32], centered: &[f32], centered_ss: f32, mean: f32) -> Seed
-    requires { ⌜ P.Room (now centered) (now h) ⌝ }
+    requires { ⌜ L.Room (now centered) (now h) ⌝ }
     ensures { λ r. ⌜ r ≡ G.bestOf (P.scoreAt (length (now (centered .entry))) (now (h .entry)) (now (centered .entry)) «centered_ss» mean) ⌝ }
 {
     let n = floats::count_f32(centered.len());

@@ -4,6 +4,7 @@ use Prim.Native.Nat.{_≤_, _+_, _-_}
 use native.Mathlib.Omega.{arith}
 use lib.ListN.{length}
 use Rattle.loops.specs.Loops.{range}
+use Rattle.robust_lanes.specs.Lanes as L
 use Rattle.robust_grid.specs.Places as P
 use Rattle.robust_grid.specs.PairLaws.{last-between}
 use Rattle.robust_grid.specs.BlockLaws.{block-starts, block-more, block-ends, lane-scored, lane-squared, lane-skipped, lane-tried}
@@ -13,7 +14,7 @@ use Rattle.robust_grid.proofs.block.Tie as tie
 
 abbrev Inv-lanes : tie.InvT-lanes
 Inv-lanes h centered n css mean a b best₀ xs q q2 num k₀ best k =
-    (k ≤ 4) × P.Kept best × (best .top ≡ range (P.stepAt (P.scoreAt (length centered) h centered css mean) a) (best₀ .top) b (b + k))
+    (k ≤ 4) × L.Kept best × (best .top ≡ range (P.stepAt (P.scoreAt (length centered) h centered css mean) a) (best₀ .top) b (b + k))
 
 abbrev μ-lanes : tie.MeasureT-lanes
 μ-lanes h centered n css mean a b best₀ xs q q2 num k₀ best k = 4 - k
@@ -62,7 +63,7 @@ tried-requires c κs =
     let is = lane-scored (s .args .centered .now) (s .args .h .now) (s .args .centered-ss) (s .args .mean) _ (s .args .a) (s .args .b) _ _ in
     let scored = is sums squares (s .pre .2) (c8 .lanes .k) few _ _ _ (c .score-sums .ensures) theta1 theta2 in
     let squared = lane sums squares (s .pre .2) (c8 .lanes .k) few in
-    (c8 .lanes .inv .1, subst (P.Squared _) (sym scored) squared)
+    (c8 .lanes .inv .1, subst (L.Squared _) (sym scored) squared)
 
 lanes-again-2 : tie.Need-lanes-again-2 Inv-lanes μ-lanes
 lanes-again-2 c =

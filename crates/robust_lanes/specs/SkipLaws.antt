@@ -13,8 +13,7 @@ use Rattle.seed.specs.declared.Sums.{Sums}
 use Rattle.seed.specs.declared.Seed.{Seed}
 use Rattle.seed.specs.declared.Seed.the-variants.{Found, Nothing}
 use Rattle.seed.specs.declared.SeedCandidate.{SeedCandidate}
-use Rattle.robust_grid.specs.Grid.{inserted}
-use Rattle.robust_grid.specs.Places.{meanSquare, Squared, Bounded, Kept}
+use Rattle.robust_lanes.specs.Lanes.{inserted, meanSquare, Squared, Bounded, Kept}
 
 -- a seed's rms is the root of its pair's mean square
 kept-squared : (c : SeedCandidate) (x : Float) → c .rms ≡ sqrt binary32 x → Squared x (kept c)

@@ -1,7 +1,7 @@
 -- Straight steps. Assumes nothing.
 use borrow.Author.Needs.{needs}
-use Rattle.robust_grid.proofs.added.Statement.{statement}
-use Rattle.robust_grid.proofs.added.Tie as tie
+use Rattle.robust_lanes.proofs.added.Statement.{statement}
+use Rattle.robust_lanes.proofs.added.Tie as tie
 
 returns : tie.Need-returns
 returns c =

@@ -1,11 +1,11 @@
 -- Straight steps. Assumes nothing.
-use Rattle.robust_grid.specs.Places as P
+use Rattle.robust_lanes.specs.Lanes as L
 use borrow.Author.Needs.{needs}
-use Rattle.robust_grid.proofs.mean_square.Statement.{statement}
-use Rattle.robust_grid.proofs.mean_square.Tie as tie
+use Rattle.robust_lanes.proofs.mean_square.Statement.{statement}
+use Rattle.robust_lanes.proofs.mean_square.Tie as tie
 
 returns : tie.Need-returns
-unfolding P.meanSquare
+unfolding L.meanSquare
 returns c = rw (c .ahead .ensures)
 
 pub mean-square-spec : {M : Type 1} → statement M

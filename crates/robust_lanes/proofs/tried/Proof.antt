@@ -1,8 +1,8 @@
 -- The candidate takes the place or leaves it, and with it goes what its root was taken of. Assumes nothing.
-use Rattle.robust_grid.specs.SkipLaws.{tried-nothing, tried-first, tried-lower, tried-not, taken-kept}
+use Rattle.robust_lanes.specs.SkipLaws.{tried-nothing, tried-first, tried-lower, tried-not, taken-kept}
 use borrow.Author.Needs.{needs}
-use Rattle.robust_grid.proofs.tried.Statement.{statement}
-use Rattle.robust_grid.proofs.tried.Tie as tie
+use Rattle.robust_lanes.proofs.tried.Statement.{statement}
+use Rattle.robust_lanes.proofs.tried.Tie as tie
 
 returns : tie.Need-returns
 returns c = (tried-nothing _ _ (c .enum-told .given .1), c .before .before .pre .0)

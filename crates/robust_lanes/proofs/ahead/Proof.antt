@@ -2,8 +2,8 @@
 use lib.Ieee.{binary32}
 use Rattle.floats.specs.FiniteLaws.{of-true}
 use Rattle.floats.specs.MaxMinLaws.{max-nought}
-use Rattle.robust_grid.proofs.ahead.Statement.{statement}
-use Rattle.robust_grid.proofs.ahead.Tie as tie
+use Rattle.robust_lanes.proofs.ahead.Statement.{statement}
+use Rattle.robust_lanes.proofs.ahead.Tie as tie
 
 returns : tie.Need-returns
 returns c = rw (max-nought binary32 _ (of-true (c .before .good .0 .1)), c .if1 .taken)

@@ -1,7 +1,7 @@
 -- The same of each lane. Assumes nothing.
 use borrow.Author.Needs.{needs}
-use Rattle.robust_grid.proofs.mean_squares.Statement.{statement}
-use Rattle.robust_grid.proofs.mean_squares.Tie as tie
+use Rattle.robust_lanes.proofs.mean_squares.Statement.{statement}
+use Rattle.robust_lanes.proofs.mean_squares.Tie as tie
 
 returns : tie.Need-returns
 returns c =

@@ -3,14 +3,14 @@ use mathlib.Core.Path.{_≡_}
 use Prim.Native.Nat.{_≤_, _+_, _-_, _*_}
 use native.Mathlib.Omega.{arith}
 use lib.ListN.{length}
-use Rattle.robust_grid.specs.Places as P
-use Rattle.robust_grid.specs.PlaceLaws.{lanes-none, lanes-more, lane-places}
+use Rattle.robust_lanes.specs.Lanes as L
+use Rattle.robust_lanes.specs.LaneLaws.{lanes-none, lanes-more, lane-places}
 use borrow.Author.Needs.{needs}
-use Rattle.robust_grid.proofs.lane_sums.Statement.{statement}
-use Rattle.robust_grid.proofs.lane_sums.Tie as tie
+use Rattle.robust_lanes.proofs.lane_sums.Statement.{statement}
+use Rattle.robust_lanes.proofs.lane_sums.Tie as tie
 
 abbrev Inv-loop : tie.InvT-loop
-Inv-loop h centered a b n s₀ i₀ s i = (i ≤ n) × (s ≡ P.laneSums i centered h a b)
+Inv-loop h centered a b n s₀ i₀ s i = (i ≤ n) × (s ≡ L.laneSums i centered h a b)
 
 abbrev μ-loop : tie.MeasureT-loop
 μ-loop h centered a b n s₀ i₀ s i = n - i

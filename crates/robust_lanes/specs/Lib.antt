@@ -1,0 +1,3 @@
+pub mod Lanes
+pub mod SkipLaws
+pub mod LaneLaws

@@ -1,0 +1,127 @@
+// Four pairs of the grid side by side, and the best seed so far with what its root was taken of: the inner part of
+// ring_fit/robust.rs, robust_grid_fit.
+use seed::Seed;
+ghost use mathlib.Core.Path.{_≡_};
+ghost use Prim.Native.Nat.{_<_};
+ghost use lib.ListN.{length};
+ghost use Rattle.floats.specs.Ops.{nought};
+ghost use Rattle.floats.specs.Library.{max};
+ghost use Rattle.robust_lanes.specs.Lanes as L;
+
+// The sums of four pairs side by side: of the angle a with b, b + 1, b + 2 and b + 3.
+pub struct Lanes {
+    pub q_sum: [f32; 4],
+    pub q2_sum: [f32; 4],
+    pub num: [f32; 4],
+}
+
+fn times(x: f32, y: [f32; 4]) -> [f32; 4]
+    ensures { λ r. ⌜ r ≡ L.times x y ⌝ }
+{
+    [x * y[0], x * y[1], x * y[2], x * y[3]]
+}
+
+fn plus(x: [f32; 4], y: [f32; 4]) -> [f32; 4]
+    ensures { λ r. ⌜ r ≡ L.plus x y ⌝ }
+{
+    [x[0] + y[0], x[1] + y[1], x[2] + y[2], x[3] + y[3]]
+}
+
+fn squared(y: [f32; 4]) -> [f32; 4]
+    ensures { λ r. ⌜ r ≡ L.squared y ⌝ }
+{
+    [y[0] * y[0], y[1] * y[1], y[2] * y[2], y[3] * y[3]]
+}
+
+// A sample v more, which has the factor x at the angle a and the factors y at the other four.
+fn added(s: Lanes, v: f32, x: f32, y: [f32; 4]) -> Lanes
+    ensures { λ r. ⌜ r ≡ L.added s v x y ⌝ }
+{
+    let q = times(x, y);
+    let old_q = s.q_sum;
+    let old_q2 = s.q2_sum;
+    let old_num = s.num;
+    let q_sum = plus(old_q, q);
+    let q2_sum = plus(old_q2, squared(q));
+    let num = plus(old_num, times(v, q));
+    Lanes { q_sum, q2_sum, num }
+}
+
+// Each lane adds its samples in their order. From b = 20 on the last lanes run past the grid's angles into the next
+// sample's places; nothing is asked of them.
+pub fn lane_sums(h: &[f32], centered: &[f32], a: usize, b: usize) -> Lanes
+    requires { ⌜ L.Room (now centered) (now h) × (a < 23) × (b < 23) ⌝ }
+    ensures { λ r. ⌜ r ≡ L.laneSums (length (now (centered .entry))) (now (centered .entry)) (now (h .entry)) a b ⌝ }
+{
+    let n = centered.len();
+    let none = [0.0f32; 4];
+    let mut s = Lanes {
+        q_sum: none,
+        q2_sum: none,
+        num: none,
+    };
+    for i in 0..n {
+        let k = i * 24 + b;
+        let y = [h[k], h[k + 1], h[k + 2], h[k + 3]];
+        let next = added(s, centered[i], h[i * 24 + a], y);
+        s = next;
+    }
+    s
+}
+
+// `max` with 0: a NaN and -0 become 0 too.
+fn ahead(x: f32) -> f32
+    ensures { λ r. ⌜ r ≡ max x nought ⌝ }
+{
+    if x > 0.0 {
+        return x;
+    }
+    0.0
+}
+
+// What the root of a pair's residual is taken of.
+fn mean_square(q_sum: f32, q2_sum: f32, num: f32, n: f32, centered_ss: f32) -> f32
+    ensures { λ r. ⌜ r ≡ L.meanSquare n «centered_ss» «q_sum» «q2_sum» num ⌝ }
+{
+    let denom = q2_sum - q_sum * (q_sum / n);
+    ahead(centered_ss - num * num / denom) / n
+}
+
+pub fn mean_squares(s: Lanes, n: f32, centered_ss: f32) -> [f32; 4]
+    ensures { λ r. ⌜ r ≡ L.meanSquares s n «centered_ss» ⌝ }
+{
+    let q = s.q_sum;
+    let q2 = s.q2_sum;
+    let num = s.num;
+    [
+        mean_square(q[0], q2[0], num[0], n, centered_ss),
+        mean_square(q[1], q2[1], num[1], n, centered_ss),
+        mean_square(q[2], q2[2], num[2], n, centered_ss),
+        mean_square(q[3], q2[3], num[3], n, centered_ss),
+    ]
+}
+
+// The best seed so far, and what the root of its residual was taken of: NaN where there is none.
+pub struct Best {
+    pub top: Seed,
+    pub bound: f32,
+}
+
+// A candidate whose mean square is x.
+pub fn tried(best: Best, x: f32, c: Seed) -> Best
+    requires { ⌜ L.Kept best × L.Squared x c ⌝ }
+    ensures { λ r. ⌜ (r .top ≡ L.inserted (best .top) c) × L.Kept r ⌝ }
+{
+    let next = Best { top: c, bound: x };
+    let Seed::Found(s) = c else {
+        return best;
+    };
+    let top = best.top;
+    let Seed::Found(d) = top else {
+        return next;
+    };
+    if s.rms < d.rms {
+        return next;
+    }
+    best
+}
