@@ -15,6 +15,7 @@ pub mod NarrowLaws
 pub mod BinLaws
 pub mod TotalLaws
 pub mod RankLaws
+pub mod SquareSumLaws
 pub mod NarrowOrderLaws
 pub mod ProductLaws
 pub mod MaxMinLaws

@@ -1,31 +1,31 @@
 -- A residual of 0 is made of a sum that is a number, not below 0 and at most 2 ^ -146: only a zero has the root 0, a sixteenth rounds to 0, or below,
 -- only from 8 units down, and a sum of squares is a NaN or not below 0. Of finite samples the deviations are no NaN: what is added is never below
 -- zero, so no infinity meets one of the other sign. Assumes nothing.
-use mathlib.Core.Path.{_≡_, refl, sym, ap, _∙_, subst}
-use mathlib.Core.Logic.{_⊎_, inl, inr}
-use mathlib.Core.Bool.{Bool, true, false, cond, not, _&&_, _||_, Bool·beq, true≢false, false≢true}
-use Prim.Native.Nat.{ℕ, zero, suc, _+_, _-_, _*_, _^_, _≤_, _<_, zero-le}
+use mathlib.Core.Path.{_≡_, refl, sym, _∙_, subst}
+use mathlib.Core.Bool.{Bool, true, false, cond, not, _&&_, _||_, false≢true}
+use Prim.Native.Nat.{ℕ, zero, suc, _+_, _-_, _*_, _^_, _≤_, _<_}
 use native.Mathlib.Nat.{lt-of-lt-of-le, lt-irrefl, mul-pos, mul-le-mul-right, zero-lt-suc, zero-mul}
 use native.Mathlib.Omega.{arith}
-use lib.IntN.{ℤ, pos, negsuc}
+use lib.IntN.{ℤ, negsuc}
 use lib.Dec.{T, leb, ltb, eqb, leb→le, nleb→lt, eqb→eq, lt→ltb, lit<}
 use lib.Pow.{pow-pos}
-use lib.Ieee.{Float, nan, inf, fin, Format, binary32, prec, emax, low, up, down, unlike, odd, units, round, sum, add, sub, mul, div, neg, lt, le, eq, fits}
+use lib.Ieee.{Float, nan, inf, fin, binary32, up, down, unlike, round, div, neg, lt, le, eq, fits}
 use lib.Ieee.{isNan, ofInt, ofBits}
 use lib.Ieee.Scale.{finite}
-use lib.Ieee.Order.{drop, kept, round-mono}
-use lib.Ieee.Fits.{and-l, down-pos, up-pos, add-fits, div-fits, neg-fits, cond-fits, round-fits, round-is}
+use lib.Ieee.Order.{round-mono}
+use lib.Ieee.Fits.{and-l, down-pos, up-pos, add-fits, div-fits, neg-fits, cond-fits, round-fits}
 use lib.Ieee.Bits.{ofBits-fits}
 use Rattle.floats.specs.Ops.{_⊕_, _⊖_, _⊗_, _⊘_, lit, nought}
 use Rattle.floats.specs.Rows.{Row, at, count}
 use Rattle.floats.specs.Library.{negative, before, max, sqrt}
-use Rattle.floats.specs.UnitLaws.{Val, eq-val, le-val, zero-val}
+use Rattle.floats.specs.UnitLaws.{Val, eq-val}
 use Rattle.floats.specs.RoundingLaws.{Rep, counted, rep-of}
 use Rattle.floats.specs.NonNegLaws.{clear, le-of, or-r}
 use Rattle.floats.specs.RankLaws.{le-le}
+use Rattle.floats.specs.SquareSumLaws.{Number, Upright, Level, clear-upright, upright-number, level-upright, nought-level, round-number}
+use Rattle.floats.specs.SquareSumLaws.{add-number, sub-number, square-clear, add-upright, add-level, upright-above}
 use Rattle.floats.specs.ProductLaws.{div-val}
 use Rattle.floats.specs.NearestRootLaws.{root-nearest}
-use Rattle.floats.specs.RemLaws.{nought-nn}
 use Rattle.floats.specs.FiniteLaws.{of-true}
 use Rattle.loops.specs.Loops.{iter}
 use Rattle.loops.specs.IterLaws.{iter-keeps}
@@ -168,187 +168,13 @@ max-fits x p =
     let z = ofBits-fits binary32 0 in
     cond-fits binary32 (isNan x) nought _ z (cond-fits binary32 (isNan nought) x _ p (cond-fits binary32 (before x nought) nought x z p))
 
--- ---- numbers: infinities or finite
-abbrev Number : Float → Type 0
-Number x = T (not (isNan x))
-
--- not below zero, and not -0
-abbrev Clear : Float → Type 0
-Clear nan = ⊥
-Clear (inf s) = s ≡ false
-Clear (fin s m e) = s ≡ false
-
--- the same, or -0
-abbrev Upright : Float → Type 0
-Upright nan = ⊥
-Upright (inf s) = s ≡ false
-Upright (fin s m e) = T s → m ≡ 0
-
-signed : (P : Float → Type 0) (f : Format) (s : Bool) → P (inf s) → ((m : ℕ) (e : ℤ) → P (fin s m e)) → (q k : ℕ) → P (units f s q k)
-unfolding units
-signed P f s i h q k = go (ltb (q * 2 ^ k) (2 ^ (low f + suc (emax f))))
-  where
-    digits : (q : ℕ) → P (odd (suc (prec f)) s q k (low f))
-    digits zero = unfold odd in h zero (pos zero)
-    digits (suc q) = unfold odd in h _ _
-
-    go : (b : Bool) → P (cond b (odd (suc (prec f)) s q k (low f)) (inf s))
-    go true = digits q
-    go false = i
-
-rounded-signed : (P : Float → Type 0) (s : Bool) (a c : ℕ) → P (inf s) → ((m : ℕ) (e : ℤ) → P (fin s m e)) → P (round binary32 s a c)
-rounded-signed P s a c i h = subst P (sym (round-is binary32 s a c)) (signed P binary32 s i h (kept 24 (a * 2 ^ 149) c) (drop 24 (a * 2 ^ 149) c))
-
-round-number : (s : Bool) (a c : ℕ) → Number (round binary32 s a c)
-unfolding isNan
-round-number s a c = rounded-signed Number s a c tt (λ m e. tt)
-
-round-clear : (a c : ℕ) → Clear (round binary32 false a c)
-round-clear a c = rounded-signed Clear false a c refl (λ m e. refl)
-
-sum-number : (s : Bool) (a : ℕ) (t : Bool) (b c : ℕ) → Number (sum binary32 s a t b c)
-unfolding sum
-sum-number s a t b c = go (Bool·beq s t) (ltb a b) _ _ _ (round-number s (a + b) c) (round-number t (b - a) c) (round-number (s && ltb b a) (a - b) c)
-  where
-    go : (u v : Bool) (x y z : Float) → Number x → Number y → Number z → Number (cond u x (cond v y z))
-    go true v x y z h k l = h
-    go false true x y z h k l = k
-    go false false x y z h k l = l
-
--- the second sign is clear, and the first too or its number 0
-sum-clear : (s : Bool) (a b c : ℕ) → (T s → a ≡ 0) → Clear (sum binary32 s a false b c)
-unfolding sum
-sum-clear false a b c h = round-clear (a + b) c
-sum-clear true a b c h = go (ltb a b) (ltb b a) (never (h tt))
-  where
-    never : a ≡ 0 → T (ltb b a) → ⊥
-    never e t = let l = lib.Dec.ltb→lt b a t in omega arith
-
-    go : (u v : Bool) → (T v → ⊥) → Clear (cond u (round binary32 false (b - a) c) (round binary32 v (a - b) c))
-    go true v n = round-clear (b - a) c
-    go false true n = absurd (n tt)
-    go false false n = round-clear (a - b) c
-
-add-number : (x y : Float) → Number x → T (finite y) → Number (x ⊕ y)
-unfolding add
-add-number nan y h k = absurd (unfold isNan in h)
-add-number (inf s) nan h k = absurd k
-add-number (inf s) (inf t) h k = absurd k
-add-number (inf s) (fin t n d) h k = unfold isNan in tt
-add-number (fin s m e) nan h k = absurd k
-add-number (fin s m e) (inf t) h k = absurd k
-add-number (fin s m e) (fin t n d) h k = sum-number s (m * up e * down d) t (n * up d * down e) (down e * down d)
-
-sub-number : (x y : Float) → T (finite x) → Number y → Number (x ⊖ y)
-unfolding sub add neg
-sub-number nan y h k = absurd h
-sub-number (inf s) y h k = absurd h
-sub-number (fin s m e) nan h k = absurd (unfold isNan in k)
-sub-number (fin s m e) (inf t) h k = unfold isNan in tt
-sub-number (fin s m e) (fin t n d) h k = sum-number s (m * up e * down d) (not t) (n * up d * down e) (down e * down d)
-
+-- ---- the sums over finite samples
 sixteenth-number : (x : Float) → Number x → Number (x ⊘ count 16)
 unfolding div ofInt round
 sixteenth-number nan h = absurd (unfold isNan in h)
 sixteenth-number (inf s) h = unfold isNan in tt
-sixteenth-number (fin s m e) h = round-number (unlike s false) (m * up e * 1) (1 * 2 ^ 4 * down e)
+sixteenth-number (fin s m e) h = round-number binary32 (unlike s false) (m * up e * 1) (1 * 2 ^ 4 * down e)
 
-square-clear : (x : Float) → Number x → Clear (x ⊗ x)
-unfolding mul
-square-clear nan h = absurd (unfold isNan in h)
-square-clear (inf true) h = refl
-square-clear (inf false) h = refl
-square-clear (fin true m e) h = round-clear (m * up e * (m * up e)) (down e * down e)
-square-clear (fin false m e) h = round-clear (m * up e * (m * up e)) (down e * down e)
-
-clear-upright : (x : Float) → Clear x → Upright x
-clear-upright nan h = h
-clear-upright (inf s) h = h
-clear-upright (fin true m e) h = absurd (true≢false h)
-clear-upright (fin false m e) h = λ t. absurd t
-
-upright-number : (x : Float) → Upright x → Number x
-unfolding isNan
-upright-number nan h = absurd h
-upright-number (inf s) h = tt
-upright-number (fin s m e) h = tt
-
-add-upright : (x y : Float) → Upright x → Clear y → Clear (x ⊕ y)
-unfolding add
-add-upright nan y h k = absurd h
-add-upright (inf s) nan h k = absurd k
-add-upright (inf true) (inf t) h k = absurd (true≢false h)
-add-upright (inf false) (inf true) h k = absurd (true≢false k)
-add-upright (inf false) (inf false) h k = refl
-add-upright (inf s) (fin t n d) h k = h
-add-upright (fin s m e) nan h k = absurd k
-add-upright (fin s m e) (inf t) h k = k
-add-upright (fin s m e) (fin true n d) h k = absurd (true≢false k)
-add-upright (fin s m e) (fin false n d) h k = sum-clear s (m * up e * down d) (n * up d * down e) (down e * down d) (λ t. none (h t))
-  where
-    none : m ≡ 0 → m * up e * down d ≡ 0
-    none z = ap (λ (w : ℕ). w * up e * down d) z ∙ ap (λ (w : ℕ). w * down d) (zero-mul (up e)) ∙ zero-mul (down d)
-
--- the same, or a NaN: what a sum of squares is, whatever is squared
-abbrev Level : Float → Type 0
-Level nan = 0 ≤ 0
-Level (inf s) = s ≡ false
-Level (fin s m e) = T s → m ≡ 0
-
-upright-level : (x : Float) → Upright x → Level x
-upright-level nan h = absurd h
-upright-level (inf s) h = h
-upright-level (fin s m e) h = h
-
-level-upright : (x : Float) → Number x → Level x → Upright x
-level-upright nan n h = absurd (unfold isNan in n)
-level-upright (inf s) n h = h
-level-upright (fin s m e) n h = h
-
-nought-level : Level nought
-unfolding ofBits
-nought-level = λ t. absurd t
-
-zero-above : (e : ℤ) → le nought (fin true zero e) ≡ true
-unfolding ofBits
-zero-above e = le-val binary32 nought (fin true zero e) false 0 true 0 (zero-val binary32 false (pos 0)) (zero-val binary32 true e)
-
-nan-right : (x : Float) → x ⊕ nan ≡ nan
-unfolding add
-nan-right nan = refl
-nan-right (inf s) = refl
-nan-right (fin s m e) = refl
-
-square-is : (r : Float) → (r ⊗ r ≡ nan) ⊎ Clear (r ⊗ r)
-square-is nan = inl (unfold mul in refl)
-square-is (inf s) = inr (square-clear (inf s) (unfold isNan in tt))
-square-is (fin s m e) = inr (square-clear (fin s m e) (unfold isNan in tt))
-
-sum-level : (x y : Float) → Level x → Clear y → Level (x ⊕ y)
-sum-level nan y h k = unfold add in omega arith
-sum-level (inf s) y h k = upright-level (inf s ⊕ y) (clear-upright (inf s ⊕ y) (add-upright (inf s) y h k))
-sum-level (fin s m e) y h k = upright-level (fin s m e ⊕ y) (clear-upright (fin s m e ⊕ y) (add-upright (fin s m e) y h k))
-
-add-level : (x r : Float) → Level x → Level (x ⊕ r ⊗ r)
-add-level x r h = go (square-is r)
-  where
-    go : (r ⊗ r ≡ nan) ⊎ Clear (r ⊗ r) → Level (x ⊕ r ⊗ r)
-    go (inl e) = subst (λ (y : Float). Level (x ⊕ y)) (sym e) (subst Level (sym (nan-right x)) (omega arith))
-    go (inr c) = sum-level x (r ⊗ r) h c
-
--- what is upright is not below 0
-upright-above : (x : Float) → T (fits binary32 x) → Upright x → T (le nought x)
-upright-above nan p h = absurd h
-upright-above (inf true) p h = absurd (true≢false h)
-upright-above (inf false) p h = unfold le lt ofBits in tt
-upright-above (fin true m e) p h = subst (λ (k : ℕ). T (le nought (fin true k e))) (sym (h tt)) (subst T (sym (zero-above e)) tt)
-upright-above (fin false m e) p h = let c = counted binary32 (fin false m e) p tt in go (c .sign) (c .count) (c .val) (c .rep)
-  where
-    go : (s : Bool) (n : ℕ) → Val binary32 (fin false m e) s n → Rep binary32 n → T (le nought (fin false m e))
-    go true n v r = absurd (false≢true (v .0))
-    go false n v r = le-of binary32 nought (fin false m e) 0 n nought-nn (clear binary32 (fin false m e) n v r) zero-le
-
--- ---- the sums over finite samples
 -- what every turn below n keeps, n turns keep
 turns-keep : (P : Float → Type 0) (f : ℕ → Float → Float) (s : Float) (n : ℕ) → P s → ((i : ℕ) → i < n → (x : Float) → P x → P (f i x)) → P (iter f s n)
 unfolding iter
@@ -364,13 +190,14 @@ Finite n vs = (i : ℕ) → i < n → T (finite (at vs i))
 
 total-number : (n : ℕ) (vs : Row) → Finite n vs → Number (total n vs)
 unfolding total
-total-number n vs h = turns-keep Number (λ i s. s ⊕ at vs i) negativeZero n (minus-zero .0) (λ i l x k. add-number x (at vs i) k (h i l))
+total-number n vs h = turns-keep Number (λ i s. s ⊕ at vs i) negativeZero n (minus-zero .0) (λ i l x k. add-number binary32 x (at vs i) k (h i l))
 
 deviations-upright : (n : ℕ) (vs : Row) (mean : Float) → Finite n vs → Number mean → Upright (deviations n vs mean)
 unfolding deviations
 deviations-upright n vs mean h k =
     (turns-keep Upright (λ i s. s ⊕ (at vs i ⊖ mean) ⊗ (at vs i ⊖ mean)) negativeZero n (minus-zero .1)
-    (λ i l x u. let d = at vs i ⊖ mean in clear-upright (x ⊕ d ⊗ d) (add-upright x (d ⊗ d) u (square-clear d (sub-number (at vs i) mean (h i l) k)))))
+    (λ i l x u. let d = at vs i ⊖ mean in
+    clear-upright (x ⊕ d ⊗ d) (add-upright binary32 x (d ⊗ d) u (square-clear binary32 d (sub-number binary32 (at vs i) mean (h i l) k)))))
 
 deviations-fit : (n : ℕ) (vs : Row) (mean : Float) → T (fits binary32 (deviations n vs mean))
 unfolding deviations
@@ -389,7 +216,7 @@ pass-good : (n : ℕ) (p : Params) (vs ss cs : Row) → Good (pass n p vs ss cs 
 unfolding pass added
 pass-good n p vs ss cs =
     iter-keeps (λ (l : Normal). Good (l .ssr)) _ empty n (unfold empty in
-    (ofBits-fits binary32 0, nought-level)) (λ i l h. (add-fits binary32 (l .ssr) _, add-level (l .ssr) _ (h .1)))
+    (ofBits-fits binary32 0, nought-level)) (λ i l h. (add-fits binary32 (l .ssr) _, add-level binary32 (l .ssr) _ (h .1)))
 
 -- either step that a pass's elimination asks for
 step-cases : {S : Type 0} {w : S} {f : S → Step} (P : Type 0) → ((s : S) → s ≡ w → f s ≡ stay → P) → ((s : S) → s ≡ w → (q : Params) → f s ≡ to q → P) → P
@@ -452,12 +279,12 @@ ring-made n samples ringPhi =
 made-tiny : (dev rms : Float) (s : Squares) → Fit dev → Upright dev → Summed s → MadeOf 16 (dev ⊘ count 16) rms s → eq rms nought ≡ true → Tiny (sumOf dev s)
 made-tiny dev rms (ofPass ssr) p u q e z =
     let low = sixteenth ssr (q .0) (zero-root (ssr ⊘ count 16) (div-fits binary32 ssr (count 16)) (subst (λ (r : Float). eq r nought ≡ true) e z)) in
-    record { number = low .number; above = upright-above ssr (q .0) (level-upright ssr (low .number) (q .1)); small = low .small }
+    record { number = low .number; above = upright-above binary32 ssr (q .0) (level-upright ssr (low .number) (q .1)); small = low .small }
 made-tiny dev rms ofMean p u q e z =
     let v = dev ⊘ count 16 in
     let root = zero-root (max v nought) (max-fits v (div-fits binary32 dev (count 16))) (subst (λ (r : Float). eq r nought ≡ true) e z) in
     let low = sixteenth dev p (max-low v (sixteenth-number dev (upright-number dev u)) root) in
-    record { number = low .number; above = upright-above dev p u; small = low .small }
+    record { number = low .number; above = upright-above binary32 dev p u; small = low .small }
 
 pub ring-tiny : (samples ringPhi : Row) → Finite 16 samples → eq (fitRing 16 samples ringPhi .fit .rms) nought ≡ true → Tiny (ringSum 16 samples ringPhi)
 unfolding ringSum

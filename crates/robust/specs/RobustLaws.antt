@@ -1,5 +1,5 @@
--- What the code's own steps come to: constants as they are derived, a refused start that is never suspicious, and the answers of one or two starts, which
--- need no sum. Assumes nothing.
+-- What the code's own steps come to: constants as they are derived, a refused start that is never suspicious, the starts of a seed and of the grid, and the
+-- answers of one or two starts, which need no sum. Assumes nothing.
 use mathlib.Core.Path.{_≡_, refl, sym, ap, _∙_, subst}
 use mathlib.Core.Bool.{Bool, true, false, cond, not, _||_, false≢true}
 use mathlib.Core.List.{_++_}

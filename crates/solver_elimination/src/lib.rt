@@ -111,7 +111,7 @@ fn clear(m: &mut [[f32; 5]; 4], i: usize, p: [f32; 5])
 }
 
 // Column i: the pivot's row comes to the diagonal, is scaled to 1 there, and clears the column in
-// the others. True where the pivot stops the elimination.
+// the others. True where the pivot stops the elimination. It has one caller, so that the compiler puts it into that loop.
 fn column_stops(m: &mut [[f32; 5]; 4], i: usize) -> bool
     requires { ⌜ i < 4 ⌝ }
     ensures { λ r. ⌜ (r ≡ S.stopped (now (m .entry)) i) × (r ≡ false → now (m .exit) ≡ S.columned (now (m .entry)) i) ⌝ }
