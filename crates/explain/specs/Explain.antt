@@ -1,5 +1,5 @@
 -- What explain does with its input, turn by turn: all that it says but the spelling of numbers. Definitions only.
-use mathlib.Core.Bool.{Bool, true}
+use mathlib.Core.Bool.{true}
 use mathlib.Core.Path.{_≡_}
 use mathlib.Core.List.{List}
 use Prim.Native.Nat.{ℕ, _+_, _%_, _^_}

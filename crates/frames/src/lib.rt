@@ -5,7 +5,7 @@ use checked::RingAnswer;
 use robust::RingFit;
 use shapes::Shape;
 ghost use mathlib.Core.Path.{_≡_};
-ghost use Prim.Native.Nat.{_+_, _*_, _≤_, _<_};
+ghost use Prim.Native.Nat.{_+_, _*_, _≤_};
 ghost use lib.ListN.{length};
 ghost use Rattle.hex.specs.Hex.{put, Written};
 ghost use Rattle.checked.specs.Checked.{checkedDisk, fitCounts, flag};
