@@ -1,4 +1,4 @@
--- What explain does with its input, turn by turn: all that it says but the spelling of numbers. Definitions only.
+-- What explain does with its input, turn by turn: all that it says but what stands in its sentences' blanks. Definitions only.
 use mathlib.Core.Bool.{true}
 use mathlib.Core.Path.{_≡_}
 use mathlib.Core.List.{List}

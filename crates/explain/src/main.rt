@@ -1,7 +1,7 @@
 // explain: frames and answers of standard input in words that a person reads, on standard output.
 // A frame line and the answer in the line after it are a pair; an answer alone is explained alone.
 // Which sentences are said of each line equals its definition, specs/Explain.antt and what that cites;
-// the digits in them are proved safe, no more.
+// what stands in their blanks is proved safe, no more.
 use explain_sorts::Above;
 use explain_sorts::Sort;
 use lines::Found;

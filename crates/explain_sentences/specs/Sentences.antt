@@ -1,5 +1,5 @@
 -- What explain says of a line, sentence by sentence: when, and in which words. Definitions only.
--- Its warnings stand in `explain_warnings`; how the numbers in the blanks are spelt is not said.
+-- Its warnings stand in `explain_warnings`; what stands in the blanks, numbers and endings of nouns, is not said.
 use mathlib.Core.Bool.{Bool, true, cond, not, _&&_, _||_}
 use mathlib.Core.List.{List, [], _∷_, _++_}
 use Prim.Native.Nat.{ℕ, zero, suc, _+_, _-_, _/_}
