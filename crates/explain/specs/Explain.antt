@@ -1,5 +1,5 @@
--- What explain does with its input, turn by turn: all that it says but the spelling of numbers. Definitions only.
-use mathlib.Core.Bool.{Bool, true}
+-- What explain does with its input, turn by turn: all that it says but what stands in its sentences' blanks. Definitions only.
+use mathlib.Core.Bool.{true}
 use mathlib.Core.Path.{_≡_}
 use mathlib.Core.List.{List}
 use Prim.Native.Nat.{ℕ, _+_, _%_, _^_}
@@ -14,15 +14,10 @@ use Rattle.explain_words.specs.Tell.{telling}
 use Rattle.explain_sorts.specs.declared.Above.{Above}
 use Rattle.explain_sorts.specs.declared.Sort.{Sort}
 use Rattle.explain_sorts.specs.Sorts.{sortOf, aboveOf, nothing}
-use Rattle.explain_warnings.specs.Warnings.{readingOf}
-use Rattle.explain_sentences.specs.Sentences.{aloneRows, fitText, bodyOf, explained}
+use Rattle.explain_sentences.specs.Sentences.{aloneRows, bodyOf, explained}
 use Rattle.explain.specs.declared.Explaining.{Explaining}
 
 -- ---- a line l of its sort s, below a, in the text t, which is m now
-pub record Fitted (l : List ℕ) (disk : Bool) (t : List ℕ) (at : ℕ) (m : List ℕ) (r : ℕ) : Type 0 where
-  pub words : List (List ℕ)
-  pub said : Written t at (fitText words (readingOf l disk)) m r
-
 pub record Body (l : List ℕ) (s : Sort) (a : Above) (t : List ℕ) (at : ℕ) (m : List ℕ) (r : ℕ) : Type 0 where
   pub words : List (List ℕ)
   pub said : Written t at (bodyOf words l s a) m r

@@ -1,7 +1,7 @@
 // explain: frames and answers of standard input in words that a person reads, on standard output.
 // A frame line and the answer in the line after it are a pair; an answer alone is explained alone.
 // Which sentences are said of each line equals its definition, specs/Explain.antt and what that cites;
-// the digits in them are proved safe, no more.
+// what stands in their blanks is proved safe, no more.
 use explain_sorts::Above;
 use explain_sorts::Sort;
 use lines::Found;
@@ -10,21 +10,11 @@ ghost use mathlib.Core.Path.{_≡_};
 ghost use Prim.Native.Nat.{_+_, _≤_};
 ghost use lib.ListN.{length};
 ghost use Rattle.lines.specs.Turns.{Kept, Lies, input, output};
-ghost use Rattle.explain_sorts.specs.Sorts.{Sound, fitLength};
+ghost use Rattle.explain_sorts.specs.Sorts.{Sound};
 ghost use Rattle.explain.specs.Explain as E;
 
 // More than is said of any line: 24 characters for each of its sentences' own.
 const ROOM: usize = 50000;
-
-// A fit, and what in it is not to be taken at face value.
-fn fit_told(text: &mut [u8], at: usize, number: u64, line: &[u8], disk: bool) -> usize
-    requires { ⌜ (fitLength disk ≤ length (now line)) × (at + 40152 ≤ length (now text)) ⌝ }
-    ensures { λ r. ⌜ (r ≤ at + 40152) × E.Fitted (now (line .entry)) disk (now (text .entry)) at (now (text .exit)) r ⌝ }
-{
-    let r = explain_warnings::read(line, disk);
-    let p = explain_sentences::fit::told(text, at, number, r);
-    explain_warnings::warnings(text, p, r)
-}
 
 // What is said of a line itself, at a place of the text; the place behind it.
 fn body_told(text: &mut [u8], at: usize, number: u64, line: &[u8], sort: Sort, a: Above) -> usize
@@ -33,7 +23,7 @@ fn body_told(text: &mut [u8], at: usize, number: u64, line: &[u8], sort: Sort, a
 {
     match sort {
         Sort::Frame(_) => at,
-        Sort::Fit(disk) => fit_told(text, at, number, line, disk),
+        Sort::Fit(disk) => explain_sentences::fit::told(text, at, number, line, disk),
         Sort::Refused(r) => explain_sentences::refusal::told(text, at, number, r, a),
         Sort::Bad(w) => explain_sentences::bad::told(text, at, number, line, w),
     }

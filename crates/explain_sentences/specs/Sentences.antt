@@ -1,12 +1,12 @@
 -- What explain says of a line, sentence by sentence: when, and in which words. Definitions only.
--- Its warnings stand in `explain_warnings`; how the numbers in the blanks are spelt is not said.
+-- Its warnings stand in `explain_warnings`; what stands in the blanks, numbers and endings of nouns, is not said.
 use mathlib.Core.Bool.{Bool, true, cond, not, _&&_, _||_}
 use mathlib.Core.List.{List, [], _∷_, _++_}
 use Prim.Native.Nat.{ℕ, zero, suc, _+_, _-_, _/_}
 use Prim.Native.String.{String}
 use lib.ListN.{length, getD}
 use lib.Dec.{eqb, ltb}
-use Rattle.hex.specs.Hex.{isHex}
+use Rattle.hex.specs.Hex.{Written, isHex}
 use Rattle.explain_words.specs.Tell.{telling}
 use Rattle.explain_warnings.specs.declared.Reading.{Reading}
 use Rattle.explain_warnings.specs.Warnings.{readingOf, warningsText}
@@ -77,8 +77,9 @@ isShown r a = eqb (a .number) 3 && belongs a (r .kind) (r .number) (r .place)
 abbrev pub hasStrayPlace : Refusal → Bool
 hasStrayPlace r = not (eqb (r .place) 0) && (eqb (r .number) 1 || eqb (r .number) 2 || eqb (r .number) 5)
 
-unfoldable pub refusalRows : Refusal → Above → List (Bool × String)
-refusalRows r a =
+-- below a frame of type `above`, the value with its name, shown or not
+unfoldable pub refusalRows : Refusal → ℕ → ℕ → Bool → List (Bool × String)
+refusalRows r above name shown =
     (eqb (r .kind) 129, "line {a}: ring refused, number {b}: ")
     ∷ (eqb (r .kind) 130, "line {a}: disk refused, number {b}: ")
     ∷ (eqb (r .kind) 255, "line {a}: refused, number {b}: ")
@@ -87,27 +88,30 @@ refusalRows r a =
     ∷ (eqb (r .number) 3, "a value is not finite\n")
     ∷ (eqb (r .number) 4, "the search over the disk found nothing\n")
     ∷ (eqb (r .number) 5, "the frame line is malformed\n")
-    ∷ (eqb (r .number) 2 && eqb (a .kind) 2, "  pixels      {c}\n")
+    ∷ (eqb (r .number) 2 && eqb above 2, "  pixels      {c}\n")
     ∷ (isRing r && ltb (r .place) 16, "  value       sample {d}")
     ∷ (isRing r && eqb (r .place / 16) 1, "  value       angle {e}")
     ∷ (isRing r && ltb 31 (r .place), "  warning: there is no place {d}: a ring's values are 0 to 31")
-    ∷ (eqb (nameOf r a) 1, "  value       val_energy")
-    ∷ (eqb (nameOf r a) 2, "  value       base0")
-    ∷ (eqb (nameOf r a) 3, "  value       base1")
-    ∷ (eqb (nameOf r a) 4, "  value       xs[{f}]")
-    ∷ (eqb (nameOf r a) 5, "  value       ys[{f}]")
-    ∷ (eqb (nameOf r a) 6, "  value       vals_centered[{f}]")
-    ∷ (eqb (nameOf r a) 7, "  value       grad_angles[{f}]")
-    ∷ (eqb (nameOf r a) 8, "  value       grad_weights[{f}]")
-    ∷ (ltb 8 (nameOf r a), "  warning: there is no place {d} in a disk of {c} pixel{g}")
-    ∷ (isDisk r && eqb (nameOf r a) 0, "  value       {d} (0 is the energy, 1 and 2 the base angles, then xs, ys, vals_centered, ")
-    ∷ (isDisk r && eqb (nameOf r a) 0, "grad_angles and grad_weights, as long as there are pixels)")
-    ∷ (isShown r a, " is {h} (bits {i})")
+    ∷ (eqb name 1, "  value       val_energy")
+    ∷ (eqb name 2, "  value       base0")
+    ∷ (eqb name 3, "  value       base1")
+    ∷ (eqb name 4, "  value       xs[{f}]")
+    ∷ (eqb name 5, "  value       ys[{f}]")
+    ∷ (eqb name 6, "  value       vals_centered[{f}]")
+    ∷ (eqb name 7, "  value       grad_angles[{f}]")
+    ∷ (eqb name 8, "  value       grad_weights[{f}]")
+    ∷ (ltb 8 name, "  warning: there is no place {d} in a disk of {c} pixel{g}")
+    ∷ (isDisk r && eqb name 0, "  value       {d} (0 is the energy, 1 and 2 the base angles, then xs, ys, vals_centered, ")
+    ∷ (isDisk r && eqb name 0, "grad_angles and grad_weights, as long as there are pixels)")
+    ∷ (shown, " is {h} (bits {i})")
     ∷ (eqb (r .number) 3, "\n")
     ∷ (eqb (r .number) 4, "  work        {d} trial{j}\n")
-    ∷ (eqb (r .number) 5 && eqb (a .kind) 255, "  frame       line {k}; what is wrong stands there\n")
+    ∷ (eqb (r .number) 5 && eqb above 255, "  frame       line {k}; what is wrong stands there\n")
     ∷ (hasStrayPlace r, "  warning: the place is {d}, and number {b} has the place 0\n")
     ∷ []
+
+abbrev pub refusedRows : Refusal → Above → List (Bool × String)
+refusedRows r a = refusalRows r (a .kind) (nameOf r a) (isShown r a)
 
 -- ---- a bad line of n characters, of which b is the first that is no digit
 unfoldable pub foreignFrom : List ℕ → ℕ → ℕ → ℕ
@@ -151,10 +155,15 @@ lineRows w l = badRows w (length l) (foreignByte l)
 abbrev pub fitText : List (List ℕ) → Reading → List ℕ
 fitText ws r = telling ws (fitRows r) ++ warningsText r
 
+-- a fit's line l told into the text t, which is m now, whatever the words in the blanks are
+pub record Fitted (l : List ℕ) (disk : Bool) (t : List ℕ) (at : ℕ) (m : List ℕ) (r : ℕ) : Type 0 where
+  pub words : List (List ℕ)
+  pub said : Written t at (fitText words (readingOf l disk)) m r
+
 abbrev pub bodyOf : List (List ℕ) → List ℕ → Sort → Above → List ℕ
 bodyOf ws l (Frame b) a = []
 bodyOf ws l (Fit disk) a = fitText ws (readingOf l disk)
-bodyOf ws l (Refused r) a = telling ws (refusalRows r a)
+bodyOf ws l (Refused r) a = telling ws (refusedRows r a)
 bodyOf ws l (Bad w) a = telling ws (lineRows w l)
 
 abbrev pub explained : List (List ℕ) → List (List ℕ) → List (List ℕ) → List ℕ → Sort → Above → List ℕ

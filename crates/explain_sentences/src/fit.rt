@@ -1,4 +1,4 @@
-// A fit in sentences.
+// A fit in sentences, and what in it is not to be taken at face value.
 use explain_warnings::Reading;
 use explain_words::numbers::figures;
 use explain_words::numbers::hundredths;
@@ -10,7 +10,8 @@ use explain_words::numbers::thousandths;
 ghost use mathlib.Core.Path.{_≡_};
 ghost use Prim.Native.Nat.{_+_, _≤_};
 ghost use lib.ListN.{length};
-ghost use Rattle.explain_words.specs.Tell.{Told, flagsOf};
+ghost use Rattle.explain_words.specs.Tell.{flagsOf};
+ghost use Rattle.explain_warnings.specs.Warnings.{fitLength};
 ghost use Rattle.explain_sentences.specs.Sentences as S;
 
 fn degrees(x: f32) -> f64 {
@@ -103,13 +104,15 @@ fn flags_of(r: Reading) -> [bool; 14]
     ]
 }
 
-pub fn told(text: &mut [u8], at: usize, line: u64, r: Reading) -> usize
-    requires { ⌜ at + 9792 ≤ length (now text) ⌝ }
-    ensures { λ p. ⌜ (p ≤ at + 9792) × Told (S.fitRows r) (now (text .entry)) at (now (text .exit)) p ⌝ }
+// Line number `number`, a disk's or a ring's fit.
+pub fn told(text: &mut [u8], at: usize, number: u64, line: &[u8], disk: bool) -> usize
+    requires { ⌜ (fitLength disk ≤ length (now line)) × (at + 40152 ≤ length (now text)) ⌝ }
+    ensures { λ p. ⌜ (p ≤ at + 40152) × S.Fitted (now (line .entry)) disk (now (text .entry)) at (now (text .exit)) p ⌝ }
 {
+    let r = explain_warnings::read(line, disk);
     let flags = flags_of(r);
-    let words = words_of(line, r);
-    explain_words::tell(
+    let words = words_of(number, r);
+    let p = explain_words::tell(
         text,
         at,
         b"line {a}: ring fit
@@ -129,5 +132,6 @@ pub fn told(text: &mut [u8], at: usize, line: u64, r: Reading) -> usize
 |",
         &flags,
         &words,
-    )
+    );
+    explain_warnings::warnings(text, p, r)
 }

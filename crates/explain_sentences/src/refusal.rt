@@ -43,14 +43,12 @@ fn is_shown(r: Refusal, a: Above) -> bool
     (a.number == 3) & explain_sorts::belongs(a, r.kind, r.number, r.place)
 }
 
-fn flags_of(r: Refusal, a: Above) -> [bool; 28]
-    requires { ⌜ r .place ≤ 65535 ⌝ }
-    ensures { λ w. ⌜ (w ≡ flagsOf (S.refusalRows r a)) × (28 ≡ length w) ⌝ }
+fn flags_of(r: Refusal, above: u32, name: u32, shown: bool) -> [bool; 28]
+    ensures { λ w. ⌜ (w ≡ flagsOf (S.refusalRows r above name shown)) × (28 ≡ length w) ⌝ }
 {
     let kind = r.kind;
     let number = r.number;
     let place = r.place;
-    let name = name_of(r, a);
     [
         kind == 129,
         kind == 130,
@@ -60,7 +58,7 @@ fn flags_of(r: Refusal, a: Above) -> [bool; 28]
         number == 3,
         number == 4,
         number == 5,
-        (number == 2) & (a.kind == 2),
+        (number == 2) & (above == 2),
         (kind == 129) & (number == 3) & (place < 16),
         (kind == 129) & (number == 3) & (place / 16 == 1),
         (kind == 129) & (number == 3) & (place > 31),
@@ -75,10 +73,10 @@ fn flags_of(r: Refusal, a: Above) -> [bool; 28]
         name > 8,
         (kind == 130) & (number == 3) & (name == 0),
         (kind == 130) & (number == 3) & (name == 0),
-        is_shown(r, a),
+        shown,
         number == 3,
         number == 4,
-        (number == 5) & (a.kind == 255),
+        (number == 5) & (above == 255),
         (place != 0) & ((number == 1) | (number == 2) | (number == 5)),
     ]
 }
@@ -117,9 +115,11 @@ fn words_of(line: u64, r: Refusal, a: Above) -> [[u8; 24]; 11]
 
 pub fn told(text: &mut [u8], at: usize, line: u64, r: Refusal, a: Above) -> usize
     requires { ⌜ (r .place ≤ 65535) × (at + 24144 ≤ length (now text)) ⌝ }
-    ensures { λ p. ⌜ (p ≤ at + 24144) × Told (S.refusalRows r a) (now (text .entry)) at (now (text .exit)) p ⌝ }
+    ensures { λ p. ⌜ (p ≤ at + 24144) × Told (S.refusedRows r a) (now (text .entry)) at (now (text .exit)) p ⌝ }
 {
-    let flags = flags_of(r, a);
+    let name = name_of(r, a);
+    let shown = is_shown(r, a);
+    let flags = flags_of(r, a.kind, name, shown);
     let words = words_of(line, r, a);
     explain_words::tell(
         text,

@@ -7,23 +7,20 @@ use Rattle.explain.proofs.line_told.Tie as tie
 
 returns : tie.Need-returns
 returns c =
-    let at-alone-told = c .before .before .before .before .before .before .before .before .before .before .alone-told in
-    let at-body-told = c .before .before .before .before .before .before .body-told in
-    let at-mismatch-told = c .before .before .mismatch-told in
-    let at-is-alone-13 = c .before .before .before .before .before .before .before .before .before .before .before .before in
-    let at-is-alone = at-is-alone-13 .before .is-alone in
-    let at-is-strange = c .before .before .before .before .before .before .before .before .before .before .before .before .is-strange in (
+    let b2 = c .before .before in
+    let b6 = b2 .before .before .before .before in
+    let b10 = b6 .before .before .before .before in
+    let b12 = b10 .before .before in
+    let t = b10 .alone-told .ensures .1 in
+    let u = b6 .body-told .ensures .1 in
+    let v = b2 .mismatch-told .ensures .1 in
+    let w = written-then (t .said) (written-then (u .said) (v .said) (omega arith)) (omega arith) in (
       search needs,
       record {
-        first = at-alone-told .ensures .1 .words;
-        second = at-body-told .ensures .1 .words;
-        third = at-mismatch-told .ensures .1
-            .words;
-        said = rw (
-          ← at-is-alone .ensures,
-          ← at-is-strange .ensures,
-        ) (written-then (at-alone-told .ensures .1 .said)
-            (written-then (at-body-told .ensures .1 .said) (at-mismatch-told .ensures .1 .said) (omega arith)) (omega arith));
+        first = t .words;
+        second = u .words;
+        third = v .words;
+        said = rw (← b12 .before .is-alone .ensures, ← b12 .is-strange .ensures) w;
       },
     )
 

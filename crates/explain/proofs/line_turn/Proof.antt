@@ -5,27 +5,25 @@ use Rattle.explain.proofs.line_turn.Tie as tie
 
 returns : tie.Need-returns
 returns c =
-    let at-line-told = c .before .before .before .before .line-told in
-    let at-wrapping-add-u64 = c .before .before .before .before .before .before .before .before .before .before .wrapping-add-u64 in
-    let at-sort-of = c .before .before .before .before .before .before .before .before .sort-of in
-    let at-answered = c .before .answered in
-    let at-room = c .before .before .before .before .before .before .room in
-    let t = at-line-told .ensures .1 in let s = rw (at-wrapping-add-u64 .ensures) at (at-sort-of .ensures .0) in (
-      at-answered .ensures .0,
+    let b4 = c .before .before .before .before in
+    let b6 = b4 .before .before in
+    let b8 = b6 .before .before in
+    let b10 = b8 .before .before in
+    let t = b4 .line-told .ensures .1 in
+    let n = b10 .wrapping-add-u64 .ensures in
+    let s = rw n at (b8 .sort-of .ensures .0) in
+    let at = b6 .room .ensures .1 in (
+      c .before .answered .ensures .0,
       record {
         first = t .first;
         second = t .second;
         third = t .third;
         text = record {
-          text = rw (
-            ← s,
-            ← at-room .ensures .1,
-          ) (t .said .text);
-          state = rw (← s, ← at-room .ensures .1, ← t .said .place) (at-answered .ensures .1);
+          text = rw (← s, ← at) (t .said .text);
+          state = rw (← s, ← at, ← t .said .place) (c .before .answered .ensures .1);
         };
-        above = rw
-            (← s, ← at-wrapping-add-u64 .ensures) (c .above-of .ensures);
-        counted = at-wrapping-add-u64 .ensures;
+        above = rw (← s, ← n) (c .above-of .ensures);
+        counted = n;
       },
     )
 
