@@ -72,21 +72,6 @@ fn line_turn(buf: &[u8], text: &mut [u8], x: Explaining, e: usize, from: usize) 
     }
 }
 
-// One block read.
-fn block_turn(buf: &mut [u8], text: &[u8], x: Explaining) -> Explaining
-    requires { ⌜ Kept (x .state) × (length (now buf) ≡ input) × (length (now text) ≡ output) ⌝ }
-    ensures { λ r. ⌜ Kept (r .state) × E.Block x (now (buf .entry)) (now (buf .exit)) r ⌝ }
-{
-    let s = x.state;
-    let above = x.above;
-    let state = lines::read_on(buf, text, s, shapes::LIMIT);
-    Explaining {
-        state,
-        above,
-        lines: x.lines,
-    }
-}
-
 // A frame at the end of the input has no answer.
 fn last_turn(text: &mut [u8], x: Explaining) -> Explaining
     requires { ⌜ Kept (x .state) × (length (now text) ≡ output) ⌝ }
@@ -111,11 +96,19 @@ fn turn(buf: &mut [u8], text: &mut [u8], x: Explaining) -> Explaining
     ensures { λ r. ⌜ Kept (r .state) × E.Turn x (now (buf .entry)) (now (buf .exit)) (now (text .entry)) (now (text .exit)) r ⌝ }
 {
     let s = x.state;
+    let above = x.above;
     let f = s.feed;
     let found = lines::find(buf, f);
     match found {
         Found::Line(e, next) => line_turn(buf, text, x, e, next),
-        Found::More => block_turn(buf, text, x),
+        Found::More => {
+            let state = lines::read_on(buf, text, s, shapes::LIMIT);
+            Explaining {
+                state,
+                above,
+                lines: x.lines,
+            }
+        }
         Found::Done => last_turn(text, x),
     }
 }

@@ -67,24 +67,19 @@ refusalSort l kind =
 abbrev pub fitLength : Bool → ℕ
 fitLength disk = cond disk 98 60
 
-unfoldable pub ringAnswer : List ℕ → Sort
-ringAnswer l =
-    cond (eqb (length l) 8) (refusalSort l 129)
-    (cond (not (eqb (length l) (fitLength false))) (bad answerLength 129 0 0)
-    (cond (not (eqb (byteOf l 2) 0)) (bad fitNumber 129 (byteOf l 2) 0) (Fit false)))
-
-unfoldable pub diskAnswer : List ℕ → Sort
-diskAnswer l =
-    cond (eqb (length l) 8) (refusalSort l 130)
-    (cond (not (eqb (length l) (fitLength true))) (bad answerLength 130 0 0)
-    (cond (not (eqb (byteOf l 2) 0)) (bad fitNumber 130 (byteOf l 2) 0) (Fit true)))
+unfoldable pub fitAnswer : List ℕ → ℕ → Bool → Sort
+fitAnswer l kind disk =
+    cond (eqb (length l) 8) (refusalSort l kind)
+    (cond (not (eqb (length l) (fitLength disk))) (bad answerLength kind 0 0)
+    (cond (not (eqb (byteOf l 2) 0)) (bad fitNumber kind (byteOf l 2) 0) (Fit disk)))
 
 unfoldable pub malformedAnswer : List ℕ → Sort
 malformedAnswer l = cond (eqb (length l) 8) (refusalSort l 255) (bad answerLength 255 0 0)
 
 unfoldable pub answerSort : List ℕ → ℕ → Sort
 answerSort l kind =
-    cond (eqb kind 129) (ringAnswer l) (cond (eqb kind 130) (diskAnswer l) (cond (eqb kind 255) (malformedAnswer l) (bad unknownType kind 0 0)))
+    cond (eqb kind 129) (fitAnswer l 129 false)
+    (cond (eqb kind 130) (fitAnswer l 130 true) (cond (eqb kind 255) (malformedAnswer l) (bad unknownType kind 0 0)))
 
 abbrev pub faultSort : Fault → Sort
 faultSort Faults.TooLong = bad tooLong 0 0 0

@@ -113,38 +113,23 @@ fn refusal_sort(line: &[u8], kind: u32) -> Sort
     bad(STRANGE_NUMBER, kind, number, 0)
 }
 
-fn ring_answer(line: &[u8]) -> Sort
-    ensures { λ r. ⌜ (r ≡ S.ringAnswer (now (line .entry))) × S.Sound (length (now (line .entry))) r ⌝ }
+// An answer of a type whose fits have `size` characters.
+fn fit_answer(line: &[u8], kind: u32, size: usize, disk: bool) -> Sort
+    requires { ⌜ (4 ≤ size) × (size ≡ S.fitLength disk) ⌝ }
+    ensures { λ r. ⌜ (r ≡ S.fitAnswer (now (line .entry)) kind disk) × S.Sound (length (now (line .entry))) r ⌝ }
 {
     let n = line.len();
     if n == 8 {
-        return refusal_sort(line, 129);
+        return refusal_sort(line, kind);
     }
-    if n != 60 {
-        return bad(ANSWER_LENGTH, 129, 0, 0);
-    }
-    let number = hex::byte_at(line, 2);
-    if number != 0 {
-        return bad(FIT_NUMBER, 129, number, 0);
-    }
-    Sort::Fit(false)
-}
-
-fn disk_answer(line: &[u8]) -> Sort
-    ensures { λ r. ⌜ (r ≡ S.diskAnswer (now (line .entry))) × S.Sound (length (now (line .entry))) r ⌝ }
-{
-    let n = line.len();
-    if n == 8 {
-        return refusal_sort(line, 130);
-    }
-    if n != 98 {
-        return bad(ANSWER_LENGTH, 130, 0, 0);
+    if n != size {
+        return bad(ANSWER_LENGTH, kind, 0, 0);
     }
     let number = hex::byte_at(line, 2);
     if number != 0 {
-        return bad(FIT_NUMBER, 130, number, 0);
+        return bad(FIT_NUMBER, kind, number, 0);
     }
-    Sort::Fit(true)
+    Sort::Fit(disk)
 }
 
 fn malformed_answer(line: &[u8]) -> Sort
@@ -160,10 +145,10 @@ fn answer_sort(line: &[u8], kind: u32) -> Sort
     ensures { λ r. ⌜ (r ≡ S.answerSort (now (line .entry)) kind) × S.Sound (length (now (line .entry))) r ⌝ }
 {
     if kind == 129 {
-        return ring_answer(line);
+        return fit_answer(line, 129, 60, false);
     }
     if kind == 130 {
-        return disk_answer(line);
+        return fit_answer(line, 130, 98, true);
     }
     if kind == 255 {
         return malformed_answer(line);

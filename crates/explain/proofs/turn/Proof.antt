@@ -7,31 +7,32 @@ use Rattle.explain.proofs.turn.Tie as tie
 
 line-turn-requires : tie.Need-line-turn-requires
 line-turn-requires c κs =
-    let at-args = c .before .before .before .before .before .before .before .before .before .before .before .args in
-    let at-found = c .before .before .before .found in
-    let at-find = c .before .before .before .before .before .find in
-    let w = subst (Within (at-args .x .state .feed)) (at-found .given .1) (at-find .ensures .1) in (search needs, w, search needs, search needs)
+    let b3 = c .before .before .before in
+    let b5 = b3 .before .before in
+    let b12 = b5 .before .before .before .before .before .before .before in
+    (search needs, subst (Within (b12 .args .x .state .feed)) (b3 .found .given .1) (b5 .find .ensures .1), search needs, search needs)
 
 returns : tie.Need-returns
 returns c =
-    let at-line-turn = c .before .before .line-turn in
-    let at-find = c .before .before .before .before .before .before .before .before .find in
-    let at-found = c .before .before .before .before .before .before .found in
-    (at-line-turn .ensures .0, record { made = rw (← at-find .ensures .0, at-found .given .1) (at-line-turn .ensures .1, refl) })
+    let b2 = c .before .before in
+    let b6 = b2 .before .before .before .before in
+    let b8 = b6 .before .before in
+    (b2 .line-turn .ensures .0, record { made = rw (← b8 .find .ensures .0, b6 .found .given .1) (b2 .line-turn .ensures .1, refl) })
 
 returns-2 : tie.Need-returns-2
 returns-2 c =
-    let at-block-turn = c .before .before .block-turn in
-    let at-find = c .before .before .before .before .before .before .before .find in
-    let at-enum-told = c .before .before .before .before .before .enum-told in
-    (at-block-turn .ensures .0, record { made = rw (← at-find .ensures .0, at-enum-told .given .1) (at-block-turn .ensures .1, refl) })
+    let b2 = c .before .before in
+    let b5 = b2 .before .before .before in
+    let b7 = b5 .before .before in
+    let r = b2 .read-on .ensures in
+    (r .0, record { made = rw (← b7 .find .ensures .0, b5 .enum-told .given .1) (record { read = r .1; above = refl; counted = refl }, refl) })
 
 returns-3 : tie.Need-returns-3
 returns-3 c =
-    let at-last-turn = c .before .before .last-turn in
-    let at-find = c .before .before .before .before .before .before .find in
-    let at-enum-told2 = c .before .before .before .before .enum-told2 in
-    (at-last-turn .ensures .0, record { made = rw (← at-find .ensures .0, at-enum-told2 .given .1) (at-last-turn .ensures .1, refl) })
+    let b2 = c .before .before in
+    let b4 = b2 .before .before in
+    let b6 = b4 .before .before in
+    (b2 .last-turn .ensures .0, record { made = rw (← b6 .find .ensures .0, b4 .enum-told2 .given .1) (b2 .last-turn .ensures .1, refl) })
 
 pub turn-spec : {M : Type 1} → statement M
 turn-spec =

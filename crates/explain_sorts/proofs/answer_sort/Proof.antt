@@ -7,11 +7,11 @@ use Rattle.explain_sorts.proofs.answer_sort.Tie as tie
 
 returns : tie.Need-returns
 unfolding S.answerSort
-returns c = (rw (eq-eqb _ _ (c .before .if1 .taken)) (c .ring-answer .ensures .0), c .ring-answer .ensures .1)
+returns c = (rw (eq-eqb _ _ (c .before .if1 .taken)) (c .fit-answer .ensures .0), c .fit-answer .ensures .1)
 
 returns-2 : tie.Need-returns-2
 unfolding S.answerSort
-returns-2 c = (rw (ne-eqb _ _ (c .before .before .if1 .left), eq-eqb _ _ (c .before .if2 .taken)) (c .disk-answer .ensures .0), c .disk-answer .ensures .1)
+returns-2 c = (rw (ne-eqb _ _ (c .before .before .if1 .left), eq-eqb _ _ (c .before .if2 .taken)) (c .fit-answer2 .ensures .0), c .fit-answer2 .ensures .1)
 
 returns-3 : tie.Need-returns-3
 unfolding S.answerSort
