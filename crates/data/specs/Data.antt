@@ -46,7 +46,7 @@ abbrev pub maxTanhPixels : ℕ
 maxTanhPixels = 320
 
 -- five slices of one length, which is not above it
-pub record Sized (xs ys valsCentered gradAngles gradWeights : Row) : Type 0 where
+pub record DiskSized (xs ys valsCentered gradAngles gradWeights : Row) : Type 0 where
   pub most : length xs ≤ maxTanhPixels
   pub y : length ys ≡ length xs
   pub v : length valsCentered ≡ length xs

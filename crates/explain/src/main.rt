@@ -9,8 +9,8 @@ use lines::State;
 ghost use mathlib.Core.Path.{_≡_};
 ghost use Prim.Native.Nat.{_+_, _≤_};
 ghost use lib.ListN.{length};
-ghost use Rattle.lines.specs.Turns.{Kept, Lies, input, output};
-ghost use Rattle.explain_sorts.specs.Sorts.{Sound};
+ghost use Rattle.lines.specs.Turns.{StateKept, Lies, input, output};
+ghost use Rattle.explain_sorts.specs.Sorts.{SortSound};
 ghost use Rattle.explain.specs.Explain as E;
 
 // More than is said of any line: 24 characters for each of its sentences' own.
@@ -18,7 +18,7 @@ const ROOM: usize = 50000;
 
 // What is said of a line itself, at a place of the text; the place behind it.
 fn body_told(text: &mut [u8], at: usize, number: u64, line: &[u8], sort: Sort, a: Above) -> usize
-    requires { ⌜ Sound (length (now line)) sort × (at + 40152 ≤ length (now text)) ⌝ }
+    requires { ⌜ SortSound (length (now line)) sort × (at + 40152 ≤ length (now text)) ⌝ }
     ensures { λ r. ⌜ (r ≤ at + 40152) × E.Body (now (line .entry)) sort a (now (text .entry)) at (now (text .exit)) r ⌝ }
 {
     match sort {
@@ -32,7 +32,7 @@ fn body_told(text: &mut [u8], at: usize, number: u64, line: &[u8], sort: Sort, a
 // All that is said at a line: that the frame above has no answer, the line itself, that it is not the
 // answer of that frame.
 fn line_told(text: &mut [u8], at: usize, number: u64, line: &[u8], sort: Sort, a: Above) -> usize
-    requires { ⌜ Sound (length (now line)) sort × (at + 50000 ≤ length (now text)) ⌝ }
+    requires { ⌜ SortSound (length (now line)) sort × (at + 50000 ≤ length (now text)) ⌝ }
     ensures { λ r. ⌜ (r ≤ at + 50000) × E.Explained (now (line .entry)) sort a (now (text .entry)) at (now (text .exit)) r ⌝ }
 {
     let alone = explain_sorts::is_alone(sort);
@@ -51,8 +51,8 @@ struct Explaining {
 
 // The line up to `e` explained; the next one starts at `from`.
 fn line_turn(buf: &[u8], text: &mut [u8], x: Explaining, e: usize, from: usize) -> Explaining
-    requires { ⌜ Kept (x .state) × Lies (x .state) e from × (length (now buf) ≡ input) × (length (now text) ≡ output) ⌝ }
-    ensures { λ r. ⌜ Kept (r .state) × E.Explains x (now (buf .entry)) e from (now (text .entry)) (now (text .exit)) r ⌝ }
+    requires { ⌜ StateKept (x .state) × Lies (x .state) e from × (length (now buf) ≡ input) × (length (now text) ≡ output) ⌝ }
+    ensures { λ r. ⌜ StateKept (r .state) × E.Explains x (now (buf .entry)) e from (now (text .entry)) (now (text .exit)) r ⌝ }
 {
     let s = x.state;
     let f = s.feed;
@@ -74,8 +74,8 @@ fn line_turn(buf: &[u8], text: &mut [u8], x: Explaining, e: usize, from: usize) 
 
 // A frame at the end of the input has no answer.
 fn last_turn(text: &mut [u8], x: Explaining) -> Explaining
-    requires { ⌜ Kept (x .state) × (length (now text) ≡ output) ⌝ }
-    ensures { λ r. ⌜ Kept (r .state) × E.End x (now (text .entry)) (now (text .exit)) r ⌝ }
+    requires { ⌜ StateKept (x .state) × (length (now text) ≡ output) ⌝ }
+    ensures { λ r. ⌜ StateKept (r .state) × E.End x (now (text .entry)) (now (text .exit)) r ⌝ }
 {
     let s = x.state;
     let f = s.feed;
@@ -92,8 +92,8 @@ fn last_turn(text: &mut [u8], x: Explaining) -> Explaining
 
 // One line explained, or one block read, or the end.
 fn turn(buf: &mut [u8], text: &mut [u8], x: Explaining) -> Explaining
-    requires { ⌜ Kept (x .state) × (length (now buf) ≡ input) × (length (now text) ≡ output) ⌝ }
-    ensures { λ r. ⌜ Kept (r .state) × E.Turn x (now (buf .entry)) (now (buf .exit)) (now (text .entry)) (now (text .exit)) r ⌝ }
+    requires { ⌜ StateKept (x .state) × (length (now buf) ≡ input) × (length (now text) ≡ output) ⌝ }
+    ensures { λ r. ⌜ StateKept (r .state) × E.Turn x (now (buf .entry)) (now (buf .exit)) (now (text .entry)) (now (text .exit)) r ⌝ }
 {
     let s = x.state;
     let above = x.above;

@@ -11,7 +11,7 @@ ghost use mathlib.Core.Path.{_≡_};
 ghost use Prim.Native.Nat.{_+_, _≤_};
 ghost use lib.ListN.{length};
 ghost use Rattle.explain_words.specs.Tell.{flagsOf};
-ghost use Rattle.explain_warnings.specs.Warnings.{fitLength};
+ghost use Rattle.shapes.specs.Shapes.{fitLength};
 ghost use Rattle.explain_sentences.specs.Sentences as S;
 
 fn degrees(x: f32) -> f64 {

@@ -6,7 +6,7 @@ use lib.ListN.{length}
 use lib.Dec.{eqb, ltb}
 use lib.Ieee.Scale.{finite}
 use Rattle.hex.specs.Hex.{byteOf, wordOf, valueOf}
-use Rattle.shapes.specs.Shapes.{shapeOf}
+use Rattle.shapes.specs.Shapes.{shapeOf, fitLength}
 use Rattle.shapes.specs.declared.Shape.{Shape}
 use Rattle.shapes.specs.declared.Shape.the-variants as Shapes
 use Rattle.shapes.specs.declared.Fault.{Fault}
@@ -63,10 +63,6 @@ refusalSort l kind =
     cond (eqb number 0 || ltb 5 number) (bad noNumber kind number 0)
     (cond (isOf kind number) (Refused (record { kind = kind; number = number; place = byteOf l 4 * 256 + byteOf l 6 })) (bad strangeNumber kind number 0))
 
--- how long a fit is, a disk's and a ring's
-abbrev pub fitLength : Bool → ℕ
-fitLength disk = cond disk 98 60
-
 unfoldable pub fitAnswer : List ℕ → ℕ → Bool → Sort
 fitAnswer l kind disk =
     cond (eqb (length l) 8) (refusalSort l kind)
@@ -119,11 +115,11 @@ unfoldable pub sortOf : List ℕ → Bool → ℕ → Sort
 sortOf l skip line = cond skip (bad tooLong 0 0 0) (shapeSort l line (shapeOf l))
 
 -- what a reader of an answer relies on
-abbrev pub Sound : ℕ → Sort → Type 0
-Sound size (Frame a) = 0 ≤ size
-Sound size (Fit disk) = fitLength disk ≤ size
-Sound size (Refused r) = r .place ≤ 65535
-Sound size (Bad w) = 0 ≤ size
+abbrev pub SortSound : ℕ → Sort → Type 0
+SortSound size (Frame a) = 0 ≤ size
+SortSound size (Fit disk) = fitLength disk ≤ size
+SortSound size (Refused r) = r .place ≤ 65535
+SortSound size (Bad w) = 0 ≤ size
 
 -- ---- what stands above the next line. Of what is wrong as an answer it is not known whether it is meant as a frame
 unfoldable pub badAbove : Wrong → ℕ → Above

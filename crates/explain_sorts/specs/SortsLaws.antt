@@ -8,7 +8,7 @@ use lib.Ieee.Scale.{finite}
 use Rattle.hex.specs.Hex.{valueOf}
 use Rattle.shapes.specs.declared.Fault.{Fault}
 use Rattle.shapes.specs.declared.Fault.the-variants.{TooLong, Foreign, Short, RingLength, DiskShort, DiskLength}
-use Rattle.explain_sorts.specs.Sorts.{wildFrom, Sound, faultSort}
+use Rattle.explain_sorts.specs.Sorts.{wildFrom, SortSound, faultSort}
 
 module _ (l : List ℕ) (at n k : ℕ) where
   pub wild-on : k < n → not (finite (valueOf l (at + 8 * k))) ≡ false → wildFrom l at (n - (k + 1)) (k + 1) ≡ wildFrom l at (n - k) k
@@ -24,7 +24,7 @@ module _ (l : List ℕ) (at n k : ℕ) where
   wild-none e = let z : n - k ≡ 0 = omega arith in rw z e
 
 -- a fault's sort asks nothing of the line's length
-pub fault-sound : (size : ℕ) (fault : Fault) → Sound size (faultSort fault)
+pub fault-sound : (size : ℕ) (fault : Fault) → SortSound size (faultSort fault)
 fault-sound size TooLong = omega arith
 fault-sound size Foreign = omega arith
 fault-sound size Short = omega arith

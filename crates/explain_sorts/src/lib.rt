@@ -5,6 +5,7 @@ use shapes::Shape;
 ghost use mathlib.Core.Path.{_≡_};
 ghost use Prim.Native.Nat.{_+_, _*_, _≤_, _<_};
 ghost use lib.ListN.{length};
+ghost use Rattle.shapes.specs.Shapes.{fitLength};
 ghost use Rattle.explain_sorts.specs.Sorts as S;
 
 // A refusal's type, number and place.
@@ -96,7 +97,7 @@ fn is_of(kind: u32, number: u32) -> bool
 
 fn refusal_sort(line: &[u8], kind: u32) -> Sort
     requires { ⌜ 8 ≤ length (now line) ⌝ }
-    ensures { λ r. ⌜ (r ≡ S.refusalSort (now (line .entry)) kind) × S.Sound (length (now (line .entry))) r ⌝ }
+    ensures { λ r. ⌜ (r ≡ S.refusalSort (now (line .entry)) kind) × S.SortSound (length (now (line .entry))) r ⌝ }
 {
     let number = hex::byte_at(line, 2);
     let place = hex::byte_at(line, 4) * 256 + hex::byte_at(line, 6);
@@ -115,8 +116,8 @@ fn refusal_sort(line: &[u8], kind: u32) -> Sort
 
 // An answer of a type whose fits have `size` characters.
 fn fit_answer(line: &[u8], kind: u32, size: usize, disk: bool) -> Sort
-    requires { ⌜ (4 ≤ size) × (size ≡ S.fitLength disk) ⌝ }
-    ensures { λ r. ⌜ (r ≡ S.fitAnswer (now (line .entry)) kind disk) × S.Sound (length (now (line .entry))) r ⌝ }
+    requires { ⌜ (4 ≤ size) × (size ≡ fitLength disk) ⌝ }
+    ensures { λ r. ⌜ (r ≡ S.fitAnswer (now (line .entry)) kind disk) × S.SortSound (length (now (line .entry))) r ⌝ }
 {
     let n = line.len();
     if n == 8 {
@@ -133,7 +134,7 @@ fn fit_answer(line: &[u8], kind: u32, size: usize, disk: bool) -> Sort
 }
 
 fn malformed_answer(line: &[u8]) -> Sort
-    ensures { λ r. ⌜ (r ≡ S.malformedAnswer (now (line .entry))) × S.Sound (length (now (line .entry))) r ⌝ }
+    ensures { λ r. ⌜ (r ≡ S.malformedAnswer (now (line .entry))) × S.SortSound (length (now (line .entry))) r ⌝ }
 {
     if line.len() == 8 {
         return refusal_sort(line, 255);
@@ -142,7 +143,7 @@ fn malformed_answer(line: &[u8]) -> Sort
 }
 
 fn answer_sort(line: &[u8], kind: u32) -> Sort
-    ensures { λ r. ⌜ (r ≡ S.answerSort (now (line .entry)) kind) × S.Sound (length (now (line .entry))) r ⌝ }
+    ensures { λ r. ⌜ (r ≡ S.answerSort (now (line .entry)) kind) × S.SortSound (length (now (line .entry))) r ⌝ }
 {
     if kind == 129 {
         return fit_answer(line, 129, 60, false);
@@ -239,7 +240,7 @@ fn refused_above(line: u64, kind: u32, pixels: u32, number: u32) -> Above
 
 // Line number `number`. A line of which a part is gone was too long.
 pub fn sort_of(line: &[u8], skip: bool, number: u64) -> Sort
-    ensures { λ r. ⌜ (r ≡ S.sortOf (now (line .entry)) skip number) × S.Sound (length (now (line .entry))) r ⌝ }
+    ensures { λ r. ⌜ (r ≡ S.sortOf (now (line .entry)) skip number) × S.SortSound (length (now (line .entry))) r ⌝ }
 {
     if skip {
         return bad(TOO_LONG, 0, 0, 0);

@@ -61,9 +61,6 @@ diskReading l =
 unfoldable pub readingOf : List ℕ → Bool → Reading
 readingOf l disk = cond disk (diskReading l) (ringReading l)
 
-abbrev pub fitLength : Bool → ℕ
-fitLength disk = cond disk 98 60
-
 -- ---- what is asked of a value
 unfoldable pub isInfinite : Float → Bool
 isInfinite nan = false

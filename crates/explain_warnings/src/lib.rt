@@ -5,6 +5,7 @@ ghost use Prim.Native.Nat.{_+_, _≤_};
 ghost use lib.ListN.{length};
 ghost use Rattle.hex.specs.Hex.{Written};
 ghost use Rattle.explain_words.specs.Tell.{flagsOf};
+ghost use Rattle.shapes.specs.Shapes.{fitLength};
 ghost use Rattle.explain_warnings.specs.Warnings as W;
 
 // What a line's answer says. A ring has no width, relative residual, correlation, edge score, objective
@@ -80,7 +81,7 @@ fn disk_reading(line: &[u8]) -> Reading
 }
 
 pub fn read(line: &[u8], disk: bool) -> Reading
-    requires { ⌜ W.fitLength disk ≤ length (now line) ⌝ }
+    requires { ⌜ fitLength disk ≤ length (now line) ⌝ }
     ensures { λ r. ⌜ r ≡ W.readingOf (now (line .entry)) disk ⌝ }
 {
     if disk {

@@ -4,7 +4,7 @@ use lines::Found;
 use lines::State;
 ghost use mathlib.Core.Path.{_≡_};
 ghost use lib.ListN.{length};
-ghost use Rattle.lines.specs.Turns.{Answered, Kept, Lies, input, output};
+ghost use Rattle.lines.specs.Turns.{Answered, StateKept, Lies, input, output};
 ghost use Rattle.fitlines.specs.Fitlines as P;
 
 // The longest answer, a disk's, and its line feed.
@@ -12,8 +12,8 @@ const ANSWER: usize = 99;
 
 // The line up to `e` answered; the next one starts at `from`.
 fn line_turn(buf: &[u8], text: &mut [u8], s: State, e: usize, from: usize) -> State
-    requires { ⌜ Kept s × Lies s e from × (length (now buf) ≡ input) × (length (now text) ≡ output) ⌝ }
-    ensures { λ r. ⌜ Kept r × Answered 99 s from (P.answer s (now (buf .entry)) e) (now (text .entry)) (now (text .exit)) r ⌝ }
+    requires { ⌜ StateKept s × Lies s e from × (length (now buf) ≡ input) × (length (now text) ≡ output) ⌝ }
+    ensures { λ r. ⌜ StateKept r × Answered 99 s from (P.answer s (now (buf .entry)) e) (now (text .entry)) (now (text .exit)) r ⌝ }
 {
     let f = s.feed;
     let begin = f.from;
@@ -24,8 +24,8 @@ fn line_turn(buf: &[u8], text: &mut [u8], s: State, e: usize, from: usize) -> St
 
 // One line answered, or one block read, or the end.
 fn turn(buf: &mut [u8], text: &mut [u8], s: State) -> State
-    requires { ⌜ Kept s × (length (now buf) ≡ input) × (length (now text) ≡ output) ⌝ }
-    ensures { λ r. ⌜ Kept r × P.Turn s (now (buf .entry)) (now (buf .exit)) (now (text .entry)) (now (text .exit)) r ⌝ }
+    requires { ⌜ StateKept s × (length (now buf) ≡ input) × (length (now text) ≡ output) ⌝ }
+    ensures { λ r. ⌜ StateKept r × P.Turn s (now (buf .entry)) (now (buf .exit)) (now (text .entry)) (now (text .exit)) r ⌝ }
 {
     let f = s.feed;
     let found = lines::find(buf, f);

@@ -12,7 +12,8 @@ use Rattle.elementary.specs.Elementary.{whole, sinRest, cosRest, quadrant, sinC
 use Rattle.geometry.specs.Geometry.{signedLineDelta, lineDelta, lineSeparation, validPair}
 use Rattle.solver_axes.specs.Canonical.{wrapToTau, arc, placed, settled, canonicalizeTrackingSwap}
 use Rattle.solver_axes.specs.declared.Axes.{Axes}
-use Rattle.solver_elimination.specs.Solve.{Matrix, Row, augmented, larger, pivotRow, unusable, reduced, cleared, clear}
+use Rattle.solver_elimination.specs.Solve.{Matrix, augmented, larger, pivotRow, unusable, reduced, cleared, clear}
+use Rattle.floats.specs.Rows.{Row}
 use Rattle.solver_elimination.specs.Solve.{topRow, columned, stopped, solve4x4, axisError, bothErrors, axisStdErrors}
 use Rattle.solver_elimination.specs.declared.Solved.{Solved}
 use Rattle.solver_elimination.specs.declared.Solved.the-variants.{Values, Failed}

@@ -13,7 +13,7 @@ use search_ranking::Ranked;
 ghost use mathlib.Core.Path.{_≡_};
 ghost use Prim.Native.Nat.{_≤_};
 ghost use lib.ListN.{length};
-ghost use Rattle.data.specs.Data.{Sized};
+ghost use Rattle.data.specs.Data.{DiskSized};
 ghost use Rattle.search_rows.specs.Rows.{Outlined};
 
 // ---- what crosses to C, under the names of tests/funclines.h; `some` is false where there is nothing
@@ -381,7 +381,7 @@ pub extern "C" fn fl_best_disk_fit(
     grad_angles: &[f32],
     grad_weights: &[f32],
 ) -> Best
-    requires { ⌜ Sized (now xs) (now ys) (now «vals_centered») (now «grad_angles») (now «grad_weights») ⌝ }
+    requires { ⌜ DiskSized (now xs) (now ys) (now «vals_centered») (now «grad_angles») (now «grad_weights») ⌝ }
 {
     let found = search::best_disk_fit(
         val_energy,
@@ -439,7 +439,7 @@ pub extern "C" fn fl_refine_fit_cached(
     grad_angles: &[f32],
     grad_weights: &[f32],
 ) -> Fit9
-    requires { ⌜ Sized (now xs) (now ys) (now «vals_centered») (now «grad_angles») (now «grad_weights») ⌝ }
+    requires { ⌜ DiskSized (now xs) (now ys) (now «vals_centered») (now «grad_angles») (now «grad_weights») ⌝ }
 {
     let mut rows = [0.0f32; 2240];
     let r = search_refine::refine_fit_cached(

@@ -47,7 +47,7 @@ validPair a0 a1 = let sep = lineSeparation a0 a1 in le minSeparation sep && le s
 
 -- What the contracts say of ranges, beside their equations: r, made of x, lies from low to high, both included, where x is a number that is finite,
 -- and is NaN where x is NaN or an infinity.
-pub record Between (from to x r : Float) : Type 0 where
+pub record WrappedBetween (from to x r : Float) : Type 0 where
   pub low : T (finite x) → T (le from r)
   pub high : T (finite x) → T (le r to)
   pub wild : T (not (finite x)) → r ≡ nan

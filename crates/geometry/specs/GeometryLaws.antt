@@ -18,7 +18,7 @@ use Rattle.floats.specs.RoundingLaws.{R, Rep, counted, R-upper, rep-of}
 use Rattle.floats.specs.NonNegLaws.{NonNeg, clear, or-l, or-r, le-of, sub-nn, sub-neg}
 use Rattle.floats.specs.RemLaws.{P, pi-val, pi-rep, nought-nn, rem-pi, remEuclid-range, remEuclid-wild}
 use Rattle.floats.specs.SignLaws.{abs-val, abs-fits}
-use Rattle.geometry.specs.Geometry.{wrapPi, signedLineDelta, lineDelta, Between}
+use Rattle.geometry.specs.Geometry.{wrapPi, signedLineDelta, lineDelta, WrappedBetween}
 
 -- PI/2 in units of 2 ^ -149
 abbrev H : ℕ
@@ -37,7 +37,7 @@ half-nn : NonNeg binary32 halfPi H
 half-nn = clear binary32 halfPi H half-val half-rep
 
 -- the result can be PI itself
-pub wrapPi-between : (x : Float) → T (fits binary32 x) → Between nought pi x (wrapPi x)
+pub wrapPi-between : (x : Float) → T (fits binary32 x) → WrappedBetween nought pi x (wrapPi x)
 unfolding wrapPi
 wrapPi-between x p = record {
   low = λ t. rem-pi x p t .0;
@@ -95,7 +95,7 @@ delta-wild : (a b : Float) → T (not (finite (a ⊖ b ⊕ halfPi))) → signedL
 unfolding signedLineDelta
 delta-wild a b t = ap (λ (z : Float). z ⊖ halfPi) (remEuclid-wild binary32 (a ⊖ b ⊕ halfPi) pi t) ∙ unfold sub add in refl
 
-pub signedLineDelta-range : (a b : Float) → Between (neg halfPi) halfPi (a ⊖ b ⊕ halfPi) (signedLineDelta a b)
+pub signedLineDelta-range : (a b : Float) → WrappedBetween (neg halfPi) halfPi (a ⊖ b ⊕ halfPi) (signedLineDelta a b)
 signedLineDelta-range a b = record { low = λ t. both t .0; high = λ t. both t .1; wild = delta-wild a b }
   where
     x : Float
@@ -109,7 +109,7 @@ signedLineDelta-range a b = record { low = λ t. both t .0; high = λ t. both t 
         let high = le-val binary32 x halfPi (r .0) (r .1) false H (r .2) half-val in
         (subst T (sym low) (i .0), subst T (sym high) (i .1))
 
-pub lineDelta-range : (a b : Float) → Between nought halfPi (a ⊖ b ⊕ halfPi) (lineDelta a b)
+pub lineDelta-range : (a b : Float) → WrappedBetween nought halfPi (a ⊖ b ⊕ halfPi) (lineDelta a b)
 unfolding lineDelta
 lineDelta-range a b = record { low = λ t. both t .0; high = λ t. both t .1; wild = λ t. ap abs (delta-wild a b t) ∙ unfold abs in refl }
   where

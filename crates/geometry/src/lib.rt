@@ -6,28 +6,28 @@ ghost use Rattle.geometry.specs.Geometry as G;
 
 pub fn wrap_pi(a: f32) -> f32
     ensures { λ r. ⌜ r ≡ G.wrapPi a ⌝ }
-    ensures { λ r. ⌜ G.Between nought pi a r ⌝ }
+    ensures { λ r. ⌜ G.WrappedBetween nought pi a r ⌝ }
 {
     remainders::rem_euclid_pi(a)
 }
 
 pub fn signed_line_delta(a: f32, b: f32) -> f32
     ensures { λ r. ⌜ r ≡ G.signedLineDelta a b ⌝ }
-    ensures { λ r. ⌜ G.Between (neg halfPi) halfPi (a ⊖ b ⊕ halfPi) r ⌝ }
+    ensures { λ r. ⌜ G.WrappedBetween (neg halfPi) halfPi (a ⊖ b ⊕ halfPi) r ⌝ }
 {
     remainders::rem_euclid_pi(a - b + floats::HALF_PI) - floats::HALF_PI
 }
 
 pub fn line_delta(a: f32, b: f32) -> f32
     ensures { λ r. ⌜ r ≡ G.lineDelta a b ⌝ }
-    ensures { λ r. ⌜ G.Between nought halfPi (a ⊖ b ⊕ halfPi) r ⌝ }
+    ensures { λ r. ⌜ G.WrappedBetween nought halfPi (a ⊖ b ⊕ halfPi) r ⌝ }
 {
     floats::abs(signed_line_delta(a, b))
 }
 
 pub fn line_separation(a0: f32, a1: f32) -> f32
     ensures { λ r. ⌜ r ≡ G.lineSeparation a0 a1 ⌝ }
-    ensures { λ r. ⌜ G.Between nought halfPi (a0 ⊖ a1 ⊕ halfPi) r ⌝ }
+    ensures { λ r. ⌜ G.WrappedBetween nought halfPi (a0 ⊖ a1 ⊕ halfPi) r ⌝ }
 {
     line_delta(a0, a1)
 }

@@ -50,7 +50,7 @@ pub record Filled (f : Feed) (limit : ℕ) (l m : List ℕ) (r : Feed) : Type 0 
   pub front : Front (keptOf f limit) (f .from) l m
 
 -- where a found line ends
-abbrev pub Within : Feed → Found → Type 0
-Within f (Line e next) = (f .from ≤ e) × (e ≤ next) × (next ≤ f .total)
-Within f More = f .from ≤ f .total
-Within f Done = f .from ≤ f .total
+abbrev pub FoundWithin : Feed → Found → Type 0
+FoundWithin f (Line e next) = (f .from ≤ e) × (e ≤ next) × (next ≤ f .total)
+FoundWithin f More = f .from ≤ f .total
+FoundWithin f Done = f .from ≤ f .total

@@ -23,8 +23,8 @@ input = 81920
 abbrev pub output : ℕ
 output = 65536
 
-abbrev pub Kept : State → Type 0
-Kept s = (s .feed .from ≤ s .feed .total) × (s .feed .total ≤ input) × (s .put ≤ output)
+abbrev pub StateKept : State → Type 0
+StateKept s = (s .feed .from ≤ s .feed .total) × (s .feed .total ≤ input) × (s .put ≤ output)
 
 abbrev pub Lies : State → ℕ → ℕ → Type 0
 Lies s e from = (s .feed .from ≤ e) × (e ≤ from) × (from ≤ s .feed .total)

@@ -7,7 +7,7 @@ use libc::STDOUT_FILENO;
 ghost use mathlib.Core.Path.{_≡_};
 ghost use Prim.Native.Nat.{_+_, _-_, _≤_, _<_};
 ghost use lib.ListN.{length};
-ghost use Rattle.lines.specs.Lines.{Filled, Front, begun, endFrom, foundOf, isGone, keptOf, passed, Within};
+ghost use Rattle.lines.specs.Lines.{Filled, Front, begun, endFrom, foundOf, isGone, keptOf, passed, FoundWithin};
 ghost use Rattle.lines.specs.Turns as T;
 
 // The sizes of a program's buffers, for its input and its text.
@@ -58,7 +58,7 @@ pub fn line_end(s: &[u8], at: usize, total: usize) -> usize
 // The next line of the buffer.
 pub fn find(buf: &[u8], f: Feed) -> Found
     requires { ⌜ (f .from ≤ f .total) × (f .total ≤ length (now buf)) ⌝ }
-    ensures { λ r. ⌜ (r ≡ foundOf (now (buf .entry)) f) × Within f r ⌝ }
+    ensures { λ r. ⌜ (r ≡ foundOf (now (buf .entry)) f) × FoundWithin f r ⌝ }
 {
     let from = f.from;
     let total = f.total;
@@ -177,7 +177,7 @@ pub struct State {
 }
 
 pub fn begin() -> State
-    ensures { λ r. ⌜ T.Kept r × (r ≡ T.opening) ⌝ }
+    ensures { λ r. ⌜ T.StateKept r × (r ≡ T.opening) ⌝ }
 {
     let feed = start();
     State {
@@ -189,8 +189,8 @@ pub fn begin() -> State
 
 // A line has been answered: the text stands up to `put`, and the next line starts at `from`.
 pub fn answered(s: State, from: usize, put: usize) -> State
-    requires { ⌜ T.Kept s × (from ≤ s .feed .total) × (put ≤ T.output) ⌝ }
-    ensures { λ r. ⌜ T.Kept r × (r ≡ T.answeredOf s from put) ⌝ }
+    requires { ⌜ T.StateKept s × (from ≤ s .feed .total) × (put ≤ T.output) ⌝ }
+    ensures { λ r. ⌜ T.StateKept r × (r ≡ T.answeredOf s from put) ⌝ }
 {
     let f = s.feed;
     let feed = past(f, from);
@@ -204,8 +204,8 @@ pub fn answered(s: State, from: usize, put: usize) -> State
 // More input is wanted. What stands in the text is written out before the read, so that whoever waits
 // for an answer has it.
 pub fn read_on(buf: &mut [u8], text: &[u8], s: State, limit: usize) -> State
-    requires { ⌜ T.Kept s × (limit < T.input) × (length (now buf) ≡ T.input) × (length (now text) ≡ T.output) ⌝ }
-    ensures { λ r. ⌜ T.Kept r × T.Read s limit (now (buf .entry)) (now (buf .exit)) r ⌝ }
+    requires { ⌜ T.StateKept s × (limit < T.input) × (length (now buf) ≡ T.input) × (length (now text) ≡ T.output) ⌝ }
+    ensures { λ r. ⌜ T.StateKept r × T.Read s limit (now (buf .entry)) (now (buf .exit)) r ⌝ }
 {
     let f = s.feed;
     flush(text, s.put);
@@ -219,8 +219,8 @@ pub fn read_on(buf: &mut [u8], text: &[u8], s: State, limit: usize) -> State
 
 // The input has ended, and what stands in the text is written out.
 pub fn finish(text: &[u8], s: State) -> State
-    requires { ⌜ T.Kept s × (length (now text) ≡ T.output) ⌝ }
-    ensures { λ r. ⌜ T.Kept r × (r ≡ T.finished s) ⌝ }
+    requires { ⌜ T.StateKept s × (length (now text) ≡ T.output) ⌝ }
+    ensures { λ r. ⌜ T.StateKept r × (r ≡ T.finished s) ⌝ }
 {
     let feed = s.feed;
     flush(text, s.put);

@@ -14,7 +14,7 @@ use Rattle.floats.specs.Rows.{Row}
 use Rattle.floats.specs.Library.{toRadians}
 use Rattle.loops.specs.TabLaws.{tab-length, part-same}
 use Rattle.solver.specs.Solver.{sines, cosines, updates, whole, degenerate, degenerateFit, fitWithSeed}
-use Rattle.solver.specs.Buffers.{Prepared, Room}
+use Rattle.solver.specs.Buffers.{Prepared, PassRoom}
 use Rattle.solver.specs.SolverLaws.{prepared-length, whole-prepared}
 use Rattle.solver.specs.declared.Params.{Params}
 use Rattle.solver.specs.declared.Started.{Started}
@@ -55,7 +55,7 @@ pub refused-calm : {P : Type 0} (f : TwoAxisFit) (centeredVar : Float) → f ≡
 refused-calm f centeredVar e t = absurd (false≢true (sym (degenerate-calm centeredVar) ∙ sym (ap R.fitIsSuspicious e) ∙ t))
 
 -- ---- the buffers of a start are those of the solver
-pub ready-room : {samples ringPhi sphi cphi js : Row} → Ready samples ringPhi sphi cphi js → Room samples sphi cphi js
+pub ready-room : {samples ringPhi sphi cphi js : Row} → Ready samples ringPhi sphi cphi js → PassRoom samples sphi cphi js
 ready-room {samples} {ringPhi} {sphi} {cphi} r =
     let l = prepared-length ringPhi sphi cphi (r .sines) in
     let few = r .few in

@@ -14,7 +14,7 @@ use Rattle.floats.specs.Library.{toRadians}
 use Rattle.loops.specs.IterLaws.{iter-keeps, range-keeps}
 use Rattle.geometry.specs.Geometry.{validPair}
 use Rattle.solver.specs.Solver.{sines, cosines}
-use Rattle.solver.specs.SoundLaws.{Held, Sound, start-sound, start-most}
+use Rattle.solver.specs.SoundLaws.{ParamsHeld, Sound, start-sound, start-most}
 use Rattle.solver.specs.declared.Params.{Params}
 use Rattle.seed.specs.Seed.{robustGridStepDeg, flat, kept, scored, scoreSeedPair, pairSums, insertSeedCandidate, secondHarmonic, harmonic}
 use Rattle.seed.specs.declared.Sums.{Sums}
@@ -29,9 +29,9 @@ use Rattle.robust.specs.Robust as R
 -- ---- a seed that f32 holds, or none
 abbrev SeedHeld : Seed → Type 0
 SeedHeld Nothing = 0 ≤ 0
-SeedHeld (Found s) = Held (R.seeded s)
+SeedHeld (Found s) = ParamsHeld (R.seeded s)
 
-kept-held : (s : SeedCandidate) → Held (R.seeded s) → SeedHeld (kept s)
+kept-held : (s : SeedCandidate) → ParamsHeld (R.seeded s) → SeedHeld (kept s)
 unfolding kept
 kept-held s h = go (finite (s .rms) && (finite (s .amp) && finite (s .mu)))
   where
@@ -51,7 +51,7 @@ scored-held n css mean s a b =
     go true c h = omega arith
     go false c h = h
 
-insert-held : (top : Seed) (c : SeedCandidate) → SeedHeld top → Held (R.seeded c) → SeedHeld (insertSeedCandidate top c)
+insert-held : (top : Seed) (c : SeedCandidate) → SeedHeld top → ParamsHeld (R.seeded c) → SeedHeld (insertSeedCandidate top c)
 unfolding insertSeedCandidate
 insert-held Nothing c h g = g
 insert-held (Found s) c h g = go (lt (c .rms) (s .rms))
@@ -112,7 +112,7 @@ module _ (P : R.Start → Type 0) where
     abbrev primary : R.Start
     primary = R.start n samples ringPhi (R.firstSeed (secondHarmonic n samples ringPhi mean) mean) centeredVar
 
-    module _ (all : (seed : Params) → Held seed → P (R.start n samples ringPhi seed centeredVar)) where
+    module _ (all : (seed : Params) → ParamsHeld seed → P (R.start n samples ringPhi seed centeredVar)) where
       primary-each : P primary
       unfolding secondHarmonic harmonic
       primary-each =
@@ -174,7 +174,7 @@ pub record SoundRing (r : RingFit) : Type 0 where
 
 -- for every number of samples and all values, non-numbers included
 module _ (n : ℕ) (samples ringPhi : Row) where
-  few : (seed : Params) → Held seed → Few (R.start n samples ringPhi seed (R.varianceOf n samples (R.meanOf n samples)))
+  few : (seed : Params) → ParamsHeld seed → Few (R.start n samples ringPhi seed (R.varianceOf n samples (R.meanOf n samples)))
   unfolding R.start
   few seed h = start-most n samples ringPhi seed _
 

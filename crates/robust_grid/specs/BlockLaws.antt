@@ -13,7 +13,7 @@ use Rattle.seed.specs.Seed.{scored}
 use Rattle.seed.specs.declared.Sums.{Sums}
 use Rattle.seed.specs.declared.Seed.{Seed}
 use Rattle.robust_lanes.specs.declared.Lanes.{Lanes}
-use Rattle.robust_lanes.specs.Lanes.{inserted, sumsAt, laneSums, meanSquare, meanSquares, Squared, Bounded}
+use Rattle.robust_lanes.specs.Lanes.{inserted, sumsAt, laneSums, meanSquare, meanSquares, Squared, BestBound}
 use Rattle.robust_lanes.specs.LaneLaws.{four-at}
 use Rattle.robust_lanes.specs.SkipLaws.{scored-squared, skipped}
 use Rattle.robust_grid.specs.Grid.{gridAngle}
@@ -72,7 +72,7 @@ module _ (centered h : Row) (centeredSs mean n : Float) (a b : ℕ) (s : Lanes) 
       let squared = scored-squared (count (length centered)) centeredSs mean sums (gridAngle a) (gridAngle (b + k)) in
       subst (λ (x : Float). Squared x score) (sym square-is) squared
 
-  pub lane-skipped : (top : Seed) (bound : Float) → Bounded top bound → le bound (at xs k) ≡ true → b + k ≤ lastOf a
+  pub lane-skipped : (top : Seed) (bound : Float) → BestBound top bound → le bound (at xs k) ≡ true → b + k ≤ lastOf a
       → top ≡ stepAt (scoreAt (length centered) h centered centeredSs mean) a (b + k) top
   lane-skipped top bound q t m =
       sym (step-some (scoreAt (length centered) h centered centeredSs mean) a (b + k) m top ∙ skipped top score bound (at xs k) q lane-squared t)

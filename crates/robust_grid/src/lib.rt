@@ -83,9 +83,9 @@ fn block(
     a: usize,
     b: usize,
 ) -> Best
-    requires { ⌜ L.Kept best0 × L.Room (now centered) (now h) × (n ≡ count (length (now centered))) × (a < 21) × (b < 23) ⌝ }
+    requires { ⌜ L.BestKept best0 × L.GridRoom (now centered) (now h) × (n ≡ count (length (now centered))) × (a < 21) × (b < 23) ⌝ }
     ensures { λ r. ⌜ (r .top ≡ P.blockOf (length (now (centered .entry))) (now (h .entry)) (now (centered .entry)) «centered_ss» mean
-        a b (best0 .top)) × L.Kept r ⌝ }
+        a b (best0 .top)) × L.BestKept r ⌝ }
 {
     let mut best = best0;
     let s = robust_lanes::lane_sums(h, centered, a, b);
@@ -114,7 +114,7 @@ fn block(
 // The seed of least residual over all allowed pairs, the earlier on a tie. Of the 253 pairs the 230 that are 2 to 21 steps
 // apart are allowed.
 pub fn best_seed(h: &[f32], centered: &[f32], centered_ss: f32, mean: f32) -> Seed
-    requires { ⌜ L.Room (now centered) (now h) ⌝ }
+    requires { ⌜ L.GridRoom (now centered) (now h) ⌝ }
     ensures { λ r. ⌜ r ≡ G.bestOf (P.scoreAt (length (now (centered .entry))) (now (h .entry)) (now (centered .entry)) «centered_ss» mean) ⌝ }
 {
     let n = floats::count_f32(centered.len());

@@ -16,7 +16,7 @@ use Rattle.robust_lanes.specs.declared.Best.{Best}
 use Rattle.robust_lanes.specs.declared.Lanes.{Lanes}
 
 -- 24 places for each sample, and two that the last lanes of the last sample look at
-pub record Room (centered h : Row) : Type 0 where
+pub record GridRoom (centered h : Row) : Type 0 where
   pub few : length centered ≤ 24
   pub places : length h ≡ 24 * length centered + 2
 
@@ -70,9 +70,9 @@ Squared x Nothing = 0 ≤ 0
 Squared x (Found s) = s .rms ≡ sqrt binary32 x
 
 -- with a seed its bound is kept, without one the bound is NaN, and skips nothing
-abbrev pub Bounded : Seed → Float → Type 0
-Bounded Nothing x = x ≡ nan
-Bounded (Found s) x = s .rms ≡ sqrt binary32 x
+abbrev pub BestBound : Seed → Float → Type 0
+BestBound Nothing x = x ≡ nan
+BestBound (Found s) x = s .rms ≡ sqrt binary32 x
 
-pub record Kept (b : Best) : Type 0 where
-  pub is : Bounded (b .top) (b .bound)
+pub record BestKept (b : Best) : Type 0 where
+  pub is : BestBound (b .top) (b .bound)

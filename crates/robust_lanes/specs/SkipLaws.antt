@@ -13,7 +13,7 @@ use Rattle.seed.specs.declared.Sums.{Sums}
 use Rattle.seed.specs.declared.Seed.{Seed}
 use Rattle.seed.specs.declared.Seed.the-variants.{Found, Nothing}
 use Rattle.seed.specs.declared.SeedCandidate.{SeedCandidate}
-use Rattle.robust_lanes.specs.Lanes.{inserted, meanSquare, Squared, Bounded, Kept}
+use Rattle.robust_lanes.specs.Lanes.{inserted, meanSquare, Squared, BestBound, BestKept}
 
 -- a seed's rms is the root of its pair's mean square
 kept-squared : (c : SeedCandidate) (x : Float) → c .rms ≡ sqrt binary32 x → Squared x (kept c)
@@ -39,7 +39,7 @@ chosen : (s d : SeedCandidate) (t : Bool) → lt (s .rms) (d .rms) ≡ t → ins
 unfolding inserted insertSeedCandidate
 chosen s d t h = ap (λ (b : Bool). cond b (Found s) (Found d)) h
 
-pub skipped : (top c : Seed) (bound x : Float) → Bounded top bound → Squared x c → le bound x ≡ true → inserted top c ≡ top
+pub skipped : (top c : Seed) (bound x : Float) → BestBound top bound → Squared x c → le bound x ≡ true → inserted top c ≡ top
 unfolding inserted insertSeedCandidate
 skipped Nothing c bound x k q h = absurd (false≢true (unfold le lt lib.Ieee.eq in subst (λ (b : Float). le b x ≡ true) k h))
 skipped (Found d) Nothing bound x k q h = refl
@@ -62,5 +62,5 @@ module _ (top c : Seed) where
     pub tried-not : (d : SeedCandidate) → top ≡ Found d → lt (s .rms) (d .rms) ≡ false → top ≡ inserted top c
     tried-not d f h = rw (e, f) (sym (chosen s d false h))
 
-    pub taken-kept : (x : Float) → Squared x c → Kept (record { top = c; bound = x })
-    taken-kept x q = record { is = subst (λ (z : Seed). Bounded z x) (sym e) (subst (Squared x) e q) }
+    pub taken-kept : (x : Float) → Squared x c → BestKept (record { top = c; bound = x })
+    taken-kept x q = record { is = subst (λ (z : Seed). BestBound z x) (sym e) (subst (Squared x) e q) }

@@ -50,7 +50,7 @@ fn added(s: Lanes, v: f32, x: f32, y: [f32; 4]) -> Lanes
 // Each lane adds its samples in their order. From b = 20 on the last lanes run past the grid's angles into the next
 // sample's places; nothing is asked of them.
 pub fn lane_sums(h: &[f32], centered: &[f32], a: usize, b: usize) -> Lanes
-    requires { ⌜ L.Room (now centered) (now h) × (a < 23) × (b < 23) ⌝ }
+    requires { ⌜ L.GridRoom (now centered) (now h) × (a < 23) × (b < 23) ⌝ }
     ensures { λ r. ⌜ r ≡ L.laneSums (length (now (centered .entry))) (now (centered .entry)) (now (h .entry)) a b ⌝ }
 {
     let n = centered.len();
@@ -109,8 +109,8 @@ pub struct Best {
 
 // A candidate whose mean square is x.
 pub fn tried(best: Best, x: f32, c: Seed) -> Best
-    requires { ⌜ L.Kept best × L.Squared x c ⌝ }
-    ensures { λ r. ⌜ (r .top ≡ L.inserted (best .top) c) × L.Kept r ⌝ }
+    requires { ⌜ L.BestKept best × L.Squared x c ⌝ }
+    ensures { λ r. ⌜ (r .top ≡ L.inserted (best .top) c) × L.BestKept r ⌝ }
 {
     let next = Best { top: c, bound: x };
     let Seed::Found(s) = c else {

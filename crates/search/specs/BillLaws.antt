@@ -41,7 +41,7 @@ pub record Placed (top : Top) (c : ℕ) : Type 0 where
   pub places : filled (top .first) + filled (top .second) ≡ min topFits c
   pub order : filled (top .second) ≤ filled (top .first)
 
-pub record Counted (l : Leaders) (t c : ℕ) : Type 0 where
+pub record LeadersCounted (l : Leaders) (t c : ℕ) : Type 0 where
   pub trials : l .trials ≡ t
   pub top : Placed (l .top) c
 
@@ -66,7 +66,7 @@ insert-placed (Found v) b f c e o = go (fitIsBetter f v) (behind-filled b f)
     go true h = record { places = omega arith; order = omega arith }
     go false h = record { places = omega arith; order = omega arith }
 
-entered-counted : (l : Leaders) (x : Scored) (t c : ℕ) → Counted l t c → Counted (entered l x) (t + 1) (c + filled x)
+entered-counted : (l : Leaders) (x : Scored) (t c : ℕ) → LeadersCounted l t c → LeadersCounted (entered l x) (t + 1) (c + filled x)
 unfolding entered insertTop
 entered-counted l Nothing t c h =
     let z : c + 0 ≡ c = omega arith in
@@ -76,8 +76,8 @@ entered-counted l (Found f) t c h =
     record { trials = ap (λ n. n + 1) (h .trials); top = p }
 
 turns-counted :
-    (g : ℕ → Scored) (l : Leaders) (t c n : ℕ) → Counted l t c →
-    Counted (iter (λ r l. entered l (g r)) l n) (t + n) (iter (λ r c. c + filled (g r)) c n)
+    (g : ℕ → Scored) (l : Leaders) (t c n : ℕ) → LeadersCounted l t c →
+    LeadersCounted (iter (λ r l. entered l (g r)) l n) (t + n) (iter (λ r c. c + filled (g r)) c n)
 unfolding iter
 turns-counted g l t c zero h = let z : t + 0 ≡ t = omega arith in rw z h
 turns-counted g l t c (suc n) h =
@@ -172,7 +172,7 @@ module _ (D : DiskData) (base0 base1 : Float) where
       go false true = none-led D candidates
       go false false = refl
 
-  leaders-counted : Counted (leadersOf D base0 base1) (4 * pairsKept D base0 base1) (answeredTrials D base0 base1)
+  leaders-counted : LeadersCounted (leadersOf D base0 base1) (4 * pairsKept D base0 base1) (answeredTrials D base0 base1)
   unfolding leadersOf answeredTrials answeredAt trial triedAll triedAt pairsKept iter
   leaders-counted = rw z (at-width 3 _ _ _ (at-width 2 _ _ _ (at-width 1 _ _ _ (at-width 0 noLeaders 0 0 start))))
     where
@@ -182,12 +182,12 @@ module _ (D : DiskData) (base0 base1 : Float) where
       z : 4 * k ≡ 0 + k + k + k + k
       z = omega arith
 
-      start : Counted noLeaders 0 0
+      start : LeadersCounted noLeaders 0 0
       start = record { trials = refl; top = record { places = refl; order = omega arith } }
 
       at-width :
-          (w : ℕ) (l : Leaders) (t c : ℕ) → Counted l t c →
-          Counted (triedAt D (candidatesOf D base0 base1) (pairsTried D base0 base1) (at widthsPx w) l) (t + k)
+          (w : ℕ) (l : Leaders) (t c : ℕ) → LeadersCounted l t c →
+          LeadersCounted (triedAt D (candidatesOf D base0 base1) (pairsTried D base0 base1) (at widthsPx w) l) (t + k)
           (answeredAt D base0 base1 (at widthsPx w) c)
       at-width w l t c h = turns-counted (trial D base0 base1 (at widthsPx w)) l t c k h
 

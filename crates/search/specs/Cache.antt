@@ -11,7 +11,7 @@ use Rattle.candidates.specs.Candidates.{maxPaired}
 use Rattle.candidates.specs.declared.CandidateSet.{CandidateSet}
 use Rattle.candidates.specs.declared.PairScore.{PairScore}
 use Rattle.search_ranking.specs.Ranking.{maxTopPairs}
-use Rattle.search_ranking.specs.WithinLaws.{Within}
+use Rattle.search_ranking.specs.WithinLaws.{PairsWithin}
 use Rattle.search_ranking.specs.declared.Ranked.{Ranked}
 use Rattle.score.specs.Score.{axisRow, scorePairCached}
 use Rattle.score.specs.declared.Scored.{Scored}
@@ -42,7 +42,7 @@ pub record Keeps (old new : List Bool) (c : ℕ) : Type 0 where
 pub record Listed (r : Ranked) : Type 0 where
   pub most : r .n ≤ maxTopPairs
   pub full : length (take (r .n) (r .pairs)) ≡ r .n
-  pub within : Within maxPaired (take (r .n) (r .pairs))
+  pub within : PairsWithin maxPaired (take (r .n) (r .pairs))
 
 -- a pair scored from what the cache holds
 unfoldable pub cachedScore : DiskData → CandidateSet → Float → PairScore → Row → Scored

@@ -19,7 +19,7 @@ use Rattle.candidates.specs.declared.PairScore.{PairScore}
 use Rattle.candidates.specs.declared.Pool.{Pool}
 use Rattle.search_ranking.specs.Ranking.{rank}
 use Rattle.search_ranking.specs.SinkLaws.{ranked-length, rank-count, rank-most, rank-pairs}
-use Rattle.search_ranking.specs.WithinLaws.{Within, pool-within, ranked-within}
+use Rattle.search_ranking.specs.WithinLaws.{PairsWithin, pool-within, ranked-within}
 use Rattle.search_ranking.specs.declared.Ranked.{Ranked}
 use Rattle.score.specs.Score.{axisRow}
 use Rattle.search.specs.Search.{pairScored, poolOf}
@@ -87,7 +87,7 @@ unfolding cachedScore pairScored
 cached-score energy xs ys vals angles weights candidates width p h a b = rw (h .row (p .i) a, h .row (p .j) b)
 
 -- ---- the ranking of a pool of the candidates' pairs is listed so
-within-more : (a b : ℕ) (l : List PairScore) → a ≤ b → Within a l → Within b l
+within-more : (a b : ℕ) (l : List PairScore) → a ≤ b → PairsWithin a l → PairsWithin b l
 within-more a b l h w = record { first = λ r. let q = w .first r in omega arith; second = λ r. let q = w .second r in omega arith }
 
 pub listed :
@@ -95,7 +95,7 @@ pub listed :
     2 ≤ candidates .n → candidates .n ≤ maxPaired → pool ≡ poolOf D candidates base0 base1 → r ≡ rank pool → Listed r
 unfolding poolOf
 listed D candidates base0 base1 pool r lo hi e h =
-    let w : Within (candidates .n) (pool .pairs) = rw e (pool-within candidates _ _ _ _ (omega arith)) in
+    let w : PairsWithin (candidates .n) (pool .pairs) = rw e (pool-within candidates _ _ _ _ (omega arith)) in
     let t = rank-pairs pool r h in
     record {
       most = rank-most pool r h;

@@ -10,7 +10,7 @@ use search_refine::Refined;
 ghost use mathlib.Core.Path.{_≡_};
 ghost use Prim.Native.Nat.{_+_, _*_, _≤_, _<_};
 ghost use lib.ListN.{length, take};
-ghost use Rattle.data.specs.Data.{diskOf, OfPixels, OfValues, OfGradients, Sized, maxTanhPixels};
+ghost use Rattle.data.specs.Data.{diskOf, OfPixels, OfValues, OfGradients, DiskSized, maxTanhPixels};
 ghost use Rattle.candidates.specs.Candidates.{maxPaired, maxPairs};
 ghost use Rattle.search.specs.Search as S;
 ghost use Rattle.search.specs.Cache as K;
@@ -291,7 +291,7 @@ fn lead(
     grad_angles: &[f32],
     grad_weights: &[f32],
 ) -> Refined
-    requires { ⌜ (s .trials < 1000) × Sized (now xs) (now ys) (now «vals_centered») (now «grad_angles») (now «grad_weights») ⌝ }
+    requires { ⌜ (s .trials < 1000) × DiskSized (now xs) (now ys) (now «vals_centered») (now «grad_angles») (now «grad_weights») ⌝ }
     ensures { λ r. ⌜ (r .trials ≡ s .trials + 24) × (r ≡ S.lead
         (diskOf «val_energy» (now (xs .entry)) (now (ys .entry)) (now («vals_centered» .entry)) (now («grad_angles» .entry)) (now («grad_weights» .entry)))
         seed s) ⌝ }
@@ -326,7 +326,7 @@ fn led(
     grad_angles: &[f32],
     grad_weights: &[f32],
 ) -> DiskFit
-    requires { ⌜ (leaders .trials ≤ 96) × Sized (now xs) (now ys) (now «vals_centered») (now «grad_angles») (now «grad_weights») ⌝ }
+    requires { ⌜ (leaders .trials ≤ 96) × DiskSized (now xs) (now ys) (now «vals_centered») (now «grad_angles») (now «grad_weights») ⌝ }
     ensures { λ r. ⌜ r ≡ S.led
         (diskOf «val_energy» (now (xs .entry)) (now (ys .entry)) (now («vals_centered» .entry)) (now («grad_angles» .entry)) (now («grad_weights» .entry)))
         leaders ⌝ }
@@ -411,7 +411,7 @@ fn search_set(
     candidates: CandidateSet,
 ) -> DiskFit
     requires { ⌜ (2 ≤ candidates .n) × (candidates .n ≤ maxPaired)
-        × Sized (now xs) (now ys) (now «vals_centered») (now «grad_angles») (now «grad_weights») ⌝ }
+        × DiskSized (now xs) (now ys) (now «vals_centered») (now «grad_angles») (now «grad_weights») ⌝ }
     ensures { λ r. ⌜ r ≡ S.searched
         (diskOf «val_energy» (now (xs .entry)) (now (ys .entry)) (now («vals_centered» .entry)) (now («grad_angles» .entry)) (now («grad_weights» .entry)))
         candidates base0 base1 ⌝ }
@@ -444,7 +444,7 @@ pub fn best_disk_fit(
     grad_angles: &[f32],
     grad_weights: &[f32],
 ) -> DiskFit
-    requires { ⌜ Sized (now xs) (now ys) (now «vals_centered») (now «grad_angles») (now «grad_weights») ⌝ }
+    requires { ⌜ DiskSized (now xs) (now ys) (now «vals_centered») (now «grad_angles») (now «grad_weights») ⌝ }
     ensures { λ r. ⌜ r ≡ S.bestDiskFit
         (diskOf «val_energy» (now (xs .entry)) (now (ys .entry)) (now («vals_centered» .entry)) (now («grad_angles» .entry)) (now («grad_weights» .entry)))
         base0 base1 ⌝ }

@@ -22,7 +22,7 @@ use Rattle.score.specs.ScoreLaws.{scored-width}
 use Rattle.score.specs.declared.Fit.{Fit}
 use Rattle.score.specs.declared.Scored.{Scored}
 use Rattle.score.specs.declared.Scored.the-variants.{Found, Nothing}
-use Rattle.search_rows.specs.Rows.{Stands, Kept, heldScore}
+use Rattle.search_rows.specs.Rows.{Stands, SlotsKept, heldScore}
 use Rattle.search_rows.specs.declared.Slots.{Slots}
 use Rattle.search_refine.specs.declared.Offset.{Offset}
 use Rattle.search_refine.specs.declared.Refined.{Refined}
@@ -94,9 +94,9 @@ tried-width D total o best = better-keeps (λ f. f .width ≡ best .width) _ bes
 -- and what is kept for the best's width stays so
 pub kept-on :
     {xs ys angles weights rows : Row} {slots : Slots} (D : DiskData) (total : Float) (o : Offset) (best next : Fit) →
-    next ≡ tried D total o best → Kept xs ys angles weights (best .width) slots rows → Kept xs ys angles weights (next .width) slots rows
+    next ≡ tried D total o best → SlotsKept xs ys angles weights (best .width) slots rows → SlotsKept xs ys angles weights (next .width) slots rows
 kept-on {xs} {ys} {angles} {weights} {rows} {slots} D total o best next e h =
-    subst (λ (w : Float). Kept xs ys angles weights w slots rows) (sym (ap (λ (f : Fit). f .width) e ∙ tried-width D total o best)) h
+    subst (λ (w : Float). SlotsKept xs ys angles weights w slots rows) (sym (ap (λ (f : Fit). f .width) e ∙ tried-width D total o best)) h
 
 -- ---- the whole refinement
 -- 24 turns of the code, with the total of all weights

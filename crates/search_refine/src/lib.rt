@@ -7,8 +7,8 @@ use search_rows::Slots;
 ghost use mathlib.Core.Path.{_≡_};
 ghost use Prim.Native.Nat.{_+_, _<_};
 ghost use lib.ListN.{length, getD};
-ghost use Rattle.data.specs.Data.{diskOf, Sized};
-ghost use Rattle.search_rows.specs.Rows.{Kept, rowsRoom};
+ghost use Rattle.data.specs.Data.{diskOf, DiskSized};
+ghost use Rattle.search_rows.specs.Rows.{SlotsKept, rowsRoom};
 ghost use Rattle.search_refine.specs.Refine as R;
 ghost use Rattle.search_refine.specs.RefineLaws as L;
 
@@ -85,10 +85,10 @@ fn try_neighbour(
     rows: &mut [f32],
 ) -> Turn
     requires { ⌜ (t < 24) × (turn .refined .trials < 1000)
-        × Sized (now xs) (now ys) (now «vals_centered») (now «grad_angles») (now «grad_weights»)
-        × Kept (now xs) (now ys) (now «grad_angles») (now «grad_weights») (turn .refined .best .width) (turn .slots) (now rows) ⌝ }
+        × DiskSized (now xs) (now ys) (now «vals_centered») (now «grad_angles») (now «grad_weights»)
+        × SlotsKept (now xs) (now ys) (now «grad_angles») (now «grad_weights») (turn .refined .best .width) (turn .slots) (now rows) ⌝ }
     ensures { λ r. ⌜ (r .refined .trials ≡ turn .refined .trials + 1)
-        × Kept (now (xs .entry)) (now (ys .entry)) (now («grad_angles» .entry)) (now («grad_weights» .entry))
+        × SlotsKept (now (xs .entry)) (now (ys .entry)) (now («grad_angles» .entry)) (now («grad_weights» .entry))
         (r .refined .best .width) (r .slots) (now (rows .exit))
         × (r .slots .total ≡ turn .slots .total)
         × (r .refined .best ≡ R.tried
@@ -129,7 +129,7 @@ pub fn refine_fit_cached(
     grad_weights: &[f32],
     rows: &mut [f32],
 ) -> Refined
-    requires { ⌜ Sized (now xs) (now ys) (now «vals_centered») (now «grad_angles») (now «grad_weights») × (length (now rows) ≡ rowsRoom) ⌝ }
+    requires { ⌜ DiskSized (now xs) (now ys) (now «vals_centered») (now «grad_angles») (now «grad_weights») × (length (now rows) ≡ rowsRoom) ⌝ }
     ensures { λ r. ⌜ r ≡ R.refineFitCached
         (diskOf «val_energy» (now (xs .entry)) (now (ys .entry)) (now («vals_centered» .entry)) (now («grad_angles» .entry)) (now («grad_weights» .entry)))
         seed ⌝ }

@@ -44,7 +44,7 @@ pub record Outlined (xs ys gradAngles gradWeights : Row) : Type 0 where
   pub w : length gradWeights ≡ length xs
 
 -- row q is r now, and the other rows, but for the scratch, are as they were
-pub record Filled (n q : ℕ) (r rows rows′ : Row) : Type 0 where
+pub record RowFilled (n q : ℕ) (r rows rows′ : Row) : Type 0 where
   pub is : rowsOf n rows′ 6 ≡ set (rowsOf n rows 6) q r
   pub room : length rows′ ≡ length rows
 
@@ -84,7 +84,7 @@ pub record Stands (xs ys angles weights : Row) (theta width : Float) (slots : Sl
   pub edge : at (slots .edges) q ≡ refinedSum (length xs) angles weights theta
 
 -- where a key is above 0, that angle stands in its slot
-pub record Kept (xs ys angles weights : Row) (width : Float) (slots : Slots) (rows : Row) : Type 0 where
+pub record SlotsKept (xs ys angles weights : Row) (width : Float) (slots : Slots) (rows : Row) : Type 0 where
   pub keys : length (slots .keys) ≡ 6
   pub edges : length (slots .edges) ≡ 6
   pub room : length rows ≡ rowsRoom
@@ -92,12 +92,12 @@ pub record Kept (xs ys angles weights : Row) (width : Float) (slots : Slots) (ro
       (q : ℕ) → q < 6 → lt nought (at (slots .keys) q) ≡ true → Stands xs ys angles weights (at (slots .keys) q) width slots rows q
 
 -- the slots and the rows after theta was asked for in slot q; so it stands there, and whatever stood in another slot still does
-pub record Held
+pub record SlotHeld
     (xs ys angles weights : Row) (theta width : Float) (slots : Slots) (rows : Row) (slots′ : Slots) (rows′ : Row) (q : ℕ) : Type 0 where
   pub slots-are : slots′ ≡ heldSlots xs angles weights slots theta q
   pub rows-are : rowsOf (length xs) rows′ 6 ≡ heldRows xs ys width slots rows theta q
   pub total : slots′ .total ≡ slots .total
-  pub kept : Kept xs ys angles weights width slots′ rows′
+  pub kept : SlotsKept xs ys angles weights width slots′ rows′
   pub here : Stands xs ys angles weights theta width slots′ rows′ q
   pub still :
       (j : ℕ) (t : Float) → j < 6 → (j ≡ q → ⊥) → Stands xs ys angles weights t width slots rows j →

@@ -25,8 +25,8 @@ use Rattle.data.specs.RowLaws.{lent, Wrote, wrote}
 use Rattle.score_edges.specs.Edges.{refinedSum}
 use Rattle.score.specs.Score.{axisRow}
 use Rattle.search_rows.specs.declared.Slots.{Slots}
-use Rattle.search_rows.specs.Rows.{AxisRows, buildAxisRows, rowsOf, rowsRoom, Filled, noSlots, isSame, heldSlots, heldRows}
-use Rattle.search_rows.specs.Rows.{Stands, Kept, Held}
+use Rattle.search_rows.specs.Rows.{AxisRows, buildAxisRows, rowsOf, rowsRoom, RowFilled, noSlots, isSame, heldSlots, heldRows}
+use Rattle.search_rows.specs.Rows.{Stands, SlotsKept, SlotHeld}
 
 -- ---- above 0 equal numbers are one value
 pub same-key : (x y : Float) → T (fits binary32 x) → T (fits binary32 y) → eq x y ≡ true → lt nought y ≡ true → x ≡ y
@@ -76,7 +76,7 @@ six n rows = tab-length (rowOf n rows) 6
 -- a row is made: row q comes back as r, and the scratch as u
 pub filled :
     (n q : ℕ) (r u rows : Row) → n ≤ maxTanhPixels → q < 6 → length rows ≡ rowsRoom → length r ≡ n → length u ≡ n →
-    Filled n q r rows (lent n 6 u (lent n q r rows))
+    RowFilled n q r rows (lent n 6 u (lent n q r rows))
 filled n q r u rows m h l er eu =
     record {
       is = ext-getD [] (rowsOf n after 6) (set (rowsOf n rows 6) q r) (six n after ∙ sym (length-set (rowsOf n rows 6) q r ∙ six n rows))
@@ -105,7 +105,7 @@ filled n q r u rows m h l er eu =
           ∙ sym (getD-set-other (rowsOf n rows 6) q j r [] o)
     ]
 
-module _ {n q : ℕ} {r rows rows′ : Row} (f : Filled n q r rows rows′) where
+module _ {n q : ℕ} {r rows rows′ : Row} (f : RowFilled n q r rows rows′) where
   filled-here : q < 6 → rowOf n rows′ q ≡ r
   filled-here h =
       sym (row-at n rows′ q h) ∙ ap (λ (l : List Row). getD l q []) (f .is) ∙ getD-set-same (rowsOf n rows 6) q r [] (omega (arith, six n rows))
@@ -125,7 +125,7 @@ module _ {xs ys : Row} {base width : Float} {offsets : Row} where
 
   pub built-more :
       {rows rows′ : Row} {k : ℕ} → k < 3 → Built xs ys base width offsets rows k →
-      Filled (length xs) k (axisRow (length xs) xs ys (base ⊕ at offsets k) width) rows rows′ → Built xs ys base width offsets rows′ (k + 1)
+      RowFilled (length xs) k (axisRow (length xs) xs ys (base ⊕ at offsets k) width) rows rows′ → Built xs ys base width offsets rows′ (k + 1)
   built-more {rows} {rows′} {k} b h f =
       record {
         room = f .room ∙ h .room;
@@ -146,7 +146,7 @@ module _ {xs ys : Row} {base width : Float} {offsets : Row} where
 -- six keys of 0 mark six empty slots
 pub kept-none :
     {xs ys angles weights : Row} {width : Float} (total : Float) (rows : Row) → length rows ≡ rowsRoom →
-    Kept xs ys angles weights width (noSlots total) rows
+    SlotsKept xs ys angles weights width (noSlots total) rows
 unfolding lt ofBits
 kept-none total rows m = record { keys = refl; edges = refl; room = m; slot = λ q b l. absurd (false≢true (sym (never q) ∙ l)) }
   where
@@ -162,8 +162,8 @@ kept-none total rows m = record { keys = refl; edges = refl; room = m; slot = λ
 module _ {xs ys angles weights : Row} {theta width : Float} {slots : Slots} {rows : Row} where
   -- slot q has theta already
   pub held-here :
-      (q : ℕ) → q < 6 → Kept xs ys angles weights width slots rows → isSame (at (slots .keys) q) theta ≡ true →
-      (at (slots .keys) q ≡ theta) × (lt nought theta ≡ true) → Held xs ys angles weights theta width slots rows slots rows q
+      (q : ℕ) → q < 6 → SlotsKept xs ys angles weights width slots rows → isSame (at (slots .keys) q) theta ≡ true →
+      (at (slots .keys) q ≡ theta) × (lt nought theta ≡ true) → SlotHeld xs ys angles weights theta width slots rows slots rows q
   unfolding heldSlots heldRows
   held-here q b h t e =
       record {
@@ -178,9 +178,9 @@ module _ {xs ys angles weights : Row} {theta width : Float} {slots : Slots} {row
 
   -- slot q was filled
   pub held-filled :
-      {rows′ : Row} (edge : Float) (q : ℕ) → q < 6 → Kept xs ys angles weights width slots rows → isSame (at (slots .keys) q) theta ≡ false →
-      edge ≡ refinedSum (length xs) angles weights theta → Filled (length xs) q (axisRow (length xs) xs ys theta width) rows rows′ →
-      Held xs ys angles weights theta width slots rows
+      {rows′ : Row} (edge : Float) (q : ℕ) → q < 6 → SlotsKept xs ys angles weights width slots rows → isSame (at (slots .keys) q) theta ≡ false →
+      edge ≡ refinedSum (length xs) angles weights theta → RowFilled (length xs) q (axisRow (length xs) xs ys theta width) rows rows′ →
+      SlotHeld xs ys angles weights theta width slots rows
       (record { keys = set (slots .keys) q theta; edges = set (slots .edges) q edge; total = slots .total }) rows′ q
   unfolding heldSlots heldRows
   held-filled {rows′} edge q b h t e f =

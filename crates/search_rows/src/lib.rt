@@ -51,7 +51,7 @@ fn fill_row(
 ) -> f32
     requires { ⌜ (q < 6) × R.Outlined (now xs) (now ys) (now «grad_angles») (now «grad_weights») × (length (now rows) ≡ R.rowsRoom) ⌝ }
     ensures { λ r. ⌜ (r ≡ refinedSum (length (now (xs .entry))) (now («grad_angles» .entry)) (now («grad_weights» .entry)) theta)
-        × R.Filled (length (now (xs .entry))) q (axisRow (length (now (xs .entry))) (now (xs .entry)) (now (ys .entry)) theta width)
+        × R.RowFilled (length (now (xs .entry))) q (axisRow (length (now (xs .entry))) (now (xs .entry)) (now (ys .entry)) theta width)
         (now (rows .entry)) (now (rows .exit)) ⌝ }
 {
     let n = xs.len();
@@ -136,8 +136,8 @@ pub fn hold(
     rows: &mut [f32],
 ) -> Slots
     requires { ⌜ (q < 6) × R.Outlined (now xs) (now ys) (now «grad_angles») (now «grad_weights»)
-        × R.Kept (now xs) (now ys) (now «grad_angles») (now «grad_weights») width slots (now rows) ⌝ }
-    ensures { λ r. ⌜ R.Held (now (xs .entry)) (now (ys .entry)) (now («grad_angles» .entry)) (now («grad_weights» .entry)) theta width
+        × R.SlotsKept (now xs) (now ys) (now «grad_angles») (now «grad_weights») width slots (now rows) ⌝ }
+    ensures { λ r. ⌜ R.SlotHeld (now (xs .entry)) (now (ys .entry)) (now («grad_angles» .entry)) (now («grad_weights» .entry)) theta width
         slots (now (rows .entry)) r (now (rows .exit)) q ⌝ }
 {
     if is_same(slots.keys[q], theta) {

@@ -12,11 +12,11 @@ use Rattle.loops.specs.IterLaws.{iter-same}
 use Rattle.loops.specs.TabLaws.{tab-at, tab-length, tab-same}
 use Rattle.seed.specs.declared.Waves.{Waves}
 use Rattle.seed.specs.Seed.{wavedBy, waves}
-use Rattle.solver.specs.Buffers.{AllNear, Sines}
+use Rattle.solver.specs.Buffers.{RingNear, Sines}
 use Rattle.seed.specs.Buffers.{twice, doubledNear, doubled, wavesFrom}
 
 -- angles that turning leaves need no turning
-pub near-doubled : (n : ℕ) (ringPhi turned : Row) → turned ≡ doubledNear n ringPhi → AllNear (length turned) turned → turned ≡ doubled n ringPhi
+pub near-doubled : (n : ℕ) (ringPhi turned : Row) → turned ≡ doubledNear n ringPhi → RingNear (length turned) turned → turned ≡ doubled n ringPhi
 unfolding doubledNear doubled
 near-doubled n ringPhi turned e h = e ∙ tab-same _ _ n here
   where

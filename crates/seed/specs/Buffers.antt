@@ -11,7 +11,7 @@ use Rattle.seed.specs.declared.Waves.{Waves}
 use Rattle.seed.specs.Seed.{calm}
 
 -- every buffer is as long as the samples, of which there are at most 320
-pub record Room (samples ringPhi turned sphi cphi : Row) : Type 0 where
+pub record HarmonicRoom (samples ringPhi turned sphi cphi : Row) : Type 0 where
   pub few : length samples ≤ 320
   pub phi : length ringPhi ≡ length samples
   pub t : length turned ≡ length samples

@@ -105,7 +105,7 @@ pub fn second_harmonic(
     sphi: &mut [f32],
     cphi: &mut [f32],
 ) -> Harmonic
-    requires { ⌜ B.Room (now samples) (now «ring_phi») (now turned) (now sphi) (now cphi) ⌝ }
+    requires { ⌜ B.HarmonicRoom (now samples) (now «ring_phi») (now turned) (now sphi) (now cphi) ⌝ }
     ensures { λ r. ⌜ r ≡ S.secondHarmonic (length (now (samples .entry))) (now (samples .entry)) (now («ring_phi» .entry)) mean ⌝ }
 {
     double_all(ring_phi, turned);

@@ -1,5 +1,5 @@
 -- A frame's shape (docs/RULES.md, Frame lines): its type, length and characters, in the order of the refusals. Definitions only.
-use mathlib.Core.Bool.{cond, not, _||_}
+use mathlib.Core.Bool.{Bool, cond, not, _||_}
 use mathlib.Core.List.{List}
 use mathlib.Core.Path.{_≡_}
 use Prim.Native.Nat.{ℕ, _+_, _*_, _≤_}
@@ -20,6 +20,10 @@ diskLength n = 30 + 40 * n
 -- 12,830 characters
 abbrev pub limit : ℕ
 limit = diskLength 320
+
+-- how long the answer of a fit is, a disk's and a ring's
+abbrev pub fitLength : Bool → ℕ
+fitLength disk = cond disk 98 60
 
 unfoldable pub ringShape : List ℕ → Shape
 ringShape l = cond (eqb (length l) (ringLength 16)) Ring (Malformed RingLength)
@@ -43,9 +47,9 @@ shapeOf l =
     (cond (ltb (length l) 2) (Malformed Short) (typedShape l)))
 
 -- what a reader of the values relies on
-abbrev pub Sized : ℕ → Shape → Type 0
-Sized size Ring = size ≡ ringLength 16
-Sized size (Disk n) = (n ≤ 320) × (size ≡ diskLength n)
-Sized size (BadCount n) = 0 ≤ size
-Sized size (OtherType kind) = 0 ≤ size
-Sized size (Malformed fault) = 0 ≤ size
+abbrev pub ShapeSized : ℕ → Shape → Type 0
+ShapeSized size Ring = size ≡ ringLength 16
+ShapeSized size (Disk n) = (n ≤ 320) × (size ≡ diskLength n)
+ShapeSized size (BadCount n) = 0 ≤ size
+ShapeSized size (OtherType kind) = 0 ≤ size
+ShapeSized size (Malformed fault) = 0 ≤ size

@@ -40,7 +40,7 @@ pub enum Shape {
 }
 
 fn ring_shape(line: &[u8]) -> Shape
-    ensures { λ r. ⌜ (r ≡ S.ringShape (now (line .entry))) × S.Sized (length (now (line .entry))) r ⌝ }
+    ensures { λ r. ⌜ (r ≡ S.ringShape (now (line .entry))) × S.ShapeSized (length (now (line .entry))) r ⌝ }
 {
     if line.len() == 2 + 16 * SAMPLES {
         return Shape::Ring;
@@ -50,7 +50,7 @@ fn ring_shape(line: &[u8]) -> Shape
 
 fn counted_shape(line: &[u8], n: u32) -> Shape
     requires { ⌜ n < 65536 ⌝ }
-    ensures { λ r. ⌜ (r ≡ S.countedShape (length (now (line .entry))) n) × S.Sized (length (now (line .entry))) r ⌝ }
+    ensures { λ r. ⌜ (r ≡ S.countedShape (length (now (line .entry))) n) × S.ShapeSized (length (now (line .entry))) r ⌝ }
 {
     let pixels = n as usize;
     if pixels == 0 {
@@ -66,7 +66,7 @@ fn counted_shape(line: &[u8], n: u32) -> Shape
 }
 
 fn disk_shape(line: &[u8]) -> Shape
-    ensures { λ r. ⌜ (r ≡ S.diskShape (now (line .entry))) × S.Sized (length (now (line .entry))) r ⌝ }
+    ensures { λ r. ⌜ (r ≡ S.diskShape (now (line .entry))) × S.ShapeSized (length (now (line .entry))) r ⌝ }
 {
     if line.len() < DISK_HEAD {
         return Shape::Malformed(Fault::DiskShort);
@@ -77,7 +77,7 @@ fn disk_shape(line: &[u8]) -> Shape
 
 fn typed_shape(line: &[u8]) -> Shape
     requires { ⌜ 2 ≤ length (now line) ⌝ }
-    ensures { λ r. ⌜ (r ≡ S.typedShape (now (line .entry))) × S.Sized (length (now (line .entry))) r ⌝ }
+    ensures { λ r. ⌜ (r ≡ S.typedShape (now (line .entry))) × S.ShapeSized (length (now (line .entry))) r ⌝ }
 {
     let kind = hex::byte_at(line, 0);
     if kind == 1 {
@@ -90,7 +90,7 @@ fn typed_shape(line: &[u8]) -> Shape
 }
 
 pub fn shape_of(line: &[u8]) -> Shape
-    ensures { λ r. ⌜ (r ≡ S.shapeOf (now (line .entry))) × S.Sized (length (now (line .entry))) r ⌝ }
+    ensures { λ r. ⌜ (r ≡ S.shapeOf (now (line .entry))) × S.ShapeSized (length (now (line .entry))) r ⌝ }
 {
     let n = line.len();
     if n > LIMIT {

@@ -8,7 +8,8 @@ use Rattle.floats.specs.Ops.{_⊕_, _⊗_, nought, one}
 use Rattle.elementary.specs.Elementary.{sinCosNear, turn}
 use Rattle.elementary.specs.declared.SinCos.{SinCos}
 use Rattle.loops.specs.Loops.{iter, tab}
-use Rattle.solver_elimination.specs.Solve.{Row, Matrix, at}
+use Rattle.solver_elimination.specs.Solve.{Matrix}
+use Rattle.floats.specs.Rows.{Row, at}
 use Rattle.solver.specs.declared.Params.{Params}
 use Rattle.solver.specs.declared.Sample.{Sample}
 use Rattle.solver.specs.declared.Sums.{Sums}
@@ -16,7 +17,7 @@ use Rattle.solver.specs.Solver.{sampleAt, Normal, empty, added, sines, c
 
 -- ---- the angles
 -- the first n angles are so near that turning leaves them
-pub record AllNear (n : ℕ) (ringPhi : Row) : Type 0 where
+pub record RingNear (n : ℕ) (ringPhi : Row) : Type 0 where
   pub is : (i : ℕ) → i < n → turn (at ringPhi i) ≡ at ringPhi i
 
 pub record TurnedTo (ringPhi turned : Row) : Type 0 where
@@ -33,7 +34,7 @@ pub record Prepared (ringPhi sphi cphi : Row) : Type 0 where
 
 -- ---- a pass
 -- there are at most 320 samples, a sine and a cosine for each, and four places in js
-pub record Room (samples sphi cphi js : Row) : Type 0 where
+pub record PassRoom (samples sphi cphi js : Row) : Type 0 where
   pub few : length samples ≤ 320
   pub s : length sphi ≡ length samples
   pub c : length cphi ≡ length samples
@@ -43,7 +44,7 @@ pub record Room (samples sphi cphi js : Row) : Type 0 where
 abbrev pub sampleFrom : Row → ℕ → Sample
 sampleFrom js i = record { r = at js (4 * i); q = at js (4 * i + 1); d1 = at js (4 * i + 2); d2 = at js (4 * i + 3) }
 
-pub record Filled (p : Params) (t1 t2 : SinCos) (samples sphi cphi js : Row) : Type 0 where
+pub record PassFilled (p : Params) (t1 t2 : SinCos) (samples sphi cphi js : Row) : Type 0 where
   pub is : (i : ℕ) → i < length samples → sampleFrom js i ≡ sampleAt p t1 t2 (at samples i) (at sphi i) (at cphi i)
 
 -- the normal matrix, the right-hand side and the sum of squares of the samples in js

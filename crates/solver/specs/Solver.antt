@@ -3,16 +3,16 @@
 use mathlib.Core.Bool.{Bool, cond, not, _&&_, _||_}
 use mathlib.Core.List.{[], _∷_}
 use Prim.Native.Nat.{ℕ, zero, suc, _+_}
-use lib.IntN.{pos}
 use lib.ListN.{getD, set, replicate}
-use lib.Ieee.{Float, binary32, neg, lt, ofInt}
+use lib.Ieee.{Float, binary32, neg, lt}
 use lib.Ieee.Scale.{finite}
 use Rattle.floats.specs.Ops.{_⊕_, _⊖_, _⊗_, _⊘_, lit, nought, one, pi, halfPi}
 use Rattle.floats.specs.Library.{abs, signum, max, sqrt}
 use Rattle.elementary.specs.Elementary.{sinCos, tanh}
 use Rattle.elementary.specs.declared.SinCos.{SinCos}
 use Rattle.loops.specs.Loops.{iter, tab}
-use Rattle.solver_elimination.specs.Solve.{Row, Matrix, at, solve4x4, axisStdErrors}
+use Rattle.solver_elimination.specs.Solve.{Matrix, solve4x4, axisStdErrors}
+use Rattle.floats.specs.Rows.{Row, at, count}
 use Rattle.solver_elimination.specs.declared.Solved.{Solved}
 use Rattle.solver_elimination.specs.declared.Solved.the-variants.{Values, Failed}
 use Rattle.solver_elimination.specs.declared.Errors.{Errors}
@@ -46,9 +46,6 @@ minAmpSeed = lit 0x38d1_b717
 
 abbrev pub minCenteredVar : Float
 minCenteredVar = lit 0x3586_37bd
-
-abbrev pub count : ℕ → Float
-count n = ofInt binary32 (pos n)
 
 -- ---- one pass: the normal matrix, its right-hand side and the sum of squared residuals
 -- a sample v at the angle of sine s and cosine c: its residual r, and its row 1, q, d1, d2 of the Jacobian

@@ -20,7 +20,8 @@ use Rattle.elementary.specs.declared.TwoSinCos.{TwoSinCos}
 use Rattle.loops.specs.Loops.{iter, tab}
 use Rattle.loops.specs.IterLaws.{iter-same}
 use Rattle.loops.specs.TabLaws.{tab-at, tab-length, tab-same}
-use Rattle.solver_elimination.specs.Solve.{Row, Matrix, at, solve4x4}
+use Rattle.solver_elimination.specs.Solve.{Matrix, solve4x4}
+use Rattle.floats.specs.Rows.{Row, at}
 use Rattle.solver_elimination.specs.declared.Solved.{Solved}
 use Rattle.solver_elimination.specs.declared.Solved.the-variants.{Values}
 use Rattle.solver.specs.declared.Params.{Params}
@@ -30,7 +31,7 @@ use Rattle.solver.specs.declared.TwoAxisFit.{TwoAxisFit}
 use Rattle.solver.specs.declared.Started.{Started}
 use Rattle.solver.specs.Solver.{sampleAt, Normal, empty, added, grown, pass, cut, small, moved, stay, to, stepOf}
 use Rattle.solver.specs.Solver.{Final, updatesFrom, updates, sines, cosines, whole, finished}
-use Rattle.solver.specs.Buffers.{AllNear, TurnedTo, Sines, Prepared, sampleFrom, Filled, summed, noSums, packed, spread, Stopped}
+use Rattle.solver.specs.Buffers.{RingNear, TurnedTo, Sines, Prepared, sampleFrom, PassFilled, summed, noSums, packed, spread, Stopped}
 
 -- ---- the angles
 sixty-four : lit 0x4280_0000 ≡ fin false 1 (pos 6)
@@ -43,13 +44,13 @@ near-turn x t =
     let w = abs-within 1 (pos 6) x (rw sixty-four at t) in
     rw (sixty-four, w .0, w .1)
 
-pub near-none : (ringPhi : Row) → AllNear 0 ringPhi
+pub near-none : (ringPhi : Row) → RingNear 0 ringPhi
 near-none ringPhi = record { is = λ i l. absurd (none i l) }
   where
     none : (i : ℕ) → i < 0 → ⊥
     none i l = omega arith
 
-pub near-next : (ringPhi : Row) (n : ℕ) → AllNear n ringPhi → turn (at ringPhi n) ≡ at ringPhi n → AllNear (n + 1) ringPhi
+pub near-next : (ringPhi : Row) (n : ℕ) → RingNear n ringPhi → turn (at ringPhi n) ≡ at ringPhi n → RingNear (n + 1) ringPhi
 near-next ringPhi n a e = record {
   is = λ i l. elim (eq-or-lt-of-le (next i l)) [
     | inl z ↦ rw z e
@@ -69,7 +70,7 @@ prepared ringPhi turned sphi cphi len each h = record { s = h .s ∙ go (λ x. x
         tab (λ i. f (sinCosNear (turn (at ringPhi i)))) (length ringPhi)
     go f = ap (tab (λ i. f (sinCosNear (at turned i)))) len ∙ tab-same _ _ (length ringPhi) (λ i l. ap (λ (x : Float). f (sinCosNear x)) (each i l))
 
-pub prepared-near : (ringPhi sphi cphi : Row) → AllNear (length ringPhi) ringPhi → Sines ringPhi sphi cphi → Prepared ringPhi sphi cphi
+pub prepared-near : (ringPhi sphi cphi : Row) → RingNear (length ringPhi) ringPhi → Sines ringPhi sphi cphi → Prepared ringPhi sphi cphi
 prepared-near ringPhi sphi cphi a h = prepared ringPhi ringPhi sphi cphi refl (λ i l. sym (a .is i l)) h
 
 pub prepared-turned : (ringPhi turned sphi cphi : Row) → TurnedTo ringPhi turned → Sines turned sphi cphi → Prepared ringPhi sphi cphi
@@ -157,7 +158,7 @@ packed-all js zero = unfold empty in refl
 packed-all js (suc n) = packed-next (sampleFrom js n) (iter (λ i. packed (sampleFrom js i)) noSums n) ∙ ap (added (sampleFrom js n)) (packed-all js n)
 
 pub pass-split : (p : Params) (samples sphi cphi js : Row) (l : Normal) (t : TwoSinCos) → t ≡ sinCosTwo (p .theta1) (p .theta2) →
-    Filled p (record { s = t .s1; c = t .c1 }) (record { s = t .s2; c = t .c2 }) samples sphi cphi js → l ≡ summed (length samples) js →
+    PassFilled p (record { s = t .s1; c = t .c1 }) (record { s = t .s2; c = t .c2 }) samples sphi cphi js → l ≡ summed (length samples) js →
     l ≡ pass (length samples) p samples sphi cphi
 unfolding pass
 pass-split p samples sphi cphi js l t e f s = s ∙ iter-same _ _ empty (length samples) (λ i h x. ap (λ (t : Sample). added t x) (f .is i h ∙ same i))

@@ -7,7 +7,8 @@ use lib.Dec.{T}
 use lib.Ieee.{Float, binary32, lt, le, eq, fits, isNan, ofBits}
 use lib.Ieee.Fits.{add-fits}
 use Rattle.floats.specs.Ops.{nought, pi, tau}
-use Rattle.solver_elimination.specs.Solve.{Row, Matrix, solve4x4, axisStdErrors}
+use Rattle.solver_elimination.specs.Solve.{Matrix, solve4x4, axisStdErrors}
+use Rattle.floats.specs.Rows.{Row}
 use Rattle.solver_elimination.specs.SolveLaws.{Bounded, errors-bounded}
 use Rattle.solver_elimination.specs.declared.Solved.{Solved}
 use Rattle.solver_elimination.specs.declared.Solved.the-variants.{Values, Failed}
@@ -49,24 +50,24 @@ start-most n samples ringPhi p centeredVar = go (degenerate (p .amp) centeredVar
     go false = updates-most n samples (sines n ringPhi) (cosines n ringPhi) p
 
 -- ---- parameters that an f32 holds
-pub record Held (p : Params) : Type 0 where
+pub record ParamsHeld (p : Params) : Type 0 where
   pub amp : T (fits binary32 (p .amp))
   pub one : T (fits binary32 (p .theta1))
   pub two : T (fits binary32 (p .theta2))
 
-moved-held : (p : Params) (d0 d1 d2 d3 : Float) → Held (moved p d0 d1 d2 d3)
+moved-held : (p : Params) (d0 d1 d2 d3 : Float) → ParamsHeld (moved p d0 d1 d2 d3)
 moved-held p d0 d1 d2 d3 = record { amp = add-fits binary32 (p .amp) d1; one = add-fits binary32 (p .theta1) d2; two = add-fits binary32 (p .theta2) d3 }
 
-after-held : (p : Params) (s : Solved) (a : Final) (f : Params → Final) → Held (a .p) → ((q : Params) → Held q → Held (f q .p)) →
-    Held (after (stepOf p s) a f .p)
+after-held : (p : Params) (s : Solved) (a : Final) (f : Params → Final) → ParamsHeld (a .p) → ((q : Params) → ParamsHeld q → ParamsHeld (f q .p)) →
+    ParamsHeld (after (stepOf p s) a f .p)
 after-held p Failed a f h g = h
 after-held p (Values d0 d1 d2 d3) a f h g = go (small d1 (cut d2) (cut d3))
   where
-    go : (b : Bool) → Held (after (cond b stay (to (moved p d0 d1 (cut d2) (cut d3)))) a f .p)
+    go : (b : Bool) → ParamsHeld (after (cond b stay (to (moved p d0 d1 (cut d2) (cut d3)))) a f .p)
     go true = h
     go false = g (moved p d0 d1 (cut d2) (cut d3)) (moved-held p d0 d1 (cut d2) (cut d3))
 
-from-held : (n : ℕ) (samples sphi cphi : Row) (fuel k : ℕ) (p : Params) → Held p → Held (updatesFrom n samples sphi cphi fuel k p .p)
+from-held : (n : ℕ) (samples sphi cphi : Row) (fuel k : ℕ) (p : Params) → ParamsHeld p → ParamsHeld (updatesFrom n samples sphi cphi fuel k p .p)
 unfolding updatesFrom
 from-held n samples sphi cphi zero k p h = h
 from-held n samples sphi cphi (suc fuel) k p h =
@@ -108,7 +109,7 @@ assembled-sound a e rms r b = unfold assembled in go (a .swapped)
     go true = with-errors (e .error2) (e .error1) (b .low2) (b .high2) (b .low1) (b .high1)
     go false = with-errors (e .error1) (e .error2) (b .low1) (b .high1) (b .low2) (b .high2)
 
-finished-sound : (n : ℕ) (p : Params) (m : Matrix) (ssr : Float) → Held p → Sound (finished n p m ssr)
+finished-sound : (n : ℕ) (p : Params) (m : Matrix) (ssr : Float) → ParamsHeld p → Sound (finished n p m ssr)
 unfolding finished
 finished-sound n p m ssr h =
     assembled-sound (canonicalizeTrackingSwap (p .theta1) (p .theta2) (p .amp)) (axisStdErrors m ssr n) _
@@ -118,14 +119,14 @@ pub degenerate-sound : (centeredVar : Float) → Sound (degenerateFit centeredVa
 unfolding degenerateFit le lt eq isNan ofBits
 degenerate-sound centeredVar = record { low = tt; first = tt; order = tt; second = tt; low1 = tt; high1 = tt; low2 = tt; high2 = tt; size = tt }
 
-pub start-sound : (n : ℕ) (samples ringPhi : Row) (p : Params) (centeredVar : Float) → Held p → Sound (fitWithSeed n samples ringPhi p centeredVar .fit)
+pub start-sound : (n : ℕ) (samples ringPhi : Row) (p : Params) (centeredVar : Float) → ParamsHeld p → Sound (fitWithSeed n samples ringPhi p centeredVar .fit)
 unfolding fitWithSeed
 start-sound n samples ringPhi p centeredVar h = go (degenerate (p .amp) centeredVar)
   where
     end : Final
     end = updates n samples (sines n ringPhi) (cosines n ringPhi) p
 
-    held : Held (end .p)
+    held : ParamsHeld (end .p)
     held = unfold updates in from-held n samples (sines n ringPhi) (cosines n ringPhi) 6 0 p h
 
     go : (b : Bool) → Sound (cond b (record { fit = degenerateFit centeredVar; updates = 0 }) (whole n end) .fit)

@@ -108,7 +108,7 @@ fn near_too(near: bool, x: f32) -> bool
 
 // No early return, so that the loop becomes vector code.
 pub fn all_near(ring_phi: &[f32]) -> bool
-    ensures { λ r. ⌜ (r ≡ true → B.AllNear (length (now («ring_phi» .entry))) (now («ring_phi» .entry))) ⌝ }
+    ensures { λ r. ⌜ (r ≡ true → B.RingNear (length (now («ring_phi» .entry))) (now («ring_phi» .entry))) ⌝ }
 {
     let n = ring_phi.len();
     let mut near = true;
@@ -167,8 +167,8 @@ fn fill(
     t2: SinCos,
     js: &mut [f32],
 )
-    requires { ⌜ B.Room (now samples) (now sphi) (now cphi) (now js) ⌝ }
-    ensures { λ _. ⌜ B.Filled p t1 t2 (now (samples .entry)) (now (sphi .entry)) (now (cphi .entry)) (now (js .exit)) ⌝ }
+    requires { ⌜ B.PassRoom (now samples) (now sphi) (now cphi) (now js) ⌝ }
+    ensures { λ _. ⌜ B.PassFilled p t1 t2 (now (samples .entry)) (now (sphi .entry)) (now (cphi .entry)) (now (js .exit)) ⌝ }
 {
     let n = samples.len();
     for i in 0..n {
@@ -247,7 +247,7 @@ fn add_up(js: &[f32], n: usize) -> Sums
 
 // One pass over the samples at the parameters p.
 fn pass(samples: &[f32], sphi: &[f32], cphi: &[f32], p: Params, js: &mut [f32]) -> Sums
-    requires { ⌜ B.Room (now samples) (now sphi) (now cphi) (now js) ⌝ }
+    requires { ⌜ B.PassRoom (now samples) (now sphi) (now cphi) (now js) ⌝ }
     ensures { λ r. ⌜ B.spread r ≡ S.pass (length (now (samples .entry))) p (now (samples .entry)) (now (sphi .entry)) (now (cphi .entry)) ⌝ }
 {
     let t = elementary::sin_cos_two(p.theta1, p.theta2);
@@ -323,7 +323,7 @@ fn run_updates(
     js: &mut [f32],
     jtj: &mut [[f32; 4]; 4],
 ) -> Run
-    requires { ⌜ B.Room (now samples) (now sphi) (now cphi) (now js) ⌝ }
+    requires { ⌜ B.PassRoom (now samples) (now sphi) (now cphi) (now js) ⌝ }
     ensures { λ r. ⌜ B.Stopped (r .p) (now (jtj .exit)) (r .s .rr) (r .count)
         (S.updates (length (now (samples .entry))) (now (samples .entry)) (now (sphi .entry)) (now (cphi .entry)) seed) ⌝ }
 {
@@ -422,7 +422,7 @@ pub fn fit_prepared(
     cphi: &[f32],
     js: &mut [f32],
 ) -> Started
-    requires { ⌜ B.Room (now samples) (now sphi) (now cphi) (now js) ⌝ }
+    requires { ⌜ B.PassRoom (now samples) (now sphi) (now cphi) (now js) ⌝ }
     ensures { λ r. ⌜ r ≡ S.whole (length (now (samples .entry)))
         (S.updates (length (now (samples .entry))) (now (samples .entry)) (now (sphi .entry)) (now (cphi .entry)) seed) ⌝ }
 {
@@ -446,7 +446,7 @@ pub fn fit_with_seed(
     cphi: &mut [f32],
     js: &mut [f32],
 ) -> Started
-    requires { ⌜ (length (now «ring_phi») ≡ length (now samples)) × B.Room (now samples) (now sphi) (now cphi) (now js) ⌝ }
+    requires { ⌜ (length (now «ring_phi») ≡ length (now samples)) × B.PassRoom (now samples) (now sphi) (now cphi) (now js) ⌝ }
     ensures { λ r. ⌜ r ≡ S.fitWithSeed (length (now (samples .entry))) (now (samples .entry)) (now («ring_phi» .entry)) seed «centered_var» ⌝ }
 {
     if is_degenerate(seed.amp, centered_var) {

@@ -10,19 +10,14 @@ use lib.Ieee.{Float, nan, binary32, lt, eq, ofInt}
 use lib.Ieee.Scale.{finite}
 use Rattle.floats.specs.Ops.{_⊖_, _⊗_, _⊘_, lit, nought, one, pi}
 use Rattle.floats.specs.Library.{abs, max, min, sqrt}
+use Rattle.floats.specs.Rows.{Row, at}
 use Rattle.loops.specs.Loops.{iter, range}
 use Rattle.solver_elimination.specs.declared.Solved.{Solved}
 use Rattle.solver_elimination.specs.declared.Solved.the-variants.{Values, Failed}
 use Rattle.solver_elimination.specs.declared.Errors.{Errors}
 
-abbrev pub Row : Type 0
-Row = List Float
-
 abbrev pub Matrix : Type 0
 Matrix = List Row
-
-abbrev pub at : Row → ℕ → Float
-at r i = getD r i nan
 
 abbrev pub entry : Matrix → ℕ → ℕ → Float
 entry m k i = getD (getD m k []) i nan

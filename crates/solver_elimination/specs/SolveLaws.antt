@@ -15,7 +15,8 @@ use Rattle.loops.specs.IterLaws.{iter-next, iter-stuck}
 use Rattle.solver_elimination.specs.declared.Solved.{Solved}
 use Rattle.solver_elimination.specs.declared.Solved.the-variants.{Values, Failed}
 use Rattle.solver_elimination.specs.declared.Errors.{Errors}
-use Rattle.solver_elimination.specs.Solve.{Matrix, Row, Elim, gone, going, column, stopped, columned, augmented, solve4x4}
+use Rattle.solver_elimination.specs.Solve.{Matrix, Elim, gone, going, column, stopped, columned, augmented, solve4x4}
+use Rattle.floats.specs.Rows.{Row}
 use Rattle.solver_elimination.specs.Solve.{axisError, unknown, bothErrors, axisStdErrors, unit2, unit3}
 
 pub goes-on : (s : Elim) (i : ℕ) (m : Matrix) → going m ≡ iter column s i → stopped m i ≡ false → going (columned m i) ≡ iter column s (i + 1)

@@ -3,6 +3,7 @@
 ghost use mathlib.Core.Path.{_≡_};
 ghost use mathlib.Core.Bool.{false};
 ghost use Prim.Native.Nat.{_≤_, _<_};
+ghost use Rattle.floats.specs.Rows.{at};
 ghost use Rattle.solver_elimination.specs.Solve as S;
 
 // The four values of a solution, or that the elimination failed.
@@ -89,7 +90,7 @@ fn reduced(r: [f32; 5], p: [f32; 5], f: f32) -> [f32; 5]
 
 // Row k after column i was cleared by the pivot row p, which stays; f is the row's entry there.
 fn cleared(row: [f32; 5], p: [f32; 5], f: f32, i: usize, k: usize) -> [f32; 5]
-    requires { ⌜ f ≡ S.at row i ⌝ }
+    requires { ⌜ f ≡ at row i ⌝ }
     ensures { λ r. ⌜ r ≡ S.cleared i p k row ⌝ }
 {
     if k == i {

@@ -1,5 +1,5 @@
 -- Each sort has its own sentences, and a frame has none. Assumes nothing.
-use Rattle.explain_sorts.specs.Sorts.{Sound}
+use Rattle.explain_sorts.specs.Sorts.{SortSound}
 use Rattle.hex.specs.HexLaws.{written-none}
 use lib.ListN.{length}
 use mathlib.Core.List.{[]}
@@ -13,13 +13,13 @@ told-requires : tie.Need-told-requires
 told-requires c κs =
     let b2 = c .before .before in
     let b6 = b2 .before .before .before .before in
-    (subst (Sound (length (b6 .args .line .now))) (b2 .sort .given .1) (b6 .pre .0), search needs)
+    (subst (SortSound (length (b6 .args .line .now))) (b2 .sort .given .1) (b6 .pre .0), search needs)
 
 told-requires-2 : tie.Need-told-requires-2
 told-requires-2 c κs =
     let b2 = c .before .before in
     let b6 = b2 .before .before .before .before in
-    (subst (Sound (length (b6 .args .line .now))) (b2 .sort2 .given .1) (b6 .pre .0), search needs)
+    (subst (SortSound (length (b6 .args .line .now))) (b2 .sort2 .given .1) (b6 .pre .0), search needs)
 
 returns : tie.Need-returns
 returns c = (search needs, record { words = []; said = rw (c .enum-told .given .1) (written-none (omega arith)) })

@@ -1,7 +1,7 @@
 -- Each shape has its sort, and the values that are read stand in the line. Assumes nothing.
 use Rattle.explain_sorts.specs.SortsLaws.{fault-sound}
 use Rattle.explain_sorts.specs.Sorts as S
-use Rattle.shapes.specs.Shapes.{Sized}
+use Rattle.shapes.specs.Shapes.{ShapeSized}
 use lib.ListN.{length}
 use native.Mathlib.Omega.{arith}
 use mathlib.Core.Path.{subst}
@@ -17,14 +17,14 @@ valued-requires : tie.Need-valued-requires
 valued-requires c κs =
     let b2 = c .before .before in
     let b5 = b2 .before .before .before in
-    let w = subst (Sized (length (b5 .args .line .now))) (c .enum-told .given .1) (b2 .shape-of .ensures .1) in
+    let w = subst (ShapeSized (length (b5 .args .line .now))) (c .enum-told .given .1) (b2 .shape-of .ensures .1) in
     omega arith
 
 valued-requires-2 : tie.Need-valued-requires-2
 valued-requires-2 c κs =
     let b3 = c .before .before .before in
     let b6 = b3 .before .before .before in
-    let w = subst (Sized (length (b6 .args .line .now))) (c .before .shape .given .1) (b3 .shape-of .ensures .1) in
+    let w = subst (ShapeSized (length (b6 .args .line .now))) (c .before .shape .given .1) (b3 .shape-of .ensures .1) in
     omega arith
 
 returns-2 : tie.Need-returns-2

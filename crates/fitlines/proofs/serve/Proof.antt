@@ -3,7 +3,7 @@ use mathlib.Core.Path.{_≡_}
 use native.Mathlib.Omega.{arith}
 use lib.ListN.{length}
 use Rattle.lines.specs.declared.State.{State}
-use Rattle.lines.specs.Turns.{Kept, input, output, opening}
+use Rattle.lines.specs.Turns.{StateKept, input, output, opening}
 use Rattle.lines.specs.TurnsLaws.{Running, run-start, run-on, run-ends, run-out}
 use Rattle.fitlines.specs.Fitlines.{Turn}
 use borrow.Author.Needs.{needs}
@@ -12,7 +12,7 @@ use Rattle.fitlines.proofs.serve.Tie as tie
 
 abbrev Inv-loop : tie.InvT-loop
 Inv-loop buf₀ text₀ s₀ turns₀ buf text s turns =
-    Kept s × (length buf ≡ input) × (length text ≡ output) × Running State Turn opening buf₀ text₀ turns s buf text
+    StateKept s × (length buf ≡ input) × (length text ≡ output) × Running State Turn opening buf₀ text₀ turns s buf text
 
 abbrev μ-loop : tie.MeasureT-loop
 μ-loop buf₀ text₀ s₀ turns₀ buf text s turns = turns

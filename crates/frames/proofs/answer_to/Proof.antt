@@ -1,6 +1,6 @@
 -- Each shape has its answer, and the lengths that the readers ask for are the shape's. Assumes nothing.
 use Rattle.frames.specs.Frames as F
-use Rattle.shapes.specs.Shapes.{Sized}
+use Rattle.shapes.specs.Shapes.{ShapeSized}
 use lib.ListN.{length}
 use mathlib.Core.Path.{subst}
 use borrow.Author.Needs.{needs}
@@ -10,13 +10,13 @@ use Rattle.frames.proofs.answer_to.Tie as tie
 ring-line-requires : tie.Need-ring-line-requires
 ring-line-requires c κs =
     let b4 = c .before .before .before .before in
-    subst (Sized (length (b4 .args .line .now))) (c .enum-told .given .1) (c .before .before .shape-of .ensures .1)
+    subst (ShapeSized (length (b4 .args .line .now))) (c .enum-told .given .1) (c .before .before .shape-of .ensures .1)
 
 disk-line-requires : tie.Need-disk-line-requires
 disk-line-requires c κs =
     let b3 = c .before .before .before in
     let b5 = b3 .before .before in
-    subst (Sized (length (b5 .args .line .now))) (c .before .shape .given .1) (b3 .shape-of .ensures .1)
+    subst (ShapeSized (length (b5 .args .line .now))) (c .before .shape .given .1) (b3 .shape-of .ensures .1)
 
 returns : tie.Need-returns
 unfolding F.answerOf

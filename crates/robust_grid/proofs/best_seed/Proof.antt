@@ -16,14 +16,14 @@ use Rattle.robust_grid.proofs.best_seed.Tie as tie
 
 abbrev Inv-loop2 : tie.InvT-loop2
 Inv-loop2 h centered css mean n best₀ a b₀ best b =
-    (a + 2 ≤ b) × (b ≤ 26) × L.Kept best × (best .top ≡ range (P.stepAt (P.scoreAt (length centered) h centered css mean) a) (best₀ .top) (a + 2) b)
+    (a + 2 ≤ b) × (b ≤ 26) × L.BestKept best × (best .top ≡ range (P.stepAt (P.scoreAt (length centered) h centered css mean) a) (best₀ .top) (a + 2) b)
 
 abbrev μ-loop2 : tie.MeasureT-loop2
 μ-loop2 h centered css mean n best₀ a b₀ best b = 26 - b
 
 abbrev Inv-loop : tie.InvT-loop
 Inv-loop h centered css mean n best₀ a₀ best a =
-    (a ≤ 21) × L.Kept best × (best .top ≡ iter (λ a top. range (P.stepAt (P.scoreAt (length centered) h centered css mean) a) top (a + 2) 23) Nothing a)
+    (a ≤ 21) × L.BestKept best × (best .top ≡ iter (λ a top. range (P.stepAt (P.scoreAt (length centered) h centered css mean) a) top (a + 2) 23) Nothing a)
 
 abbrev μ-loop : tie.MeasureT-loop
 μ-loop h centered css mean n best₀ a₀ best a = 21 - a

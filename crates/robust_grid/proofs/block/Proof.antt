@@ -14,7 +14,7 @@ use Rattle.robust_grid.proofs.block.Tie as tie
 
 abbrev Inv-lanes : tie.InvT-lanes
 Inv-lanes h centered n css mean a b best₀ xs q q2 num k₀ best k =
-    (k ≤ 4) × L.Kept best × (best .top ≡ range (P.stepAt (P.scoreAt (length centered) h centered css mean) a) (best₀ .top) b (b + k))
+    (k ≤ 4) × L.BestKept best × (best .top ≡ range (P.stepAt (P.scoreAt (length centered) h centered css mean) a) (best₀ .top) b (b + k))
 
 abbrev μ-lanes : tie.MeasureT-lanes
 μ-lanes h centered n css mean a b best₀ xs q q2 num k₀ best k = 4 - k

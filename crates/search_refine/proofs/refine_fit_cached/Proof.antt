@@ -6,7 +6,7 @@ use lib.ListN.{getD}
 use Rattle.loops.specs.Loops.{iter}
 use Rattle.loops.specs.IterLaws.{iter-zero, iter-more}
 use Rattle.data.specs.Data.{diskOf}
-use Rattle.search_rows.specs.Rows.{Kept}
+use Rattle.search_rows.specs.Rows.{SlotsKept}
 use Rattle.search_rows.specs.RowsLaws.{kept-none}
 use Rattle.search_refine.specs.Refine.{offsets, nowhere, tried}
 use Rattle.search_refine.specs.RefineLaws.{refined-is}
@@ -18,7 +18,7 @@ abbrev Inv-loop : tie.InvT-loop
 Inv-loop val-energy xs ys vals-centered grad-angles grad-weights rows₀ total turn₀ t₀ rows turn t =
     let D = diskOf val-energy xs ys vals-centered grad-angles grad-weights in
     (t ≤ 24) × (turn .refined .trials ≡ t) × (turn .slots .total ≡ total)
-    × Kept xs ys grad-angles grad-weights (turn .refined .best .width) (turn .slots) rows
+    × SlotsKept xs ys grad-angles grad-weights (turn .refined .best .width) (turn .slots) rows
     × (turn .refined .best ≡ iter (λ t. tried D total (getD offsets t nowhere)) (turn₀ .refined .best) t)
 
 abbrev μ-loop : tie.MeasureT-loop

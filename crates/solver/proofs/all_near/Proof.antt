@@ -4,14 +4,14 @@ use mathlib.Core.Bool.{true}
 use Prim.Native.Nat.{_≤_, _-_}
 use native.Mathlib.Omega.{arith}
 use lib.ListN.{length}
-use Rattle.solver.specs.Buffers.{AllNear}
+use Rattle.solver.specs.Buffers.{RingNear}
 use Rattle.solver.specs.SolverLaws.{near-none, near-next}
 use borrow.Author.Needs.{needs}
 use Rattle.solver.proofs.all_near.Statement.{statement}
 use Rattle.solver.proofs.all_near.Tie as tie
 
 abbrev Inv-loop : tie.InvT-loop
-Inv-loop ring-phi n near₀ i₀ near i = (i ≤ n) × (near ≡ true → AllNear i ring-phi)
+Inv-loop ring-phi n near₀ i₀ near i = (i ≤ n) × (near ≡ true → RingNear i ring-phi)
 
 abbrev μ-loop : tie.MeasureT-loop
 μ-loop ring-phi n near₀ i₀ near i = n - i
