@@ -169,7 +169,7 @@ pub fn score_pair_cached(
     ensures { λ r. ⌜ OfValues «val_energy» (now («vals_centered» .entry))
         (λ D. r ≡ S.scorePairCached D theta0 theta1 width «edge_score» (now (h0 .entry)) (now (h1 .entry))) ⌝ }
 {
-    if geometry::valid_pair(theta0, theta1) {} else {
+    if !geometry::valid_pair(theta0, theta1) {
         return Scored::Nothing;
     }
     if val_energy <= 1e-9 {
