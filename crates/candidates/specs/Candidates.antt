@@ -55,14 +55,14 @@ pushUnique candidates angle minSep =
 
 -- ---- histogram_candidates
 -- a weight that is 0 or below is skipped; a NaN is not
-unfoldable pub counted : Row → Row → ℕ → Row → Row
-counted gradAngles gradWeights i hist =
+unfoldable pub binned : Row → Row → ℕ → Row → Row
+binned gradAngles gradWeights i hist =
     let weight = at gradWeights i in
     let idx = bin (at gradAngles i) in
     cond (le weight nought) hist (set hist idx (at hist idx ⊕ weight))
 
 unfoldable pub histogram : ℕ → Row → Row → Row → Row
-histogram n gradAngles gradWeights hist = iter (counted gradAngles gradWeights) hist n
+histogram n gradAngles gradWeights hist = iter (binned gradAngles gradWeights) hist n
 
 -- the bins on either side, around the circle
 unfoldable pub prevBin : ℕ → ℕ
@@ -114,13 +114,13 @@ degree1 = toRadians one
 unfoldable pub picked : ℕ → Picking → Picking
 picked bestI s = record { used = set (s .used) bestI true; found = pushUnique (s .found) (binAngle bestI) degrees4; over = false }
 
-unfoldable pub left : Picking → Picking
-left s = record { used = s .used; found = s .found; over = true }
+unfoldable pub pickingOver : Picking → Picking
+pickingOver s = record { used = s .used; found = s .found; over = true }
 
 unfoldable pub pick : Row → Float → ℕ → Picking → Picking
 pick smooth maxV k s =
     let bestI = bestBin smooth (s .used) in
-    cond (s .over) s (cond (tooLow smooth maxV bestI) (left s) (picked bestI s))
+    cond (s .over) s (cond (tooLow smooth maxV bestI) (pickingOver s) (picked bestI s))
 
 abbrev pub unpicked : Picking
 unpicked = record { used = replicate histBins false; found = newSet; over = false }
@@ -245,14 +245,14 @@ pooled x pool = record { n = pool .n + 1; pairs = set (pool .pairs) (pool .n) x 
 
 module _ (candidates : CandidateSet) (edgeAlign : Row) (gradTotal : Float) (forceSeed forceHist : Forced) where
   -- a pair that is not allowed is skipped
-  unfoldable pub pairAt : ℕ → ℕ → Pool → Pool
-  pairAt i j pool =
+  unfoldable pub pooledPair : ℕ → ℕ → Pool → Pool
+  pooledPair i j pool =
       let a0 = at (candidates .angles) i in
       let a1 = at (candidates .angles) j in
       cond (validPair a0 a1) (pooled (pairScore edgeAlign gradTotal forceSeed forceHist i j) pool) pool
 
-  unfoldable pub pairsFrom : ℕ → Pool → Pool
-  pairsFrom i pool = range (pairAt i) pool (i + 1) (candidates .n)
+  unfoldable pub pooledFrom : ℕ → Pool → Pool
+  pooledFrom i pool = range (pooledPair i) pool (i + 1) (candidates .n)
 
   unfoldable pub buildPairPool : Pool
-  buildPairPool = iter pairsFrom noPairs (candidates .n)
+  buildPairPool = iter pooledFrom noPairs (candidates .n)

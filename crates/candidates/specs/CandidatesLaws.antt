@@ -18,7 +18,7 @@ use Rattle.loops.specs.IterLaws.{iter-zero, iter-next, iter-stuck}
 use Rattle.candidates.specs.declared.CandidateSet.{CandidateSet}
 use Rattle.candidates.specs.declared.Nearby.{Nearby}
 use Rattle.candidates.specs.Candidates.{maxCandidates, maxPaired, maxPairs, nearAt, isNear, appended, pushUnique}
-use Rattle.candidates.specs.Candidates.{Picking, bestBin, binAngle, tooLow, degrees4, picked, left, pick, unpicked, maxPicks, peaks}
+use Rattle.candidates.specs.Candidates.{Picking, bestBin, binAngle, tooLow, degrees4, picked, pickingOver, pick, unpicked, maxPicks, peaks}
 use Rattle.candidates.specs.Candidates.{histogram, smoothed, greatest, histogramPeaks, offset, around, gridded, coarse}
 use Rattle.candidates.specs.Candidates.{gradientCandidates, histogramCandidates, nearerOf}
 
@@ -54,7 +54,7 @@ module _ (smooth : Row) (maxV : Float) (used : List Bool) (found : CandidateSet)
   picks-next b a d s eb et ea ed es = rw (iter-next, ← e, ← eb, et, es, ea, ed)
 
   pub picks-end : k < maxPicks → tooLow smooth maxV (bestBin smooth used) ≡ true → found ≡ peaks smooth maxV
-  unfolding peaks pick left
+  unfolding peaks pick pickingOver
   picks-end h t =
       let out : Picking = record { used = used; found = found; over = true } in
       let next : iter (pick smooth maxV) unpicked (k + 1) ≡ out = rw (iter-next, ← e, t) in
@@ -90,14 +90,14 @@ turns-most f s zero h = omega arith
 turns-most f s (suc n) h = let a = h n (iter f s n) in let b = turns-most f s n h in omega arith
 
 picks-most : (smooth : Row) (maxV : Float) (n : ℕ) → iter (pick smooth maxV) unpicked n .found .n ≤ n
-unfolding iter pick picked left
+unfolding iter pick picked pickingOver
 picks-most smooth maxV zero = omega arith
 picks-most smooth maxV (suc n) = go (iter (pick smooth maxV) unpicked n) (picks-most smooth maxV n)
   where
     go : (s : Picking) → s .found .n ≤ n → pick smooth maxV n s .found .n ≤ suc n
     go s h = by (s .over) (tooLow smooth maxV (bestBin smooth (s .used)))
       where
-        by : (a b : Bool) → cond a s (cond b (left s) (picked (bestBin smooth (s .used)) s)) .found .n ≤ suc n
+        by : (a b : Bool) → cond a s (cond b (pickingOver s) (picked (bestBin smooth (s .used)) s)) .found .n ≤ suc n
         by true b = omega arith
         by false true = omega arith
         by false false = let p = push-most (s .found) (binAngle (bestBin smooth (s .used))) degrees4 in omega arith
@@ -166,5 +166,5 @@ rows-most n i h l =
     omega (arith, all-rows)
 
 -- those before row i and those of row i are no more than there are places
-pub room : (n i : ℕ) → n ≤ maxPaired → i < n → rowsBefore n i + (n - 1 - i) ≤ maxPairs
-room n i h l = let a = rows-most n (i + 1) h (omega arith) in let b = rows-next n i in omega arith
+pub row-room : (n i : ℕ) → n ≤ maxPaired → i < n → rowsBefore n i + (n - 1 - i) ≤ maxPairs
+row-room n i h l = let a = rows-most n (i + 1) h (omega arith) in let b = rows-next n i in omega arith

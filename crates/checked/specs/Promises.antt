@@ -200,15 +200,15 @@ module _ (D : DiskData) (base0 base1 : Float) where
   disk-answer = checkedDisk D base0 base1
 
   -- the number of pixels is 1 to 320
-  abbrev Counted : Type 0
-  Counted = (eqb (D .n) 0 || ltb 320 (D .n)) ≡ false
+  abbrev PixelsInRange : Type 0
+  PixelsInRange = (eqb (D .n) 0 || ltb 320 (D .n)) ≡ false
 
   -- exactly when each answer is given: 2 for the number of pixels, then 1 for lengths that differ, 3 for a value that is not finite, at the first
   -- such place, 4 where the search answers nothing, at the number of its trials; else its fit
   pub data DiskCase (a : DiskAnswer) : Type 0 where
     wrong-count : (eqb (D .n) 0 || ltb 320 (D .n)) ≡ true → a ≡ Disks.Refused 2 0 → DiskCase a
-    wrong-lengths : Counted → C.sameLengths D ≡ false → a ≡ Disks.Refused 1 0 → DiskCase a
-    wrong-disk-value : (p : ℕ) → p < 3 + 5 * D .n → Counted → IsFirstWild disk-inputs p → a ≡ Disks.Refused 3 p → DiskCase a
+    wrong-lengths : PixelsInRange → C.sameLengths D ≡ false → a ≡ Disks.Refused 1 0 → DiskCase a
+    wrong-disk-value : (p : ℕ) → p < 3 + 5 * D .n → PixelsInRange → IsFirstWild disk-inputs p → a ≡ Disks.Refused 3 p → DiskCase a
     no-fit : (t : ℕ) → length disk-inputs ≡ 3 + 5 * D .n → AllFinite disk-inputs → bestDiskFit D base0 base1 ≡ Missing t → a ≡ Disks.Refused 4 t → DiskCase a
     disk-answered : (f : Fit) (t : ℕ) → length disk-inputs ≡ 3 + 5 * D .n → AllFinite disk-inputs → bestDiskFit D base0 base1 ≡ Best f t →
         a ≡ C.measuredOf D f t → DiskCase a

@@ -9,7 +9,7 @@ ghost use mathlib.Core.Path.{_≡_};
 ghost use Prim.Native.Nat.{_<_, _≤_};
 ghost use lib.ListN.{length};
 ghost use lib.Ieee.{Float};
-ghost use Rattle.data.specs.Data.{diskOf, OfPixels};
+ghost use Rattle.data.specs.Data.{lentDisk, OfPixels, DiskSized};
 ghost use Rattle.checked.specs.Checked as C;
 ghost use Rattle.checked.specs.Parts as P;
 
@@ -133,12 +133,10 @@ fn ring_looked(samples: &[f32], angles: &[f32]) -> RingAnswer
 pub fn fit_ring(samples: &[f32], angles: &[f32]) -> RingAnswer
     ensures { λ r. ⌜ r ≡ C.checkedRing (now (samples .entry)) (now (angles .entry)) ⌝ }
 {
-    if samples.len() == 16 {
-        if angles.len() == 16 {
-            return ring_looked(samples, angles);
-        }
+    if samples.len() != 16 || angles.len() != 16 {
+        return RingAnswer::Refused(1, 0);
     }
-    RingAnswer::Refused(1, 0)
+    ring_looked(samples, angles)
 }
 
 // A disk's fit with the errors of its axes, and the number of trials.
@@ -165,11 +163,8 @@ fn disk_wild(
     grad_angles: &[f32],
     grad_weights: &[f32],
 ) -> Wild
-    requires { ⌜ (length (now xs) ≤ 320) × (length (now ys) ≡ length (now xs)) × (length (now «vals_centered») ≡ length (now xs)) ×
-        (length (now «grad_angles») ≡ length (now xs)) × (length (now «grad_weights») ≡ length (now xs)) ⌝ }
-    ensures { λ r. ⌜ r ≡ C.firstWild
-        (C.diskInputs (diskOf «val_energy» (now (xs .entry)) (now (ys .entry)) (now («vals_centered» .entry)) (now («grad_angles» .entry))
-        (now («grad_weights» .entry))) base0 base1) ⌝ }
+    requires { ⌜ DiskSized (now xs) (now ys) (now «vals_centered») (now «grad_angles») (now «grad_weights») ⌝ }
+    ensures { λ r. ⌜ r ≡ C.firstWild (C.diskInputs (lentDisk «val_energy» xs ys «vals_centered» «grad_angles» «grad_weights») base0 base1) ⌝ }
 {
     let n = xs.len() as u16;
     let e = shifted(first_wild(grad_weights), 3 + 4 * n, Wild::Clean);
@@ -182,8 +177,7 @@ fn disk_wild(
 
 fn with_errors(xs: &[f32], ys: &[f32], vals_centered: &[f32], f: Fit, trials: usize) -> DiskAnswer
     requires { ⌜ (length (now xs) ≤ 320) × (length (now ys) ≡ length (now xs)) × (length (now «vals_centered») ≡ length (now xs)) ⌝ }
-    ensures { λ r. ⌜ ((energy : Float) →
-        OfPixels energy (now (xs .entry)) (now (ys .entry)) (now («vals_centered» .entry)) (λ D. r ≡ C.measuredOf D f trials)) ⌝ }
+    ensures { λ r. ⌜ ((energy : Float) → OfPixels energy xs ys «vals_centered» (λ D. r ≡ C.measuredOf D f trials)) ⌝ }
 {
     let e = score::fit_std_errors(xs, ys, vals_centered, f);
     let known = errors_known(e.error1, e.error2);
@@ -206,11 +200,8 @@ fn disk_fitted(
     grad_angles: &[f32],
     grad_weights: &[f32],
 ) -> DiskAnswer
-    requires { ⌜ (length (now xs) ≤ 320) × (length (now ys) ≡ length (now xs)) × (length (now «vals_centered») ≡ length (now xs)) ×
-        (length (now «grad_angles») ≡ length (now xs)) × (length (now «grad_weights») ≡ length (now xs)) ⌝ }
-    ensures { λ r. ⌜ r ≡ C.diskFitted
-        (diskOf «val_energy» (now (xs .entry)) (now (ys .entry)) (now («vals_centered» .entry)) (now («grad_angles» .entry))
-        (now («grad_weights» .entry))) base0 base1 ⌝ }
+    requires { ⌜ DiskSized (now xs) (now ys) (now «vals_centered») (now «grad_angles») (now «grad_weights») ⌝ }
+    ensures { λ r. ⌜ r ≡ C.diskFitted (lentDisk «val_energy» xs ys «vals_centered» «grad_angles» «grad_weights») base0 base1 ⌝ }
 {
     let found = search::best_disk_fit(
         val_energy,
@@ -238,13 +229,9 @@ fn disk_looked(
     grad_angles: &[f32],
     grad_weights: &[f32],
 ) -> DiskAnswer
-    requires { ⌜ (length (now xs) ≤ 320) × (length (now ys) ≡ length (now xs)) × (length (now «vals_centered») ≡ length (now xs)) ×
-        (length (now «grad_angles») ≡ length (now xs)) × (length (now «grad_weights») ≡ length (now xs)) ⌝ }
-    ensures { λ r. ⌜ r ≡ C.diskLooked
-        (diskOf «val_energy» (now (xs .entry)) (now (ys .entry)) (now («vals_centered» .entry)) (now («grad_angles» .entry))
-        (now («grad_weights» .entry))) base0 base1
-        (C.firstWild (C.diskInputs (diskOf «val_energy» (now (xs .entry)) (now (ys .entry)) (now («vals_centered» .entry))
-        (now («grad_angles» .entry)) (now («grad_weights» .entry))) base0 base1)) ⌝ }
+    requires { ⌜ DiskSized (now xs) (now ys) (now «vals_centered») (now «grad_angles») (now «grad_weights») ⌝ }
+    ensures { λ r. ⌜ r ≡ C.diskLooked (lentDisk «val_energy» xs ys «vals_centered» «grad_angles» «grad_weights») base0 base1
+        (C.firstWild (C.diskInputs (lentDisk «val_energy» xs ys «vals_centered» «grad_angles» «grad_weights») base0 base1)) ⌝ }
 {
     let wild = disk_wild(
         val_energy,
@@ -282,34 +269,27 @@ pub fn fit_disk(
     grad_angles: &[f32],
     grad_weights: &[f32],
 ) -> DiskAnswer
-    ensures { λ r. ⌜ r ≡ C.checkedDisk
-        (diskOf «val_energy» (now (xs .entry)) (now (ys .entry)) (now («vals_centered» .entry)) (now («grad_angles» .entry))
-        (now («grad_weights» .entry))) base0 base1 ⌝ }
+    ensures { λ r. ⌜ r ≡ C.checkedDisk (lentDisk «val_energy» xs ys «vals_centered» «grad_angles» «grad_weights») base0 base1 ⌝ }
 {
     let n = xs.len();
-    if n == 0 {
+    if n == 0 || n > data::MAX_TANH_PIXELS {
         return DiskAnswer::Refused(2, 0);
     }
-    if n > data::MAX_TANH_PIXELS {
-        return DiskAnswer::Refused(2, 0);
+    if ys.len() != n
+        || vals_centered.len() != n
+        || grad_angles.len() != n
+        || grad_weights.len() != n
+    {
+        return DiskAnswer::Refused(1, 0);
     }
-    if ys.len() == n {
-        if vals_centered.len() == n {
-            if grad_angles.len() == n {
-                if grad_weights.len() == n {
-                    return disk_looked(
-                        val_energy,
-                        base0,
-                        base1,
-                        xs,
-                        ys,
-                        vals_centered,
-                        grad_angles,
-                        grad_weights,
-                    );
-                }
-            }
-        }
-    }
-    DiskAnswer::Refused(1, 0)
+    disk_looked(
+        val_energy,
+        base0,
+        base1,
+        xs,
+        ys,
+        vals_centered,
+        grad_angles,
+        grad_weights,
+    )
 }

@@ -5,6 +5,8 @@ use Prim.Native.Nat.{ℕ, _*_, _≤_}
 use lib.ListN.{length, take, drop}
 use lib.Ieee.{Float}
 use Rattle.floats.specs.Rows.{Row}
+use denote.Ref.{RefT, now}
+use denote.Triple.Both.{Both}
 
 -- n pixels: their places, centred values and gradients, and the sum of the squared values
 pub record DiskData : Type 0 where
@@ -29,17 +31,28 @@ diskOf valEnergy xs ys valsCentered gradAngles gradWeights =
       «val_energy» = valEnergy;
     }
 
--- ---- what a function that is handed some slices of a disk says: P, of every disk that has them
-abbrev pub OfPixels : Float → Row → Row → Row → (DiskData → Type 0) → Type 0
-OfPixels valEnergy xs ys valsCentered P = (angles weights : Row) → P (diskOf valEnergy xs ys valsCentered angles weights)
+-- ---- a contract's own words: a slice that is lent for reading, and the disk of five of them as a call finds it
+abbrev pub Lent : Type 0
+Lent = Both (RefT Row) (RefT Row)
 
-abbrev pub OfValues : Float → Row → (DiskData → Type 0) → Type 0
+abbrev pub lentDisk : Float → Lent → Lent → Lent → Lent → Lent → DiskData
+lentDisk valEnergy xs ys valsCentered gradAngles gradWeights =
+    diskOf valEnergy (now (xs .entry)) (now (ys .entry)) (now (valsCentered .entry)) (now (gradAngles .entry)) (now (gradWeights .entry))
+
+-- what a function that is handed some slices of a disk says: P, of every disk that has them
+abbrev pub OfPixels : Float → Lent → Lent → Lent → (DiskData → Type 0) → Type 0
+OfPixels valEnergy xs ys valsCentered P =
+    (angles weights : Row) → P (diskOf valEnergy (now (xs .entry)) (now (ys .entry)) (now (valsCentered .entry)) angles weights)
+
+abbrev pub OfValues : Float → Lent → (DiskData → Type 0) → Type 0
 OfValues valEnergy valsCentered P =
-    (xs ys angles weights : Row) → length xs ≡ length valsCentered → P (diskOf valEnergy xs ys valsCentered angles weights)
+    let vals = now (valsCentered .entry) in
+    (xs ys angles weights : Row) → length xs ≡ length vals → P (diskOf valEnergy xs ys vals angles weights)
 
-abbrev pub OfGradients : Row → Row → (DiskData → Type 0) → Type 0
+abbrev pub OfGradients : Lent → Lent → (DiskData → Type 0) → Type 0
 OfGradients gradAngles gradWeights P =
-    (valEnergy : Float) (xs ys vals : Row) → length xs ≡ length gradAngles → P (diskOf valEnergy xs ys vals gradAngles gradWeights)
+    let angles = now (gradAngles .entry) in
+    (valEnergy : Float) (xs ys vals : Row) → length xs ≡ length angles → P (diskOf valEnergy xs ys vals angles (now (gradWeights .entry)))
 
 -- ---- score.rs: MAX_TANH_PIXELS, the most pixels of a disk whose rows are kept
 abbrev pub maxTanhPixels : ℕ

@@ -14,7 +14,7 @@ use lib.Ieee.Scale.{finite}
 use Rattle.elementary.specs.declared.SinCos.{SinCos}
 use Rattle.floats.specs.Ops.{_⊕_, _⊖_, _⊗_, lit, minus, nought, one, pi, tau, halfPi}
 use Rattle.floats.specs.UnitLaws.{Val, lt-val, neg-val}
-use Rattle.floats.specs.NonNegLaws.{NonNeg, clear, lt-is, le-of}
+use Rattle.floats.specs.NonNegLaws.{NonNeg, plus-nn, lt-is, le-of}
 use Rattle.floats.specs.RoundingLaws.{Counted, counted, rep-of, rep-step}
 use Rattle.floats.specs.PatternLaws.{read-high, write}
 use Rattle.floats.specs.RemLaws.{W, tau-val, tau-rep, nought-val, rem-exact}
@@ -280,12 +280,12 @@ size-plain (fin s m e) p n =
     never a h = omega arith
 
     go : (b t : Bool) → Val binary32 x t (c .count) → b ≡ below t (c .count) false 0 → (a : ℕ) × NonNeg binary32 (cond b (neg x) x) a
-    go true true v g = (c .count, clear binary32 (neg x) (c .count) (neg-val binary32 x true (c .count) v) (c .rep))
+    go true true v g = (c .count, plus-nn binary32 (neg x) (c .count) (neg-val binary32 x true (c .count) v) (c .rep))
     go true false v g = absurd (never (c .count) (ltb→lt (c .count) 0 (subst T g tt)))
     go false true v g =
         let z : c .count ≡ 0 = none (c .count) (nltb→le 0 (c .count + 0) (subst (λ (y : Bool). T (not y)) g tt)) in
         (c .count, record { sign = true; val = v; none = λ t. z; rep = c .rep })
-    go false false v g = (c .count, clear binary32 x (c .count) v (c .rep))
+    go false false v g = (c .count, plus-nn binary32 x (c .count) v (c .rep))
 
 -- by an infinity: a zero
 over-infinity : (x : Float) (a : ℕ) → NonNeg binary32 x a → Within L (div binary32 x (inf false))

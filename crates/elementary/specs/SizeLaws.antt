@@ -33,8 +33,8 @@ pub within-finite : {n : ℕ} {x : Float} → Within n x → T (finite x)
 within-finite {n} {x} h = finite-of-val binary32 x (h .sign) (h .count) (h .val)
 
 -- ---- one step: m units over c, rounded, stay below n and the infinity
-abbrev pub Step : ℕ → ℕ → ℕ → Type 0
-Step n c m = T (leb (G binary32 c m) n && ltb n (overflow binary32))
+abbrev pub StepBelow : ℕ → ℕ → ℕ → Type 0
+StepBelow n c m = T (leb (G binary32 c m) n && ltb n (overflow binary32))
 
 pub rounded-up : (n c m : ℕ) (s : Bool) (a : ℕ) (x : Float) → 0 < c → x ≡ round binary32 s a c → a ≤ m → G binary32 c m ≤ n → n < overflow binary32 → Within n x
 rounded-up n c m s a x C e h g room = go (fraction-sized binary32 s a c)
@@ -46,7 +46,7 @@ rounded-up n c m s a x C e h g room = go (fraction-sized binary32 s a c)
     go (inl v) = record { sign = s; count = G binary32 c a; val = subst (λ (z : Float). Val binary32 z s (G binary32 c a)) (sym e) (v .0); small = up-to }
     go (inr v) = absurd (lt-irrefl (overflow binary32) (lt-of-le-of-lt (le-trans (le-of-eq (sym (v .1))) up-to) room))
 
-rounded-in : (n c m : ℕ) (s : Bool) (a : ℕ) (x : Float) → 0 < c → x ≡ round binary32 s a c → a ≤ m → Step n c m → Within n x
+rounded-in : (n c m : ℕ) (s : Bool) (a : ℕ) (x : Float) → 0 < c → x ≡ round binary32 s a c → a ≤ m → StepBelow n c m → Within n x
 rounded-in n c m s a x C e h t =
     rounded-up n c m s a x C e h (leb→le (G binary32 c m) n (and-l (leb (G binary32 c m) n) (ltb n (overflow binary32)) t))
     (ltb→lt n (overflow binary32) (and-r (leb (G binary32 c m) n) (ltb n (overflow binary32)) t))
@@ -73,21 +73,21 @@ both : (a b c d : ℕ) → a ≤ c → b ≤ d → a + b ≤ c + d
 both a b c d h k = omega arith
 
 module _ (n : ℕ) {a b : ℕ} {x y : Float} (h : Within a x) (k : Within b y) where
-  pub add-in : Step n L (a + b) → Within n (add binary32 x y)
+  pub add-in : StepBelow n L (a + b) → Within n (add binary32 x y)
   add-in t =
       let r = sum-in (h .sign) (h .count) (k .sign) (k .count) L in
       rounded-in n L (a + b) (r .0) (r .1) (add binary32 x y) (pow-pos 149)
       (add-val binary32 x y (h .sign) (h .count) (k .sign) (k .count) (h .val) (k .val) ∙ r .2)
       (le-trans (r .3) (both (h .count) (k .count) a b (h .small) (k .small))) t
 
-  pub sub-in : Step n L (a + b) → Within n (sub binary32 x y)
+  pub sub-in : StepBelow n L (a + b) → Within n (sub binary32 x y)
   sub-in t =
       let r = sum-in (h .sign) (h .count) (not (k .sign)) (k .count) L in
       rounded-in n L (a + b) (r .0) (r .1) (sub binary32 x y) (pow-pos 149)
       (sub-val binary32 x y (h .sign) (h .count) (k .sign) (k .count) (h .val) (k .val) ∙ r .2)
       (le-trans (r .3) (both (h .count) (k .count) a b (h .small) (k .small))) t
 
-  pub mul-in : Step n (L * L) (a * b) → Within n (mul binary32 x y)
+  pub mul-in : StepBelow n (L * L) (a * b) → Within n (mul binary32 x y)
   mul-in t =
       rounded-in n (L * L) (a * b) (lib.Ieee.unlike (h .sign) (k .sign)) (h .count * k .count) (mul binary32 x y) (mul-pos (pow-pos 149) (pow-pos 149))
       (mul-val binary32 x y (h .sign) (h .count) (k .sign) (k .count) (h .val) (k .val)) (mul-le-mul (h .small) (k .small)) t
@@ -168,7 +168,7 @@ module _ (b : Float) (B n : ℕ) (w : Val binary32 b false B) (l : n < B) (p : R
           sum-np-lt binary32 (h .count) B L (lt-of-le-of-lt (h .small) l)) (down-lo (h .count) n B (h .small))
           (down-hi (h .count) n B)
 
-  pub off : {t : Float} → Near B n t → Step n L n → Within n (sub binary32 t b)
+  pub off : {t : Float} → Near B n t → StepBelow n L n → Within n (sub binary32 t b)
   off {t} h z = go (ltb (h .count) B) (ltb→lt (h .count) B) (nltb→le (h .count) B)
     where
       under : (c n B : ℕ) → B - n ≤ c → n < B → B - c ≤ n

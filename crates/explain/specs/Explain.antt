@@ -8,7 +8,7 @@ use Rattle.lines.specs.declared.Found.{Found}
 use Rattle.lines.specs.declared.Found.the-variants.{Line, More, Done}
 use Rattle.lines.specs.Lines.{foundOf}
 use Rattle.lines.specs.declared.State.{State}
-use Rattle.lines.specs.Turns.{Answered, Read, Run, finished, lineTo, opening}
+use Rattle.lines.specs.Turns.{Answered, Read, Run, closed, lineTo, opening}
 use Rattle.shapes.specs.Shapes.{limit}
 use Rattle.explain_words.specs.Tell.{telling}
 use Rattle.explain_sorts.specs.declared.Above.{Above}
@@ -29,26 +29,26 @@ pub record Explained (l : List ℕ) (s : Sort) (a : Above) (t : List ℕ) (at : 
   pub said : Written t at (explained first second third l s a) m r
 
 -- ---- a turn from x to y: its input goes from b to c, its text from l to m; lines are counted from 1, modulo 2^64
-abbrev pub room : ℕ
-room = 50000
+abbrev pub textRoom : ℕ
+textRoom = 50000
 
-abbrev pub begun : Explaining
-begun = record { state = opening; above = nothing; lines = 0 }
+abbrev pub firstState : Explaining
+firstState = record { state = opening; above = nothing; lines = 0 }
 
-abbrev pub number : Explaining → ℕ
-number x = (x .lines + 1) % 2 ^ 64
+abbrev pub lineNumber : Explaining → ℕ
+lineNumber x = (x .lines + 1) % 2 ^ 64
 
 abbrev pub sortAt : Explaining → List ℕ → ℕ → Sort
-sortAt x b e = sortOf (lineTo b (x .state .feed) e) (x .state .feed .skip) (number x)
+sortAt x b e = sortOf (lineTo b (x .state .feed) e) (x .state .feed .skip) (lineNumber x)
 
 -- the line up to e is explained, and the next one starts at `from`
 pub record Explains (x : Explaining) (b : List ℕ) (e from : ℕ) (l m : List ℕ) (y : Explaining) : Type 0 where
   pub first : List (List ℕ)
   pub second : List (List ℕ)
   pub third : List (List ℕ)
-  pub text : Answered room (x .state) from (explained first second third (lineTo b (x .state .feed) e) (sortAt x b e) (x .above)) l m (y .state)
-  pub above : y .above ≡ aboveOf (sortAt x b e) (number x)
-  pub counted : y .lines ≡ number x
+  pub text : Answered textRoom (x .state) from (explained first second third (lineTo b (x .state .feed) e) (sortAt x b e) (x .above)) l m (y .state)
+  pub above : y .above ≡ aboveOf (sortAt x b e) (lineNumber x)
+  pub counted : y .lines ≡ lineNumber x
 
 -- a block is read, and nothing is said
 pub record Block (x : Explaining) (b c : List ℕ) (y : Explaining) : Type 0 where
@@ -60,19 +60,19 @@ pub record Block (x : Explaining) (b c : List ℕ) (y : Explaining) : Type 0 whe
 pub record End (x : Explaining) (l m : List ℕ) (y : Explaining) : Type 0 where
   pub words : List (List ℕ)
   pub said : State
-  pub text : Answered room (x .state) (x .state .feed .from) (telling words (aloneRows true (x .above))) l m said
-  pub state : y .state ≡ finished said
+  pub text : Answered textRoom (x .state) (x .state .feed .from) (telling words (aloneRows true (x .above))) l m said
+  pub state : y .state ≡ closed said
   pub above : y .above ≡ x .above
   pub counted : y .lines ≡ x .lines
 
-abbrev pub Turned : Found → Explaining → List ℕ → List ℕ → List ℕ → List ℕ → Explaining → Type 0
-Turned (Line e next) x b c l m y = Explains x b e next l m y × (c ≡ b)
-Turned More x b c l m y = Block x b c y × (m ≡ l)
-Turned Done x b c l m y = End x l m y × (c ≡ b)
+abbrev pub ExplainTurned : Found → Explaining → List ℕ → List ℕ → List ℕ → List ℕ → Explaining → Type 0
+ExplainTurned (Line e next) x b c l m y = Explains x b e next l m y × (c ≡ b)
+ExplainTurned More x b c l m y = Block x b c y × (m ≡ l)
+ExplainTurned Done x b c l m y = End x l m y × (c ≡ b)
 
-pub record Turn (x : Explaining) (b c l m : List ℕ) (y : Explaining) : Type 0 where
-  pub made : Turned (foundOf b (x .state .feed)) x b c l m y
+pub record ExplainTurn (x : Explaining) (b c l m : List ℕ) (y : Explaining) : Type 0 where
+  pub made : ExplainTurned (foundOf b (x .state .feed)) x b c l m y
 
 -- all turns
-abbrev pub Served : List ℕ → List ℕ → Explaining → List ℕ → List ℕ → Type 0
-Served b l r c m = Run Explaining Turn (λ x. x .state .more) begun b l r c m
+abbrev pub AllExplained : List ℕ → List ℕ → Explaining → List ℕ → List ℕ → Type 0
+AllExplained b l r c m = Run Explaining ExplainTurn (λ x. x .state .more) firstState b l r c m

@@ -93,7 +93,7 @@ fn last_turn(text: &mut [u8], x: Explaining) -> Explaining
 // One line explained, or one block read, or the end.
 fn turn(buf: &mut [u8], text: &mut [u8], x: Explaining) -> Explaining
     requires { ⌜ StateKept (x .state) × (length (now buf) ≡ input) × (length (now text) ≡ output) ⌝ }
-    ensures { λ r. ⌜ StateKept (r .state) × E.Turn x (now (buf .entry)) (now (buf .exit)) (now (text .entry)) (now (text .exit)) r ⌝ }
+    ensures { λ r. ⌜ StateKept (r .state) × E.ExplainTurn x (now (buf .entry)) (now (buf .exit)) (now (text .entry)) (now (text .exit)) r ⌝ }
 {
     let s = x.state;
     let above = x.above;
@@ -115,7 +115,7 @@ fn turn(buf: &mut [u8], text: &mut [u8], x: Explaining) -> Explaining
 
 fn serve(buf: &mut [u8], text: &mut [u8]) -> Explaining
     requires { ⌜ (length (now buf) ≡ input) × (length (now text) ≡ output) ⌝ }
-    ensures { λ r. ⌜ E.Served (now (buf .entry)) (now (text .entry)) r (now (buf .exit)) (now (text .exit)) ⌝ }
+    ensures { λ r. ⌜ E.AllExplained (now (buf .entry)) (now (text .entry)) r (now (buf .exit)) (now (text .exit)) ⌝ }
 {
     let state = lines::begin();
     let above = explain_sorts::nothing();

@@ -15,7 +15,7 @@ use Rattle.explain_sorts.specs.declared.Refusal.{Refusal}
 use Rattle.explain_sorts.specs.declared.Wrong.{Wrong}
 use Rattle.explain_sorts.specs.declared.Sort.{Sort}
 use Rattle.explain_sorts.specs.declared.Sort.the-variants.{Frame, Fit, Refused, Bad}
-use Rattle.explain_sorts.specs.Sorts.{belongs, isAlone, isStrange, tooLong, foreign, short, unknownType, ringLength, diskShort, diskLength}
+use Rattle.explain_sorts.specs.Sorts.{belongs, isAlone, isStrange, tooLong, foreign, short, unknownType, ringBadLength, diskShort, diskBadLength}
 use Rattle.explain_sorts.specs.Sorts.{answerLength, fitNumber, noNumber, strangeNumber}
 
 -- ---- a frame that no answer follows
@@ -135,9 +135,9 @@ badRows w n b =
     ∷ (eqb (w .why) short && eqb n 0, "empty: as a frame it is answered ff050000\n")
     ∷ (eqb (w .why) short && not (eqb n 0), "1 character (an odd number): the type alone has 2\n")
     ∷ (eqb (w .why) unknownType, "unknown type {d}, {e} character{f}{g}: frames are 01 and 02, answers 81, 82 and ff\n")
-    ∷ (eqb (w .why) ringLength, "a ring frame of {e} character{f}{g} instead of 258\n")
+    ∷ (eqb (w .why) ringBadLength, "a ring frame of {e} character{f}{g} instead of 258\n")
     ∷ (eqb (w .why) diskShort, "a disk frame of {e} character{f}{g}: it has 30, and 40 for each pixel\n")
-    ∷ (eqb (w .why) diskLength, "a disk frame of {e} character{f}{g} instead of {h} for its {i} pixel{j}\n")
+    ∷ (eqb (w .why) diskBadLength, "a disk frame of {e} character{f}{g} instead of {h} for its {i} pixel{j}\n")
     ∷ (eqb (w .why) answerLength, "an answer of type {d} with {e} character{f}{g}: ")
     ∷ (eqb (w .why) answerLength && eqb (w .kind) 129, "a fit has 60, a refusal 8\n")
     ∷ (eqb (w .why) answerLength && eqb (w .kind) 130, "a fit has 98, a refusal 8\n")

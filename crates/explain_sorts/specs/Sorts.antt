@@ -29,14 +29,14 @@ short = 3
 abbrev pub unknownType : ℕ
 unknownType = 4
 
-abbrev pub ringLength : ℕ
-ringLength = 5
+abbrev pub ringBadLength : ℕ
+ringBadLength = 5
 
 abbrev pub diskShort : ℕ
 diskShort = 6
 
-abbrev pub diskLength : ℕ
-diskLength = 7
+abbrev pub diskBadLength : ℕ
+diskBadLength = 7
 
 abbrev pub answerLength : ℕ
 answerLength = 8
@@ -81,14 +81,14 @@ abbrev pub faultSort : Fault → Sort
 faultSort Faults.TooLong = bad tooLong 0 0 0
 faultSort Faults.Foreign = bad foreign 0 0 0
 faultSort Faults.Short = bad short 0 0 0
-faultSort Faults.RingLength = bad ringLength 0 0 0
+faultSort Faults.RingLength = bad ringBadLength 0 0 0
 faultSort Faults.DiskShort = bad diskShort 0 0 0
-faultSort (Faults.DiskLength n) = bad diskLength 0 0 n
+faultSort (Faults.DiskLength n) = bad diskBadLength 0 0 n
 
 -- ---- frames: the first of the words from k on, `left` of them, that is no finite value; the place after them where each is
-unfoldable pub wildFrom : List ℕ → ℕ → ℕ → ℕ → ℕ
-wildFrom l at zero k = k
-wildFrom l at (suc left) k = cond (not (finite (valueOf l (at + 8 * k)))) k (wildFrom l at left (k + 1))
+unfoldable pub wildWord : List ℕ → ℕ → ℕ → ℕ → ℕ
+wildWord l at zero k = k
+wildWord l at (suc left) k = cond (not (finite (valueOf l (at + 8 * k)))) k (wildWord l at left (k + 1))
 
 abbrev pub refusedAbove : ℕ → ℕ → ℕ → ℕ → Above
 refusedAbove line kind pixels number = record { line = line; kind = kind; pixels = pixels; number = number; place = 0; bits = 0 }
@@ -99,7 +99,7 @@ nothing = refusedAbove 0 0 0 0
 -- a frame of n values from `at` on: refused by number 3 where one is not finite
 unfoldable pub valued : List ℕ → ℕ → ℕ → ℕ → ℕ → ℕ → Above
 valued l line kind pixels at n =
-    let k = wildFrom l at n 0 in
+    let k = wildWord l at n 0 in
     cond (ltb k n) (record { line = line; kind = kind; pixels = pixels; number = 3; place = k; bits = wordOf l (at + 8 * k) })
     (refusedAbove line kind pixels 0)
 

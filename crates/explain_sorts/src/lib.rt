@@ -186,7 +186,7 @@ pub fn nothing() -> Above
 // The first of n words that is no finite value; n where each is.
 fn first_wild(line: &[u8], at: usize, n: usize) -> usize
     requires { ⌜ (n < 65536) × (at < 65536) × (at + 8 * n ≤ length (now line)) ⌝ }
-    ensures { λ r. ⌜ (r ≤ n) × (r ≡ S.wildFrom (now (line .entry)) at n 0) ⌝ }
+    ensures { λ r. ⌜ (r ≤ n) × (r ≡ S.wildWord (now (line .entry)) at n 0) ⌝ }
 {
     for k in 0..n {
         let p = at + 8 * k;

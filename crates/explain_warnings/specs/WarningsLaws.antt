@@ -9,7 +9,7 @@ use Rattle.floats.specs.FiniteLaws.{of-true}
 use Rattle.floats.specs.PositiveLaws.{not-nan}
 use mathlib.Core.List.{List}
 use Prim.Native.Nat.{ℕ}
-use Rattle.explain_words.specs.Tell.{told, telling, filled, piece, flagsOf, barred, barless, allBarless}
+use Rattle.explain_words.specs.Tell.{told, telling, spelled, piece, flagsOf, barred, barless, allBarless}
 use Rattle.hex.specs.Hex.{bytes, codes}
 use Rattle.explain_words.specs.TellLaws.{told-telling}
 use Rattle.explain_warnings.specs.declared.Reading.{Reading}
@@ -42,5 +42,5 @@ nan-not-infinite (fin s m e) d = refl
 -- no sentence has a bar or a blank, so that they are told as they stand
 pub warnings-told : (r : Reading) {fs : List Bool} (ws : List (List ℕ)) → fs ≡ flagsOf (warningsOf r)
     → told fs ws 0 false (barred (warningsOf r)) ≡ warningsText r
-unfolding warningsOf allBarless barless bytes codes telling filled piece
+unfolding warningsOf allBarless barless bytes codes telling spelled piece
 warnings-told r ws e = ap (λ (fs : List Bool). told fs ws 0 false (barred (warningsOf r))) e ∙ told-telling ws (warningsOf r) refl

@@ -30,22 +30,22 @@ piece ws inside c = cond (isMark c) [] (cond inside (wordAt ws c) (c ∷ []))
 abbrev pub pieceIf : Bool → List (List ℕ) → Bool → ℕ → List ℕ
 pieceIf on ws inside c = cond on (piece ws inside c) []
 
-unfoldable pub filled : List (List ℕ) → Bool → List ℕ → List ℕ
-filled ws inside [] = []
-filled ws inside (c ∷ cs) = piece ws inside c ++ filled ws (eqb c 123) cs
+unfoldable pub spelled : List (List ℕ) → Bool → List ℕ → List ℕ
+spelled ws inside [] = []
+spelled ws inside (c ∷ cs) = piece ws inside c ++ spelled ws (eqb c 123) cs
 
 -- ---- sentences, each with whether it is told
 unfoldable pub telling : List (List ℕ) → List (Bool × String) → List ℕ
 telling ws [] = []
-telling ws ((on, s) ∷ rest) = cond on (filled ws false (bytes s)) [] ++ telling ws rest
+telling ws ((on, s) ∷ rest) = cond on (spelled ws false (bytes s)) [] ++ telling ws rest
 
 -- ---- the same from one text of sentences, each ended by a bar: the flag of number k says whether sentence k is told
-abbrev pub after : ℕ → ℕ → ℕ
-after k c = cond (eqb c 124) (k + 1) k
+abbrev pub sentenceAfter : ℕ → ℕ → ℕ
+sentenceAfter k c = cond (eqb c 124) (k + 1) k
 
 unfoldable pub told : List Bool → List (List ℕ) → ℕ → Bool → List ℕ → List ℕ
 told fs ws k inside [] = []
-told fs ws k inside (c ∷ cs) = pieceIf (getD fs k false) ws inside c ++ told fs ws (after k c) (eqb c 123) cs
+told fs ws k inside (c ∷ cs) = pieceIf (getD fs k false) ws inside c ++ told fs ws (sentenceAfter k c) (eqb c 123) cs
 
 pub record Tells (fs : List Bool) (ws : List (List ℕ)) (s l : List ℕ) (at : ℕ) (m : List ℕ) (r : ℕ) : Type 0 where
   pub fits : r ≤ at + 24 * length s

@@ -11,7 +11,7 @@ use lib.Seq.{drop-cons, drop-length, getD-append-seam}
 use lib.Dec.{eqb}
 use Rattle.hex.specs.Hex.{Written, bytes}
 use Rattle.hex.specs.HexLaws.{written-none, written-as, written-then}
-use Rattle.explain_words.specs.Tell.{Told, letter, spelt, piece, pieceIf, filled, after, told, telling, flagsOf, barred, barless, allBarless}
+use Rattle.explain_words.specs.Tell.{Told, letter, spelt, piece, pieceIf, spelled, sentenceAfter, told, telling, flagsOf, barred, barless, allBarless}
 
 -- ---- a word, letter by letter
 pub spelt-none : (w : List ℕ) → spelt w 0 ≡ []
@@ -39,12 +39,12 @@ module _ {fs : List Bool} {ws : List (List ℕ)} {s l : List ℕ} {at : ℕ} whe
 
   pub midway-next : {i p k r : ℕ} {inside : Bool} {m n : List ℕ} → Midway fs ws s l at i p k inside m → i < length s
       → Written m p (pieceIf (getD fs k false) ws inside (getD s i 0)) n r → r ≤ length l
-      → Midway fs ws s l at (i + 1) r (after k (getD s i 0)) (eqb (getD s i 0) 123) n
+      → Midway fs ws s l at (i + 1) r (sentenceAfter k (getD s i 0)) (eqb (getD s i 0) 123) n
   unfolding told
   midway-next {i} {p} {k} {r} {inside} {m} {n} w h t b =
       let c = getD s i 0 in
       let x = pieceIf (getD fs k false) ws inside c in
-      let rest = told fs ws (after k c) (eqb c 123) (drop (i + 1) s) in
+      let rest = told fs ws (sentenceAfter k c) (eqb c 123) (drop (i + 1) s) in
       let e : told fs ws k inside (drop i s) ≡ x ++ rest = rw (drop-cons s i 0 h, add-one i) in
       record {
         done = w .done ++ x;
@@ -77,12 +77,12 @@ bar-unsaid ws inside = refl
 
 module _ (fs : List Bool) (ws : List (List ℕ)) where
   sentence : (k : ℕ) (inside : Bool) (cs rest : List ℕ) → barless cs ≡ true
-      → told fs ws k inside (cs ++ (124 ∷ rest)) ≡ cond (getD fs k false) (filled ws inside cs) [] ++ told fs ws (k + 1) false rest
-  unfolding told filled barless
+      → told fs ws k inside (cs ++ (124 ∷ rest)) ≡ cond (getD fs k false) (spelled ws inside cs) [] ++ told fs ws (k + 1) false rest
+  unfolding told spelled barless
   sentence k inside [] rest h = rw (bar-unsaid ws inside, nothing (getD fs k false))
   sentence k inside (c ∷ cs) rest h =
       let g = both (not (eqb c 124)) (barless cs) h in
-      rw (not-true (eqb c 124) (g .0), sentence k (eqb c 123) cs rest (g .1)) (joined (getD fs k false) (piece ws inside c) (filled ws (eqb c 123) cs) _)
+      rw (not-true (eqb c 124) (g .0), sentence k (eqb c 123) cs rest (g .1)) (joined (getD fs k false) (piece ws inside c) (spelled ws (eqb c 123) cs) _)
 
 -- with the flags gs of what came before
 all-told : (ws : List (List ℕ)) (gs : List Bool) (ps : List (Bool × String)) → allBarless ps ≡ true
@@ -95,8 +95,8 @@ all-told ws gs ((on, u) ∷ ps) h =
     let a : gs ++ (on ∷ flagsOf ps) ≡ (gs ++ (on ∷ [])) ++ flagsOf ps = sym (append-assoc gs (on ∷ []) (flagsOf ps)) in
     let n : length gs + 1 ≡ length (gs ++ (on ∷ [])) = simp length-append in
     sentence (gs ++ (on ∷ flagsOf ps)) ws (length gs) false (bytes u) (barred ps) (g .0)
-    ∙ ap (λ (b : Bool). cond b (filled ws false (bytes u)) [] ++ told (gs ++ (on ∷ flagsOf ps)) ws (length gs + 1) false (barred ps)) f
-    ∙ ap (λ (q : List ℕ). cond on (filled ws false (bytes u)) [] ++ q) (rw (a, n) (all-told ws (gs ++ (on ∷ [])) ps (g .1)))
+    ∙ ap (λ (b : Bool). cond b (spelled ws false (bytes u)) [] ++ told (gs ++ (on ∷ flagsOf ps)) ws (length gs + 1) false (barred ps)) f
+    ∙ ap (λ (q : List ℕ). cond on (spelled ws false (bytes u)) [] ++ q) (rw (a, n) (all-told ws (gs ++ (on ∷ [])) ps (g .1)))
 
 pub told-telling : (ws : List (List ℕ)) (ps : List (Bool × String)) → allBarless ps ≡ true → told (flagsOf ps) ws 0 false (barred ps) ≡ telling ws ps
 told-telling ws ps h = all-told ws [] ps h

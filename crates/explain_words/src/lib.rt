@@ -90,7 +90,7 @@ fn is_told(flags: &[bool], k: usize) -> bool
 // A bar ends a sentence.
 fn after(k: usize, c: u8) -> usize
     requires { ⌜ k < 1000000 ⌝ }
-    ensures { λ r. ⌜ (r ≤ k + 1) × (r ≡ T.after k c) ⌝ }
+    ensures { λ r. ⌜ (r ≤ k + 1) × (r ≡ T.sentenceAfter k c) ⌝ }
 {
     if c == b'|' {
         return k + 1;

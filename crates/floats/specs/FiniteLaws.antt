@@ -2,7 +2,7 @@
 use mathlib.Core.Path.{_≡_, refl, sym, ap, _∙_, subst}
 use Prim.Native.Nat.{ℕ, suc, _+_, _-_, _*_, _^_, _<_}
 use native.Mathlib.Nat.{le-refl, sub-self, zero-mul, mul-pos}
-use mathlib.Core.Bool.{Bool, true, false, not, _&&_}
+use mathlib.Core.Bool.{Bool, true, false, _&&_}
 use lib.IntN.{ℤ, pos}
 use lib.Dec.{T, eqb, eqb-refl}
 use lib.Pow.{pow-pos}
@@ -60,11 +60,3 @@ finite-test f (fin s m e) =
 -- ---- for the proofs of code
 pub of-true : {b : Bool} → b ≡ true → T b
 of-true {b} e = subst T (sym e) tt
-
-pub not-true : (b : Bool) → not b ≡ true → b ≡ false
-not-true true e = sym e
-not-true false e = refl
-
-pub not-false : (b : Bool) → not b ≡ false → b ≡ true
-not-false true e = refl
-not-false false e = sym e

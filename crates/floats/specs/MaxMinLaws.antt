@@ -18,7 +18,7 @@ use Rattle.floats.specs.Library.{negative, before, max, min}
 use Rattle.floats.specs.UnitLaws.{eq-val, zero-val}
 use Rattle.floats.specs.NonNegLaws.{ltb-no, ltb-yes}
 use Rattle.floats.specs.FiniteLaws.{of-true}
-use Rattle.floats.specs.RankLaws.{rank, rank→le, le-of-not-lt, le-no-nan}
+use Rattle.floats.specs.RankLaws.{rankOf, rank→le, le-of-not-lt, le-no-nan}
 
 -- ---- a NaN is what differs from itself
 pub ne-is-nan : (x : Float) → ne x x ≡ isNan x
@@ -36,7 +36,7 @@ or-left false b e = refl
 
 module _ (f : Format) (x y : Float) (p : T (fits f x)) (q : T (fits f y)) where
   self : (z : Float) → T (fits f z) → T (not (isNan z)) → T (le z z)
-  self z r n = rank→le f z z r r n n (le-refl (rank f z))
+  self z r n = rank→le f z z r r n n (le-refl (rankOf f z))
 
   not-before : T (not (isNan x)) → T (not (isNan y)) → before x y ≡ false → T (le y x)
   unfolding before

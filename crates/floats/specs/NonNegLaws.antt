@@ -20,11 +20,11 @@ pub record NonNeg (f : Format) (x : Float) (n : ℕ) : Type 0 where
   pub none : T sign → n ≡ 0
   pub rep : Rep f n
 
-pub clear : (f : Format) (x : Float) (n : ℕ) → Val f x false n → Rep f n → NonNeg f x n
-clear f x n v r = record { sign = false; val = v; none = λ t. absurd t; rep = r }
+pub plus-nn : (f : Format) (x : Float) (n : ℕ) → Val f x false n → Rep f n → NonNeg f x n
+plus-nn f x n v r = record { sign = false; val = v; none = λ t. absurd t; rep = r }
 
 pub zero-nn : (f : Format) → NonNeg f (fin false 0 (pos 0)) 0
-zero-nn f = clear f (fin false 0 (pos 0)) 0 (refl, zero-mul (2 ^ low f)) (rep-zero f)
+zero-nn f = plus-nn f (fin false 0 (pos 0)) 0 (refl, zero-mul (2 ^ low f)) (rep-zero f)
 
 -- ---- order
 bool-false : (b : Bool) → (T b → ⊥) → b ≡ false
@@ -140,7 +140,7 @@ pub rounded : (f : Format) (x : Float) (s : Bool) (n : ℕ) → R f n < overflow
 rounded f x s n h e = subst (λ (z : Float). Val f z s (R f n)) (sym e) (round-R f s n h)
 
 pub rounded-nn : (f : Format) (x : Float) (n : ℕ) → R f n < overflow f → x ≡ round f false n (2 ^ low f) → NonNeg f x (R f n)
-rounded-nn f x n h e = clear f x (R f n) (rounded f x false n h e) (R-rep f n h)
+rounded-nn f x n h e = plus-nn f x (R f n) (rounded f x false n h e) (R-rep f n h)
 
 rounded-zero : (f : Format) (x : Float) (n : ℕ) → n ≡ 0 → R f n < overflow f → x ≡ round f true n (2 ^ low f) → NonNeg f x (R f n)
 rounded-zero f x n z h e = record { sign = true; val = rounded f x true n h e; none = λ t. ap (R f) z ∙ R-zero f; rep = R-rep f n h }

@@ -1,4 +1,4 @@
--- The order of all floats but the NaN, as the order of whole numbers. `rank f x` is the size in units, counted up from the middle where the sign is
+-- The order of all floats but the NaN, as the order of whole numbers. `rankOf f x` is the size in units, counted up from the middle where the sign is
 -- clear and down where it is set; the infinities are at the ends,
 -- and both zeros in the middle. So `lt`, `le` and `eq` are those of the ranks (`rank-lt`, `rank-le`, `rank-eq`), and `omega` proves what follows from
 -- several comparisons.
@@ -22,10 +22,10 @@ use Rattle.floats.specs.NonNegLaws.{or-l, or-r, ltb-no, ltb-yes}
 abbrev pub place : ℕ → Bool → ℕ → ℕ
 place O s n = cond s (O - n) (O + n)
 
-unfoldable pub rank : Format → Float → ℕ
-rank f nan = 0
-rank f (inf s) = place (overflow f) s (overflow f)
-rank f (fin s m e) = place (overflow f) s (m * up e * 2 ^ low f / down e)
+unfoldable pub rankOf : Format → Float → ℕ
+rankOf f nan = 0
+rankOf f (inf s) = place (overflow f) s (overflow f)
+rankOf f (fin s m e) = place (overflow f) s (m * up e * 2 ^ low f / down e)
 
 -- a sign and a size for every value but the NaN: the infinities are `overflow f` in size
 abbrev pub Sized : Format → Float → Bool → ℕ → Type 0
@@ -45,15 +45,15 @@ size-le : (f : Format) (x : Float) (s : Bool) (n : ℕ) → Sized f x s n → n 
 size-le f x s n (inl v) = le-of-lt (v .1)
 size-le f x s n (inr v) = le-of-eq (v .1)
 
-pub rank-is : (f : Format) (x : Float) (s : Bool) (n : ℕ) → Sized f x s n → rank f x ≡ place (overflow f) s n
-rank-is f x s n (inr v) = ap (rank f) (v .0) ∙ unfold rank in (ap (place (overflow f) s) (sym (v .1)))
+pub rank-is : (f : Format) (x : Float) (s : Bool) (n : ℕ) → Sized f x s n → rankOf f x ≡ place (overflow f) s n
+rank-is f x s n (inr v) = ap (rankOf f) (v .0) ∙ unfold rankOf in (ap (place (overflow f) s) (sym (v .1)))
 rank-is f x s n (inl v) = go x (v .0)
   where
-    go : (x : Float) → Val f x s n → rank f x ≡ place (overflow f) s n
+    go : (x : Float) → Val f x s n → rankOf f x ≡ place (overflow f) s n
     go nan w = absurd w
     go (inf t) w = absurd w
     go (fin t m e) w =
-        unfold rank in (ap (λ (z : ℕ). place (overflow f) t z) (ap (λ (z : ℕ). z / down e) (w .1) ∙ mul-div-cancel n (down-pos e)) ∙
+        unfold rankOf in (ap (λ (z : ℕ). place (overflow f) t z) (ap (λ (z : ℕ). z / down e) (w .1) ∙ mul-div-cancel n (down-pos e)) ∙
         ap (λ (b : Bool). place (overflow f) b n) (w .0))
 
 -- ---- the three comparisons of two such values
@@ -228,38 +228,38 @@ leb-of a b = same-test (ltb a b || eqb a b) (leb a b) (there (ltb a b) (ltb→lt
     back u = elim (eq-or-lt-of-le (leb→le a b u)) [ inl e ↦ or-r (ltb a b) (eqb a b) (eq→eqb e) | inr l ↦ or-l (ltb a b) (eqb a b) (lt→ltb a b l) ]
 
 module _ (f : Format) (x y : Float) (p : T (fits f x)) (q : T (fits f y)) (n : T (not (isNan x))) (m : T (not (isNan y))) where
-  pub rank-lt : lt x y ≡ ltb (rank f x) (rank f y)
+  pub rank-lt : lt x y ≡ ltb (rankOf f x) (rankOf f y)
   rank-lt =
       let a = sized f x p n in
       let b = sized f y q m in
       lt-sized f x y (a .sign) (a .count) (b .sign) (b .count) (a .is) (b .is)
       ∙ below-place (overflow f) (a .count) (b .count) (size-le f x (a .sign) (a .count) (a .is)) (size-le f y (b .sign) (b .count) (b .is)) (a .sign) (b .sign)
       ∙ ap (λ (z : ℕ). ltb z (place (overflow f) (b .sign) (b .count))) (sym (rank-is f x (a .sign) (a .count) (a .is)))
-      ∙ ap (λ (z : ℕ). ltb (rank f x) z) (sym (rank-is f y (b .sign) (b .count) (b .is)))
+      ∙ ap (λ (z : ℕ). ltb (rankOf f x) z) (sym (rank-is f y (b .sign) (b .count) (b .is)))
 
-  pub rank-eq : eq x y ≡ eqb (rank f x) (rank f y)
+  pub rank-eq : eq x y ≡ eqb (rankOf f x) (rankOf f y)
   rank-eq =
       let a = sized f x p n in
       let b = sized f y q m in
       eq-sized f x y (a .sign) (a .count) (b .sign) (b .count) (a .is) (b .is)
       ∙ level-place (overflow f) (a .count) (b .count) (size-le f x (a .sign) (a .count) (a .is)) (size-le f y (b .sign) (b .count) (b .is)) (a .sign) (b .sign)
       ∙ ap (λ (z : ℕ). eqb z (place (overflow f) (b .sign) (b .count))) (sym (rank-is f x (a .sign) (a .count) (a .is)))
-      ∙ ap (λ (z : ℕ). eqb (rank f x) z) (sym (rank-is f y (b .sign) (b .count) (b .is)))
+      ∙ ap (λ (z : ℕ). eqb (rankOf f x) z) (sym (rank-is f y (b .sign) (b .count) (b .is)))
 
-  pub rank-le : le x y ≡ leb (rank f x) (rank f y)
+  pub rank-le : le x y ≡ leb (rankOf f x) (rankOf f y)
   unfolding le
-  rank-le = ap (λ (z : Bool). z || eq x y) rank-lt ∙ ap (λ (z : Bool). ltb (rank f x) (rank f y) || z) rank-eq ∙ leb-of (rank f x) (rank f y)
+  rank-le = ap (λ (z : Bool). z || eq x y) rank-lt ∙ ap (λ (z : Bool). ltb (rankOf f x) (rankOf f y) || z) rank-eq ∙ leb-of (rankOf f x) (rankOf f y)
 
   -- as facts about numbers
-  pub le→rank : T (le x y) → rank f x ≤ rank f y
-  le→rank h = leb→le (rank f x) (rank f y) (subst T rank-le h)
+  pub le→rank : T (le x y) → rankOf f x ≤ rankOf f y
+  le→rank h = leb→le (rankOf f x) (rankOf f y) (subst T rank-le h)
 
-  pub rank→le : rank f x ≤ rank f y → T (le x y)
-  rank→le h = subst T (sym rank-le) (le→leb (rank f x) (rank f y) h)
+  pub rank→le : rankOf f x ≤ rankOf f y → T (le x y)
+  rank→le h = subst T (sym rank-le) (le→leb (rankOf f x) (rankOf f y) h)
 
   -- a test that failed
-  pub not-lt→rank : lt x y ≡ false → rank f y ≤ rank f x
-  not-lt→rank e = nltb→le (rank f x) (rank f y) (subst (λ (b : Bool). T (not b)) (sym e ∙ rank-lt) tt)
+  pub not-lt→rank : lt x y ≡ false → rankOf f y ≤ rankOf f x
+  not-lt→rank e = nltb→le (rankOf f x) (rankOf f y) (subst (λ (b : Bool). T (not b)) (sym e ∙ rank-lt) tt)
 
 -- a comparison that holds has no NaN in it
 pub lt-no-nan : (x y : Float) → T (lt x y) → T (not (isNan x)) × T (not (isNan y))

@@ -15,7 +15,7 @@ use Rattle.floats.specs.Ops.{nought, pi, tau}
 use Rattle.floats.specs.Library.{remEuclid}
 use Rattle.floats.specs.UnitLaws.{Val, lt-val, add-val, rem-val}
 use Rattle.floats.specs.RoundingLaws.{R, Rep, counted, R-exact, R-upper, rep-mod, rep-zero}
-use Rattle.floats.specs.NonNegLaws.{NonNeg, rounded, rounded-nn, clear, zero-nn, ltb-yes, ltb-no, le-of, sum-np-lt}
+use Rattle.floats.specs.NonNegLaws.{NonNeg, rounded, rounded-nn, plus-nn, zero-nn, ltb-yes, ltb-no, le-of, sum-np-lt}
 
 module _ (f : Format) (x d : Float) (a D : ℕ) (P : 0 < D) (w : Val f d false D) (r : Rep f D) where
   -- `%` is exact: the remainder of the whole numbers, with the dividend's sign
@@ -68,7 +68,7 @@ module _ (f : Format) (x d : Float) (a D : ℕ) (P : 0 < D) (w : Val f d false D
 
   -- whatever the sign: from 0 up to the divisor
   pub remEuclid-range : (s : Bool) → Val f x s a → Rep f a → (c : ℕ) × NonNeg f (remEuclid f x d) c × (c ≤ D)
-  remEuclid-range false v q = (a % D, remEuclid-nn (clear f x a v q), le-of-lt (mod-lt a P))
+  remEuclid-range false v q = (a % D, remEuclid-nn (plus-nn f x a v q), le-of-lt (mod-lt a P))
   remEuclid-range true v q = elim (eq-zero-or-pos (a % D)) [
     | inl e ↦ (0, remEuclid-zero v q e, le-of-lt P)
     | inr p ↦ (R f (D - a % D), remEuclid-neg v q p, R-upper f (D - a % D) D r (sub-le D (a % D)) .1)
@@ -113,10 +113,10 @@ pub tau-rep : Rep binary32 W
 tau-rep = (13176795, 128, lit< tt, refl, lit< tt)
 
 pub pi-nn : NonNeg binary32 pi P
-pi-nn = clear binary32 pi P pi-val pi-rep
+pi-nn = plus-nn binary32 pi P pi-val pi-rep
 
 pub tau-nn : NonNeg binary32 tau W
-tau-nn = clear binary32 tau W tau-val tau-rep
+tau-nn = plus-nn binary32 tau W tau-val tau-rep
 
 pub nought-val : Val binary32 nought false 0
 unfolding ofBits
@@ -133,7 +133,7 @@ module _ (d : Float) (D : ℕ) (P : 0 < D) (w : Val binary32 d false D) (r : Rep
       let q = counted binary32 x p t in
       let s = remEuclid-range binary32 x d (q .count) D P w r (q .sign) (q .val) (q .rep) in (
         le-of binary32 nought (remEuclid binary32 x d) 0 (s .0) nought-nn (s .1) zero-le,
-        le-of binary32 (remEuclid binary32 x d) d (s .0) D (s .1) (clear binary32 d D w r) (s .2),
+        le-of binary32 (remEuclid binary32 x d) d (s .0) D (s .1) (plus-nn binary32 d D w r) (s .2),
       )
 
 pub rem-pi : (x : Float) → T (fits binary32 x) → T (finite x) → T (le nought (remEuclid binary32 x pi)) × T (le (remEuclid binary32 x pi) pi)

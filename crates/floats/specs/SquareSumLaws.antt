@@ -14,7 +14,7 @@ use lib.Ieee.Fits.{round-is}
 use Rattle.floats.specs.Ops.{nought}
 use Rattle.floats.specs.UnitLaws.{Val, le-val, zero-val}
 use Rattle.floats.specs.RoundingLaws.{Rep, counted}
-use Rattle.floats.specs.NonNegLaws.{clear, zero-nn, le-of}
+use Rattle.floats.specs.NonNegLaws.{plus-nn, zero-nn, le-of}
 
 -- ---- numbers: infinities or finite
 abbrev pub Number : Float → Type 0
@@ -190,4 +190,4 @@ module _ (f : Format) where
     where
       go : (s : Bool) (n : ℕ) → Val f (fin false m e) s n → Rep f n → T (le nought (fin false m e))
       go true n v r = absurd (false≢true (v .0))
-      go false n v r = unfold ofBits in le-of f nought (fin false m e) 0 n (zero-nn f) (clear f (fin false m e) n v r) zero-le
+      go false n v r = unfold ofBits in le-of f nought (fin false m e) 0 n (zero-nn f) (plus-nn f (fin false m e) n v r) zero-le

@@ -10,7 +10,7 @@ use Rattle.floats.specs.Library.{negative, before, abs, max, min, toRadians, re
 use Rattle.loops.specs.Loops.{iter, range, tab}
 use Rattle.elementary.specs.Elementary.{whole, sinRest, cosRest, quadrant, sinCosNear, turn, sinCos}
 use Rattle.geometry.specs.Geometry.{signedLineDelta, lineDelta, lineSeparation, validPair}
-use Rattle.solver_axes.specs.Canonical.{wrapToTau, arc, placed, settled, canonicalizeTrackingSwap}
+use Rattle.solver_axes.specs.Canonical.{wrapToTau, arc, placed, axesSettled, canonicalizeTrackingSwap}
 use Rattle.solver_axes.specs.declared.Axes.{Axes}
 use Rattle.solver_elimination.specs.Solve.{Matrix, augmented, larger, pivotRow, unusable, reduced, cleared, clear}
 use Rattle.floats.specs.Rows.{Row}
@@ -96,7 +96,7 @@ pub rows-to-prove : (
     ∷ bytes "810000000000000000003fc90fdb40490fdb40490fdb0000000001000000"
     ∷ []
     )
-unfolding combineEdgePair canonicalizeTrackingSwap settled placed wrapToTau arc remEuclid validPair lineSeparation lineDelta signedLineDelta abs
+unfolding combineEdgePair canonicalizeTrackingSwap axesSettled placed wrapToTau arc remEuclid validPair lineSeparation lineDelta signedLineDelta abs
     negative before max min sqrt rootUnits wholeRoot degenerateFit iter range solve4x4 augmented larger pivotRow unusable reduced cleared clear topRow
     columned stopped axisError bothErrors axisStdErrors floor bin tab whole sinRest cosRest quadrant sinCosNear turn sinCos degenerate fitWithSeed
     wavedBy waves harmonic secondHarmonic total deviations fitIsSuspicious fitRing wildFrom firstWild errorsKnown ringFitted checkedRing isHex allHex

@@ -15,7 +15,7 @@ use Rattle.floats.specs.Ops.{_⊕_, _⊖_, nought, pi, halfPi}
 use Rattle.floats.specs.Library.{abs, remEuclid}
 use Rattle.floats.specs.UnitLaws.{Val, le-val, neg-val}
 use Rattle.floats.specs.RoundingLaws.{R, Rep, counted, R-upper, rep-of}
-use Rattle.floats.specs.NonNegLaws.{NonNeg, clear, or-l, or-r, le-of, sub-nn, sub-neg}
+use Rattle.floats.specs.NonNegLaws.{NonNeg, plus-nn, or-l, or-r, le-of, sub-nn, sub-neg}
 use Rattle.floats.specs.RemLaws.{P, pi-val, pi-rep, nought-nn, rem-pi, remEuclid-range, remEuclid-wild}
 use Rattle.floats.specs.SignLaws.{abs-val, abs-fits}
 use Rattle.geometry.specs.Geometry.{wrapPi, signedLineDelta, lineDelta, WrappedBetween}
@@ -34,7 +34,7 @@ half-rep : Rep binary32 H
 half-rep = (13176795, 126, lit< tt, refl, lit< tt)
 
 half-nn : NonNeg binary32 halfPi H
-half-nn = clear binary32 halfPi H half-val half-rep
+half-nn = plus-nn binary32 halfPi H half-val half-rep
 
 -- the result can be PI itself
 pub wrapPi-between : (x : Float) → T (fits binary32 x) → WrappedBetween nought pi x (wrapPi x)
@@ -124,5 +124,5 @@ lineDelta-range a b = record { low = λ t. both t .0; high = λ t. both t .1; wi
         let r = delta-size a b t in
         let n = r .1 in
         let v = abs-val binary32 x (r .0) n (r .2) in
-        let h : NonNeg binary32 (abs x) n = clear binary32 (abs x) n v (rep-of binary32 (abs x) false n (abs-fits binary32 x held) v) in
+        let h : NonNeg binary32 (abs x) n = plus-nn binary32 (abs x) n v (rep-of binary32 (abs x) false n (abs-fits binary32 x held) v) in
         (le-of binary32 nought (abs x) 0 n nought-nn h zero-le, le-of binary32 (abs x) halfPi n H h half-nn (r .3))

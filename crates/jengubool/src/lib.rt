@@ -10,7 +10,7 @@ ghost use Prim.Native.Nat.{_≤_};
 ghost use mathlib.Core.List.{map};
 ghost use lib.ListN.{length};
 ghost use lib.Ieee.{binary32};
-ghost use Rattle.data.specs.Data.{diskOf};
+ghost use Rattle.data.specs.Data.{lentDisk};
 ghost use Rattle.checked.specs.Checked.{fitValues, fitCounts, measuredValues, measuredCounts, flag};
 ghost use Rattle.frames.specs.Frames as F;
 ghost use Rattle.jengubool.specs.Calls as J;
@@ -200,8 +200,7 @@ pub extern "C" fn jb_fit_disk(
     counts: &mut [u32],
 ) -> u32
     ensures { λ r. ⌜ _≡_ {A = J.Stored} (record { code = r; fit = now (fit .exit); counts = now (counts .exit) })
-        (J.diskCall (diskOf «val_energy» (now (xs .entry)) (now (ys .entry)) (now («vals_centered» .entry)) (now («grad_angles» .entry))
-        (now («grad_weights» .entry))) base0 base1 (now (fit .entry)) (now (counts .entry))) ⌝ }
+        (J.diskCall (lentDisk «val_energy» xs ys «vals_centered» «grad_angles» «grad_weights») base0 base1 (now (fit .entry)) (now (counts .entry))) ⌝ }
 {
     if fit.len() < 11 {
         return 65536;

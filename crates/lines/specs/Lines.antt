@@ -36,8 +36,8 @@ unfoldable pub keptOf : Feed → ℕ → ℕ
 keptOf f limit = cond (isGone f limit) 0 (f .total - f .from)
 
 -- n bytes have come behind what is kept; none is the input's end
-unfoldable pub filled : Feed → ℕ → ℕ → Feed
-filled f limit n = record { from = 0; total = keptOf f limit + n; skip = isGone f limit; ended = eqb n 0 }
+unfoldable pub withBlock : Feed → ℕ → ℕ → Feed
+withBlock f limit n = record { from = 0; total = keptOf f limit + n; skip = isGone f limit; ended = eqb n 0 }
 
 -- the first n bytes of m are those of l from `from` on
 abbrev pub Front : ℕ → ℕ → List ℕ → List ℕ → Type 0
@@ -46,7 +46,7 @@ Front n from l m = take n m ≡ take n (drop from l)
 -- a block came into the buffer l, which is m now: some n bytes, and in front of them what was kept
 pub record Filled (f : Feed) (limit : ℕ) (l m : List ℕ) (r : Feed) : Type 0 where
   pub came : ℕ
-  pub feed : r ≡ filled f limit came
+  pub feed : r ≡ withBlock f limit came
   pub front : Front (keptOf f limit) (f .from) l m
 
 -- where a found line ends

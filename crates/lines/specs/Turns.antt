@@ -35,8 +35,8 @@ opening = record { feed = begun; put = 0; more = true }
 abbrev pub answeredOf : State → ℕ → ℕ → State
 answeredOf s from at = record { feed = passed (s .feed) from; put = at; more = true }
 
-abbrev pub finished : State → State
-finished s = record { feed = s .feed; put = 0; more = false }
+abbrev pub closed : State → State
+closed s = record { feed = s .feed; put = 0; more = false }
 
 -- a block came into the buffer b, which is c now, and the text is written out
 pub record Read (s : State) (limit : ℕ) (b c : List ℕ) (r : State) : Type 0 where
@@ -57,7 +57,7 @@ lineTo b f e = take (e - f .from) (drop (f .from) b)
 abbrev pub Turned : ℕ → ℕ → (ℕ → List ℕ) → Found → State → List ℕ → List ℕ → List ℕ → List ℕ → State → Type 0
 Turned need limit text (Line e next) s b c l m r = Answered need s next (text e) l m r × (c ≡ b)
 Turned need limit text More s b c l m r = Read s limit b c r × (m ≡ l)
-Turned need limit text Done s b c l m r = (r ≡ finished s) × (m ≡ l) × (c ≡ b)
+Turned need limit text Done s b c l m r = (r ≡ closed s) × (m ≡ l) × (c ≡ b)
 
 -- ---- a run of a program with states S: `Turn s b c l m r` is a turn from s to r, in which the buffer goes from b to c and the text from l to m
 pub data Turns (S : Type 0) (Turn : S → List ℕ → List ℕ → List ℕ → List ℕ → S → Type 0)

@@ -220,7 +220,7 @@ pub fn read_on(buf: &mut [u8], text: &[u8], s: State, limit: usize) -> State
 // The input has ended, and what stands in the text is written out.
 pub fn finish(text: &[u8], s: State) -> State
     requires { ⌜ T.StateKept s × (length (now text) ≡ T.output) ⌝ }
-    ensures { λ r. ⌜ T.StateKept r × (r ≡ T.finished s) ⌝ }
+    ensures { λ r. ⌜ T.StateKept r × (r ≡ T.closed s) ⌝ }
 {
     let feed = s.feed;
     flush(text, s.put);

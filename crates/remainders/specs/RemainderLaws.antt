@@ -57,11 +57,11 @@ same-val f x y true n p q v w =
     sym (neg-neg x) ∙ ap neg (same-clear f (neg x) (neg y) n (neg-fits f x p) (neg-fits f y q) (neg-val f x true n v) (neg-val f y true n w)) ∙ neg-neg y
 
 -- ---- what is finite is a number, and what is not has no remainder: x - x, as a program finds it
-pub number : (x : Float) → T (finite x) → T (not (isNan x))
+pub finite-number : (x : Float) → T (finite x) → T (not (isNan x))
 unfolding isNan
-number nan t = t
-number (inf s) t = tt
-number (fin s m e) t = tt
+finite-number nan t = t
+finite-number (inf s) t = tt
+finite-number (fin s m e) t = tt
 
 pub rem-wild : (f : Format) (x d : Float) → finite x ≡ false → sub f x x ≡ rem f x d
 unfolding sub rem neg
@@ -194,12 +194,12 @@ magnitude x s n p v = go s v
         let o : toBits binary32 x ≡ 0x80000000 + b =
         ap (toBits binary32) (sym e) ∙
         toBits-ofBits binary32 (0x80000000 + b) (more b l)
-        (subst (λ (z : Float). T (not (isNan z))) (sym e) (number x (finite-of-val binary32 x true n v))) in
+        (subst (λ (z : Float). T (not (isNan z))) (sym e) (finite-number x (finite-of-val binary32 x true n v))) in
         clear y q w (toBits binary32 x % 0x80000000) (ap (λ (z : ℕ). z % 0x80000000) o ∙ add-mod-left 0x80000000 b ∙ mod-eq-of-lt (less b l))
 
 -- ---- PI for 0 and TAU for 1: 13176795 steps of 2 ^ (127 + q) units
-abbrev pub turn : ℕ → Float
-turn q = lit (0x4049_0fdb + q * 0x80_0000)
+abbrev pub modulus : ℕ → Float
+modulus q = lit (0x4049_0fdb + q * 0x80_0000)
 
 abbrev pub M : ℕ
 M = 13176795
@@ -207,7 +207,7 @@ M = 13176795
 no-more : (q : ℕ) → suc (suc q) ≤ 1 → ⊥
 no-more q h = omega arith
 
-pub turn-val : (q : ℕ) → q ≤ 1 → Val binary32 (turn q) false (M * 2 ^ (127 + q))
+pub turn-val : (q : ℕ) → q ≤ 1 → Val binary32 (modulus q) false (M * 2 ^ (127 + q))
 turn-val zero h = pi-val
 turn-val (suc zero) h = tau-val
 turn-val (suc (suc q)) h = absurd (no-more q h)
@@ -282,7 +282,7 @@ module _ (c n Q : ℕ) (lo : c < 0x7f800000) (v : Val binary32 (ofBits binary32 
 abbrev pub pattern : Float → ℕ
 pattern x = toBits binary32 x % 0x80000000
 
-module _ (x : Float) (q : ℕ) (k : q ≤ 1) (p : T (fits binary32 x)) (t : T (finite x)) (o : within (turn q) x ≡ false) where
+module _ (x : Float) (q : ℕ) (k : q ≤ 1) (p : T (fits binary32 x)) (t : T (finite x)) (o : within (modulus q) x ≡ false) where
   n : Counted binary32 x
   n = counted binary32 x p t
 
@@ -290,7 +290,7 @@ module _ (x : Float) (q : ℕ) (k : q ≤ 1) (p : T (fits binary32 x)) (t : T (f
   divisor = mul-pos (lit< tt) (pow-pos (127 + q))
 
   size : M * 2 ^ (127 + q) ≤ n .count
-  size = far binary32 x (turn q) (n .sign) (n .count) (M * 2 ^ (127 + q)) divisor p (n .val) (turn-val q k) (steps-rep M q (le-refl M) k) o
+  size = far binary32 x (modulus q) (n .sign) (n .count) (M * 2 ^ (127 + q)) divisor p (n .val) (turn-val q k) (steps-rep M q (le-refl M) k) o
 
   read : (pattern x < 0x7f800000) × Val binary32 (ofBits binary32 (pattern x)) false (n .count)
   read = magnitude x (n .sign) (n .count) p (n .val)
@@ -300,9 +300,9 @@ module _ (x : Float) (q : ℕ) (k : q ≤ 1) (p : T (fits binary32 x)) (t : T (f
 
   -- the whole number of steps that is left, times a step with the sign of x
   pub far-rem : (y : Float) (r : ℕ) → Val binary32 y (lt x nought) (2 ^ (127 + q)) → r ≡ digits (pattern x) * 2 ^ (field (pattern x) - 128 - q) % M →
-      mul binary32 (ofInt binary32 (pos r)) y ≡ rem binary32 x (turn q)
+      mul binary32 (ofInt binary32 (pos r)) y ≡ rem binary32 x (modulus q)
   far-rem y r w e =
-      rem-is binary32 x (turn q) (n .sign) (n .count) (M * 2 ^ (127 + q)) divisor p (n .val) (turn-val q k) (steps-rep M q (le-refl M) k)
+      rem-is binary32 x (modulus q) (n .sign) (n .count) (M * 2 ^ (127 + q)) divisor p (n .val) (turn-val q k) (steps-rep M q (le-refl M) k)
       (mul binary32 (ofInt binary32 (pos r)) y) (mul-fits binary32 (ofInt binary32 (pos r)) y)
       (subst (λ (z : ℕ). Val binary32 (mul binary32 (ofInt binary32 (pos r)) y) (n .sign) z) (sym left)
       (times-val binary32 y (n .sign) r (2 ^ (127 + q)) (le-trans (le-of-lt few) (lit≤ tt))

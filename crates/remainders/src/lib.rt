@@ -7,7 +7,7 @@ ghost use lib.Ieee.{binary32, lt, rem};
 ghost use Rattle.floats.specs.Ops.{nought, pi, tau};
 ghost use Rattle.floats.specs.Library.{remEuclid};
 ghost use Rattle.floats.specs.UnitLaws.{Val};
-ghost use Rattle.remainders.specs.RemainderLaws.{within, turn};
+ghost use Rattle.remainders.specs.RemainderLaws.{within, modulus};
 
 // m * 2 ^ k less the multiples of 13176795, 32 digits at a time so that a product fits.
 fn reduced(m: u64, k: u64) -> u64
@@ -43,8 +43,8 @@ fn step(x: f32, q: u32) -> f32
 // The remainder of an x that is at least the divisor in size, or a NaN: x is a whole number of steps, and so is the remainder.
 fn rem_far(x: f32, q: u32) -> f32
     requires { ⌜ q ≤ 1 ⌝ }
-    requires { ⌜ within (turn q) x ≡ false ⌝ }
-    ensures { λ r. ⌜ r ≡ rem binary32 x (turn q) ⌝ }
+    requires { ⌜ within (modulus q) x ≡ false ⌝ }
+    ensures { λ r. ⌜ r ≡ rem binary32 x (modulus q) ⌝ }
 {
     let d = x - x;
     if d != d {

@@ -51,7 +51,7 @@ firstOf n samples ringPhi =
 
 -- r is the answer of one start, or of two, whatever their sums
 pub record Alone (primary : Started) (r : RingFit) : Type 0 where
-  pub is : (f : R.Start) → primary ≡ startedOf f → r ≡ R.fitOf (R.single f)
+  pub is : (f : R.Start) → primary ≡ startedOf f → r ≡ R.ringFitOf (R.single f)
 
 pub record Chosen (primary : Started) (second : Second) (r : RingFit) : Type 0 where
-  pub is : (f : R.Start) (o : Option R.Start) → primary ≡ startedOf f → second ≡ secondOf o → r ≡ R.fitOf (R.chosen f o)
+  pub is : (f : R.Start) (o : Option R.Start) → primary ≡ startedOf f → second ≡ secondOf o → r ≡ R.ringFitOf (R.chosen f o)

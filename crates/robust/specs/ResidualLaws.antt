@@ -20,7 +20,7 @@ use Rattle.floats.specs.Rows.{Row, at, count}
 use Rattle.floats.specs.Library.{negative, before, max, sqrt}
 use Rattle.floats.specs.UnitLaws.{Val, eq-val}
 use Rattle.floats.specs.RoundingLaws.{Rep, counted, rep-of}
-use Rattle.floats.specs.NonNegLaws.{clear, le-of, or-r}
+use Rattle.floats.specs.NonNegLaws.{plus-nn, le-of, or-r}
 use Rattle.floats.specs.RankLaws.{le-le}
 use Rattle.floats.specs.SquareSumLaws.{Number, Upright, Level, clear-upright, upright-number, level-upright, nought-level, round-number}
 use Rattle.floats.specs.SquareSumLaws.{add-number, sub-number, square-clear, add-upright, add-level, upright-above}
@@ -30,7 +30,7 @@ use Rattle.floats.specs.FiniteLaws.{of-true}
 use Rattle.loops.specs.Loops.{iter}
 use Rattle.loops.specs.IterLaws.{iter-keeps}
 use Rattle.solver.specs.SolverLaws.{run-full, run-stay, run-to}
-use Rattle.solver.specs.Solver.{Normal, empty, added, pass, Step, stay, to, Final, updatesFrom, updates, sines, cosines, whole}
+use Rattle.solver.specs.Solver.{Normal, empty, added, pass, Step, stay, to, Final, updatesFrom, updates, sines, cosines, startFrom}
 use Rattle.solver.specs.Solver.{degenerate, degenerateFit, finished, assembled, fitWithSeed}
 use Rattle.solver.specs.declared.Params.{Params}
 use Rattle.robust.specs.Robust.{negativeZero, total, deviations, meanOf, varianceOf, Squares, ofPass, ofMean, start, ring, fitRing, sumOf, ringSum}
@@ -131,8 +131,8 @@ sixteenth (fin false m e) p h =
 
         pick : (b : Bool) → (T b → a ≤ 8) → (T (not b) → 8 < a) → T (le x (lit 8))
         pick true u w =
-            le-of binary32 x (lit 8) a 8 (clear binary32 x a v r)
-            (clear binary32 (lit 8) 8 eight-val (rep-of binary32 (lit 8) false 8 (ofBits-fits binary32 8) eight-val)) (u tt)
+            le-of binary32 x (lit 8) a 8 (plus-nn binary32 x a v r)
+            (plus-nn binary32 (lit 8) 8 eight-val (rep-of binary32 (lit 8) false 8 (ofBits-fits binary32 8) eight-val)) (u tt)
         pick false u w =
             absurd (unit-above (le-le binary32 unit (x ⊘ count 16) nought
             (subst (λ (z : Float). T (fits binary32 z)) nine (round-fits binary32 false 9 (2 ^ 153))) (div-fits binary32 x (count 16))
@@ -249,7 +249,7 @@ start-made n samples ringPhi seed centeredVar = go (degenerate (seed .amp) cente
     end : Final
     end = updates n samples (sines n ringPhi) (cosines n ringPhi) seed
 
-    go : (b : Bool) → MadeOf n centeredVar (cond b (record { fit = degenerateFit centeredVar; updates = 0 }) (whole n end) .fit .rms)
+    go : (b : Bool) → MadeOf n centeredVar (cond b (record { fit = degenerateFit centeredVar; updates = 0 }) (startFrom n end) .fit .rms)
         (cond b ofMean (ofPass (end .last .ssr)))
     go true = unfold degenerateFit in refl
     go false = unfold finished assembled in refl

@@ -134,11 +134,11 @@ ring n samples ringPhi =
     let primary = start n samples ringPhi seed centeredVar in
     cond (fitIsSuspicious (primary .fit)) (chosen primary (robustGridFit n samples ringPhi mean centeredVar)) (single primary)
 
-abbrev pub fitOf : Ring → RingFit
-fitOf r = record { fit = r .answered .fit; starts = r .starts; first = r .first; second = r .second }
+abbrev pub ringFitOf : Ring → RingFit
+ringFitOf r = record { fit = r .answered .fit; starts = r .starts; first = r .first; second = r .second }
 
 unfoldable pub fitRing : ℕ → Row → Row → RingFit
-fitRing n samples ringPhi = fitOf (ring n samples ringPhi)
+fitRing n samples ringPhi = ringFitOf (ring n samples ringPhi)
 
 -- the sum of squares that the answered rms was made of
 abbrev pub sumOf : Float → Squares → Float

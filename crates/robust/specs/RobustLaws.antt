@@ -13,7 +13,7 @@ use Rattle.floats.specs.Ops.{lit}
 use Rattle.floats.specs.Rows.{Row}
 use Rattle.floats.specs.Library.{toRadians}
 use Rattle.loops.specs.TabLaws.{tab-length, part-same}
-use Rattle.solver.specs.Solver.{sines, cosines, updates, whole, degenerate, degenerateFit, fitWithSeed}
+use Rattle.solver.specs.Solver.{sines, cosines, updates, startFrom, degenerate, degenerateFit, fitWithSeed}
 use Rattle.solver.specs.Buffers.{Prepared, PassRoom}
 use Rattle.solver.specs.SolverLaws.{prepared-length, whole-prepared}
 use Rattle.solver.specs.declared.Params.{Params}
@@ -76,7 +76,7 @@ module _ (n : ℕ) (samples ringPhi : Row) (seed : Params) (centeredVar : Float)
   start-refused d t e = rw (← d, t, e)
 
   pub start-made : (sphi cphi : Row) {b : Bool} {s : Started} → b ≡ degenerate (seed .amp) centeredVar → b ≡ false → length ringPhi ≡ n
-      → Prepared ringPhi sphi cphi → s ≡ whole n (updates n samples sphi cphi seed) → s ≡ fitWithSeed n samples ringPhi seed centeredVar
+      → Prepared ringPhi sphi cphi → s ≡ startFrom n (updates n samples sphi cphi seed) → s ≡ fitWithSeed n samples ringPhi seed centeredVar
   unfolding fitWithSeed
   start-made sphi cphi d t l p h = rw (← d, t) (h ∙ whole-prepared n samples ringPhi sphi cphi seed p l)
 
@@ -152,7 +152,7 @@ module _ (primary : Started) (s : Second) where
   pub chosen-alone : (r : RingFit) → s ≡ Missing → Alone primary r → Chosen primary s r
   chosen-alone r e a = record { is = go e a }
     where
-      go : s ≡ Missing → Alone primary r → (f : R.Start) (o : Option R.Start) → primary ≡ startedOf f → s ≡ secondOf o → r ≡ R.fitOf (R.chosen f o)
+      go : s ≡ Missing → Alone primary r → (f : R.Start) (o : Option R.Start) → primary ≡ startedOf f → s ≡ secondOf o → r ≡ R.ringFitOf (R.chosen f o)
       go e a f none p q = unfold R.chosen in a .is f p
       go e a f (some g) p q = absurd (never (sym q ∙ e))
         where
@@ -173,7 +173,7 @@ module _ (primary : Started) (s : Second) where
       same g e = cc
 
       go : (f : R.Start) (o : Option R.Start) → primary ≡ startedOf f → s ≡ secondOf o
-          → record { fit = fit; starts = 2; first = primary .updates; second = candidate .updates } ≡ R.fitOf (R.chosen f o)
+          → record { fit = fit; starts = 2; first = primary .updates; second = candidate .updates } ≡ R.ringFitOf (R.chosen f o)
       go f none p q = absurd (never (sym e ∙ q))
         where
           never : Made candidate ≡ Missing → ⊥

@@ -157,10 +157,10 @@ pub record Billed (r : RingFit) : Type 0 where
 abbrev Few : R.Start → Type 0
 Few s = s .updates ≤ 6
 
-single-billed : (f : R.Start) → Few f → Billed (R.fitOf (R.single f))
+single-billed : (f : R.Start) → Few f → Billed (R.ringFitOf (R.single f))
 single-billed f h = record { some = omega arith; most = omega arith; first = h; second = omega arith; alone = λ e. refl }
 
-chosen-billed : (f : R.Start) (o : Option R.Start) → Few f → Each Few o → Billed (R.fitOf (R.chosen f o))
+chosen-billed : (f : R.Start) (o : Option R.Start) → Few f → Each Few o → Billed (R.ringFitOf (R.chosen f o))
 unfolding R.chosen
 chosen-billed f none h k = single-billed f h
 chosen-billed f (some g) h k = record { some = omega arith; most = omega arith; first = h; second = k; alone = λ e. absurd (two e) }
@@ -178,7 +178,7 @@ module _ (n : ℕ) (samples ringPhi : Row) where
   unfolding R.start
   few seed h = start-most n samples ringPhi seed _
 
-  ring-billed : Billed (R.fitOf (R.ring n samples ringPhi))
+  ring-billed : Billed (R.ringFitOf (R.ring n samples ringPhi))
   unfolding R.ring
   ring-billed =
       let one = primary-each Few n samples ringPhi few in
@@ -187,7 +187,7 @@ module _ (n : ℕ) (samples ringPhi : Row) where
       let o = R.robustGridFit n samples ringPhi (mean Few n samples ringPhi) (centeredVar Few n samples ringPhi) in
       go (R.fitIsSuspicious (f .fit)) (R.chosen f o) (R.single f) (chosen-billed f o one two) (single-billed f one)
     where
-      go : (b : Bool) (x y : R.Ring) → Billed (R.fitOf x) → Billed (R.fitOf y) → Billed (R.fitOf (cond b x y))
+      go : (b : Bool) (x y : R.Ring) → Billed (R.ringFitOf x) → Billed (R.ringFitOf y) → Billed (R.ringFitOf (cond b x y))
       go true x y h k = h
       go false x y h k = k
 

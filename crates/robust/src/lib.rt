@@ -71,12 +71,7 @@ pub fn relative_rms(f: TwoAxisFit) -> f32
 fn is_outside(sep: f32) -> bool
     ensures { λ r. ⌜ r ≡ R.outside sep ⌝ }
 {
-    if sep >= ROBUST_SEP_TRIGGER_MIN_RAD {
-        if sep <= ROBUST_SEP_TRIGGER_MAX_RAD {
-            return false;
-        }
-    }
-    true
+    !(sep >= ROBUST_SEP_TRIGGER_MIN_RAD && sep <= ROBUST_SEP_TRIGGER_MAX_RAD)
 }
 
 // The two triggers of the grid.
@@ -92,15 +87,10 @@ fn is_triggered(f: TwoAxisFit) -> bool
 pub fn fit_is_suspicious(f: TwoAxisFit) -> bool
     ensures { λ r. ⌜ r ≡ R.fitIsSuspicious f ⌝ }
 {
-    if floats::is_finite(f.amp) {
-        if floats::is_finite(f.rms) {
-            if f.amp < AMP_FLOOR {
-                return false;
-            }
-            return is_triggered(f);
-        }
+    if !floats::is_finite(f.amp) || !floats::is_finite(f.rms) || f.amp < AMP_FLOOR {
+        return false;
     }
-    false
+    is_triggered(f)
 }
 
 fn center(samples: &[f32], mean: f32, centered: &mut [f32])

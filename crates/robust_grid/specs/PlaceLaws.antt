@@ -18,7 +18,7 @@ use Rattle.seed.specs.Seed.{zeros, pairSums, scoreSeedPair}
 use Rattle.seed.specs.declared.Seed.{Seed}
 use Rattle.seed.specs.declared.Seed.the-variants.{Nothing}
 use Rattle.robust_grid.specs.Grid.{gridAngle, factor, gridRow, pairAt, pairsFrom, bestOf, bestSeed}
-use Rattle.robust_grid.specs.Places.{Axes, rowFrom, sampleRow, rowAt, Grid, scoreAt}
+use Rattle.robust_grid.specs.Places.{Axes, rowFrom, sampleRow, sampleRowAt, Grid, scoreAt}
 use Rattle.robust_lanes.specs.Lanes.{sumsAt}
 
 -- ---- scores that agree on the grid have the same best
@@ -55,7 +55,7 @@ module _ {sphi cphi : Row} where
   grid-more {h} r x {k} g room e =
       let l : length r ≡ 24 = ap length e ∙ tab-length _ 24 in
       record {
-        row = below-more (λ i. rowAt (take (k * 24) h ++ (r ++ x)) i ≡ sampleRow (at sphi i) (at cphi i)) k
+        row = below-more (λ i. sampleRowAt (take (k * 24) h ++ (r ++ x)) i ≡ sampleRow (at sphi i) (at cphi i)) k
             (λ i b. part-kept h (r ++ x) (k * 24) (i * 24) 24 room (omega arith) ∙ g .row i b)
             (part-same h r x (k * 24) 24 room l ∙ e);
       }

@@ -28,12 +28,12 @@ unfoldable pub sampleRow : Float → Float → Row
 sampleRow s c = tab (λ a. factor s c (sinCos (gridAngle a))) 24
 
 -- the 24 places of sample i
-abbrev pub rowAt : Row → ℕ → Row
-rowAt h i = take 24 (drop (i * 24) h)
+abbrev pub sampleRowAt : Row → ℕ → Row
+sampleRowAt h i = take 24 (drop (i * 24) h)
 
 -- the first k samples have their factors
 pub record Grid (sphi cphi h : Row) (k : ℕ) : Type 0 where
-  pub row : (i : ℕ) → i < k → rowAt h i ≡ sampleRow (at sphi i) (at cphi i)
+  pub row : (i : ℕ) → i < k → sampleRowAt h i ≡ sampleRow (at sphi i) (at cphi i)
 
 -- ---- the pairs that are tried
 abbrev pub lastOf : ℕ → ℕ

@@ -9,7 +9,7 @@ use Rattle.floats.specs.Rows.{Row, at}
 use Rattle.loops.specs.IterLaws.{iter-zero, iter-next}
 use Rattle.seed.specs.Seed.{summedBy}
 use Rattle.robust_lanes.specs.declared.Lanes.{Lanes}
-use Rattle.robust_lanes.specs.Lanes.{sumsAt, four, laneSums, added}
+use Rattle.robust_lanes.specs.Lanes.{sumsAt, four, laneSums, lanesAdded}
 
 pub four-at : (f : ℕ → Float) (k : ℕ) → k < 4 → at (four f) k ≡ f k
 four-at f zero l = refl
@@ -35,6 +35,6 @@ module _ (centered h : Row) (a b : ℕ) where
   next i k = let z : i * 24 + (b + k) ≡ i * 24 + b + k = omega arith in rw (iter-next, z)
 
   pub lanes-more : (i : ℕ) (s t : Lanes) (y : Row) → s ≡ laneSums i centered h a b → y ≡ four (λ k. at h (i * 24 + b + k))
-      → t ≡ added s (at centered i) (at h (i * 24 + a)) y → t ≡ laneSums (i + 1) centered h a b
+      → t ≡ lanesAdded s (at centered i) (at h (i * 24 + a)) y → t ≡ laneSums (i + 1) centered h a b
   unfolding laneSums summedBy
   lanes-more i s t y e g d = d ∙ (rw (e, g, next i 0, next i 1, next i 2, next i 3))

@@ -47,8 +47,8 @@ abbrev pub squared : Row → Row
 squared y = four (λ k. at y k ⊗ at y k)
 
 -- a sample v more, which has the factor x at the angle a and the factors y at the other four
-abbrev pub added : Lanes → Float → Float → Row → Lanes
-added s v x y =
+abbrev pub lanesAdded : Lanes → Float → Float → Row → Lanes
+lanesAdded s v x y =
     let q = times x y in
     record { «q_sum» = plus (s .«q_sum») q; «q2_sum» = plus (s .«q2_sum») (squared q); num = plus (s .num) (times v q) }
 

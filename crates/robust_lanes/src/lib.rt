@@ -35,7 +35,7 @@ fn squared(y: [f32; 4]) -> [f32; 4]
 
 // A sample v more, which has the factor x at the angle a and the factors y at the other four.
 fn added(s: Lanes, v: f32, x: f32, y: [f32; 4]) -> Lanes
-    ensures { λ r. ⌜ r ≡ L.added s v x y ⌝ }
+    ensures { λ r. ⌜ r ≡ L.lanesAdded s v x y ⌝ }
 {
     let q = times(x, y);
     let old_q = s.q_sum;

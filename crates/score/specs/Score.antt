@@ -42,16 +42,16 @@ unfoldable pub axisRow : ℕ → Row → Row → Float → Float → Row
 axisRow n xs ys theta width = tab (rowAt (sinCos theta) width xs ys) n
 
 -- ---- score_pair_cached
-abbrev pub zeros : Sums
-zeros = record { q = nought; q2 = nought; dot = nought }
+abbrev pub zeroSums : Sums
+zeroSums = record { q = nought; q2 = nought; dot = nought }
 
-unfoldable pub summed : Row → Row → Row → ℕ → Sums → Sums
-summed valsCentered h0 h1 p s =
+unfoldable pub pixelSummed : Row → Row → Row → ℕ → Sums → Sums
+pixelSummed valsCentered h0 h1 p s =
     let q = at h0 p ⊗ at h1 p in
     record { q = s .q ⊕ q; q2 = s .q2 ⊕ q ⊗ q; dot = s .dot ⊕ q ⊗ at valsCentered p }
 
-unfoldable pub pairSums : ℕ → Row → Row → Row → Sums
-pairSums n valsCentered h0 h1 = iter (summed valsCentered h0 h1) zeros n
+unfoldable pub cachedSums : ℕ → Row → Row → Row → Sums
+cachedSums n valsCentered h0 h1 = iter (pixelSummed valsCentered h0 h1) zeroSums n
 
 unfoldable pub fitOf : Float → Float → Float → Float → Float → Float → Float → Float → Fit
 fitOf valEnergy nInv dot denom theta0 theta1 width edgeScore =
@@ -84,7 +84,7 @@ scorePairCached D theta0 theta1 width edgeScore h0 h1 =
     let nInv = one ⊘ count (D .n) in
     cond (validPair theta0 theta1)
     (cond (le (D .«val_energy») margin) Nothing
-    (scoredSums (D .«val_energy») nInv (pairSums (D .n) (D .«vals_centered») h0 h1) theta0 theta1 width edgeScore))
+    (scoredSums (D .«val_energy») nInv (cachedSums (D .n) (D .«vals_centered») h0 h1) theta0 theta1 width edgeScore))
     Nothing
 
 -- ---- precompute_edge_alignments: what is returned, and what stands in `out` then

@@ -23,7 +23,7 @@ use Rattle.score.specs.declared.Scored.{Scored}
 use Rattle.score.specs.declared.Scored.the-variants.{Found, Nothing}
 use Rattle.score.specs.declared.Sums.{Sums}
 use Rattle.score.specs.Score as S
-use Rattle.score.specs.Score.{margin, fitOf, pairSums, scoredSums, scorePairCached, Alignments, precomputeEdgeAlignments, fitStdErrors}
+use Rattle.score.specs.Score.{margin, fitOf, cachedSums, scoredSums, scorePairCached, Alignments, precomputeEdgeAlignments, fitStdErrors}
 
 -- ---- what every fit has that a pair's score can answer: P of every fit made of the two axes at the width
 abbrev Every : (Fit → Type 0) → Scored → Type 0
@@ -52,12 +52,12 @@ module _ (P : Fit → Type 0) (theta0 theta1 width edgeScore : Float) where
     where
       made : Scored
       made =
-          scoredSums (D .«val_energy») (one ⊘ count (D .n)) (pairSums (D .n) (D .«vals_centered») h0 h1) theta0 theta1 width edgeScore
+          scoredSums (D .«val_energy») (one ⊘ count (D .n)) (cachedSums (D .n) (D .«vals_centered») h0 h1) theta0 theta1 width edgeScore
 
       go : (b d : Bool) → Every P (cond b (cond d Nothing made) Nothing)
       go false d = tt
       go true true = tt
-      go true false = sums-every h (D .«val_energy») (one ⊘ count (D .n)) (pairSums (D .n) (D .«vals_centered») h0 h1)
+      go true false = sums-every h (D .«val_energy») (one ⊘ count (D .n)) (cachedSums (D .n) (D .«vals_centered») h0 h1)
 
 -- ---- a sound fit
 abbrev pub SoundFit : Fit → Type 0

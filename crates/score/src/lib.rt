@@ -76,7 +76,7 @@ pub fn axis_row(xs: &[f32], ys: &[f32], theta: f32, width: f32, row: &mut [f32])
 fn pair_sums(vals_centered: &[f32], h0: &[f32], h1: &[f32]) -> Sums
     requires { ⌜ (length (now h0) ≡ length (now «vals_centered»)) × (length (now h1) ≡ length (now «vals_centered»)) ⌝ }
     ensures { λ r. ⌜ r
-        ≡ S.pairSums (length (now («vals_centered» .entry))) (now («vals_centered» .entry)) (now (h0 .entry)) (now (h1 .entry)) ⌝ }
+        ≡ S.cachedSums (length (now («vals_centered» .entry))) (now («vals_centered» .entry)) (now (h0 .entry)) (now (h1 .entry)) ⌝ }
 {
     let n = vals_centered.len();
     let mut s = Sums {
@@ -166,10 +166,10 @@ pub fn score_pair_cached(
 ) -> Scored
     requires { ⌜ (length (now h0) ≡ length (now «vals_centered»)) × (length (now h1) ≡ length (now «vals_centered»))
         × (length (now «vals_centered») ≤ maxTanhPixels) ⌝ }
-    ensures { λ r. ⌜ OfValues «val_energy» (now («vals_centered» .entry))
+    ensures { λ r. ⌜ OfValues «val_energy» «vals_centered»
         (λ D. r ≡ S.scorePairCached D theta0 theta1 width «edge_score» (now (h0 .entry)) (now (h1 .entry))) ⌝ }
 {
-    if geometry::valid_pair(theta0, theta1) {} else {
+    if !geometry::valid_pair(theta0, theta1) {
         return Scored::Nothing;
     }
     if val_energy <= 1e-9 {
@@ -191,8 +191,7 @@ pub fn precompute_edge_alignments(
 ) -> f32
     requires { ⌜ (length (now «grad_weights») ≡ length (now «grad_angles»)) × (length (now terms) ≡ length (now «grad_angles»))
         × (candidates .n ≤ length (now out)) × (length (now out) ≤ 64) ⌝ }
-    ensures { λ r. ⌜ OfGradients (now («grad_angles» .entry)) (now («grad_weights» .entry))
-        (λ D. _≡_ {A = S.Alignments} (record { total = r; out = now (out .exit) })
+    ensures { λ r. ⌜ OfGradients «grad_angles» «grad_weights» (λ D. _≡_ {A = S.Alignments} (record { total = r; out = now (out .exit) })
         (S.precomputeEdgeAlignments D candidates (now (out .entry)))) ⌝ }
 {
     let total = score_edges::edge_weight_total(grad_weights);
@@ -348,7 +347,7 @@ pub fn fit_std_errors(xs: &[f32], ys: &[f32], vals_centered: &[f32], fit: Fit) -
     requires { ⌜ (length (now ys) ≡ length (now xs)) × (length (now «vals_centered») ≡ length (now xs))
         × (length (now xs) ≤ maxTanhPixels) ⌝ }
     ensures { λ r. ⌜ ((energy : Float) →
-        OfPixels energy (now (xs .entry)) (now (ys .entry)) (now («vals_centered» .entry)) (λ D. r ≡ S.fitStdErrors D fit)) ⌝ }
+        OfPixels energy xs ys «vals_centered» (λ D. r ≡ S.fitStdErrors D fit)) ⌝ }
 {
     let n = xs.len();
     let m = moments_of(xs, ys, vals_centered, fit);

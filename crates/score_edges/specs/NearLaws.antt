@@ -15,7 +15,7 @@ use Rattle.floats.specs.Ops.{_⊕_, _⊖_, nought, pi, tau, halfPi}
 use Rattle.floats.specs.Library.{remEuclid}
 use Rattle.floats.specs.UnitLaws.{Val, same-test, lt-val, le-val, add-val, sub-val, neg-val}
 use Rattle.floats.specs.RoundingLaws.{R, Rep, counted, R-exact, rep-mod}
-use Rattle.floats.specs.NonNegLaws.{clear, le-is, rounded, ltb-yes, ltb-no, sum-pn-ge, sum-np-gt}
+use Rattle.floats.specs.NonNegLaws.{plus-nn, le-is, rounded, ltb-yes, ltb-no, sum-pn-ge, sum-np-gt}
 use Rattle.floats.specs.RemLaws.{P, W, pi-val, tau-val, pi-rep, pi-nn}
 use Rattle.remainders.specs.RemainderLaws.{same-val, rem-is}
 use Rattle.geometry.specs.Geometry.{signedLineDelta}
@@ -84,7 +84,7 @@ less-above : (x : Float) (a : ℕ) → Val binary32 x false a → Rep binary32 a
 unfolding lessPi
 less-above x a v r h =
     ap (λ (z : Bool). cond z (x ⊖ pi) (cond (le x (neg pi)) (x ⊕ pi) x))
-    (le-is binary32 pi x P a pi-nn (clear binary32 x a v r) ∙ is-true (leb P a) (le→leb P a h))
+    (le-is binary32 pi x P a pi-nn (plus-nn binary32 x a v r) ∙ is-true (leb P a) (le→leb P a h))
 
 not-level : (a b : ℕ) → (a ≡ b → ⊥) → eqb a b ≡ false
 not-level a b h = same-test (eqb a b) false (λ t. h (eqb→eq a b t)) (λ t. absurd t)

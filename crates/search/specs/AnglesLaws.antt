@@ -15,7 +15,7 @@ use Rattle.geometry.specs.Geometry.{wrapPi}
 use Rattle.loops.specs.IterLaws.{iter-keeps}
 use Rattle.data.specs.Data.{DiskData}
 use Rattle.candidates.specs.Candidates.{maxCandidates, newSet, isNear, appended, pushUnique, Picking, bestBin, binAngle, tooLow, degrees4, degree1}
-use Rattle.candidates.specs.Candidates.{picked, left, pick, unpicked, maxPicks, peaks, greatest, histogramPeaks}
+use Rattle.candidates.specs.Candidates.{picked, pickingOver, pick, unpicked, maxPicks, peaks, greatest, histogramPeaks}
 use Rattle.candidates.specs.Candidates.{offDegs, offset, around, gridDeg, gridded, coarse, gradientCandidates}
 use Rattle.candidates.specs.declared.CandidateSet.{CandidateSet}
 use Rattle.search.specs.Search.{candidatesOf}
@@ -60,10 +60,10 @@ new-fits : Fitting newSet
 new-fits = record { each = replicate-fits maxCandidates nought (ofBits-fits binary32 0) }
 
 pick-fits : (smooth : Row) (maxV : Float) (k : ℕ) (s : Picking) → Fitting (s .found) → Fitting (pick smooth maxV k s .found)
-unfolding pick picked left binAngle
+unfolding pick picked pickingOver binAngle
 pick-fits smooth maxV k s h = go (s .over) (tooLow smooth maxV (bestBin smooth (s .used)))
   where
-    go : (a b : Bool) → Fitting (cond a s (cond b (left s) (picked (bestBin smooth (s .used)) s)) .found)
+    go : (a b : Bool) → Fitting (cond a s (cond b (pickingOver s) (picked (bestBin smooth (s .used)) s)) .found)
     go true b = h
     go false true = h
     go false false = push-fits (s .found) (binAngle (bestBin smooth (s .used))) degrees4 (div-fits binary32 _ (count histBins)) h

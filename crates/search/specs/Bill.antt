@@ -27,9 +27,9 @@ trialsOf (Best fit trials) = trials
 trialsOf (Missing trials) = trials
 
 -- 1 where a fit stands, 0 where none does
-abbrev pub filled : Scored → ℕ
-filled Nothing = 0
-filled (Found fit) = 1
+abbrev pub fitCount : Scored → ℕ
+fitCount Nothing = 0
+fitCount (Found fit) = 1
 
 -- ---- the allowed pairs of candidates, counted over i < j
 unfoldable pub allowedFrom : CandidateSet → ℕ → ℕ → ℕ
@@ -60,7 +60,7 @@ module _ (D : DiskData) (base0 base1 : Float) where
 
   -- of the 4 k trials, those that answered a fit
   unfoldable pub answeredAt : Float → ℕ → ℕ
-  answeredAt width c = iter (λ r c. c + filled (trial width r)) c pairsKept
+  answeredAt width c = iter (λ r c. c + fitCount (trial width r)) c pairsKept
 
   unfoldable pub answeredTrials : ℕ
   answeredTrials = iter (λ w. answeredAt (at widthsPx w)) 0 (length widthsPx)
@@ -71,4 +71,4 @@ module _ (D : DiskData) (base0 base1 : Float) where
 
   -- m: how many of the two places hold a fit
   unfoldable pub leadersKept : ℕ
-  leadersKept = filled (leadersOf .top .first) + filled (leadersOf .top .second)
+  leadersKept = fitCount (leadersOf .top .first) + fitCount (leadersOf .top .second)

@@ -15,7 +15,7 @@ use Rattle.geometry.specs.Geometry.{validPair}
 use Rattle.loops.specs.Loops.{iter, range}
 use Rattle.loops.specs.IterLaws.{range-start}
 use Rattle.data.specs.Data.{DiskData}
-use Rattle.candidates.specs.Candidates.{noPairs, pairAt, pairsFrom, pooled, pairScore, buildPairPool}
+use Rattle.candidates.specs.Candidates.{noPairs, pooledPair, pooledFrom, pooled, pairScore, buildPairPool}
 use Rattle.candidates.specs.declared.CandidateSet.{CandidateSet}
 use Rattle.candidates.specs.declared.Forced.{Forced}
 use Rattle.candidates.specs.declared.PairScore.{PairScore}
@@ -33,40 +33,40 @@ use Rattle.search.specs.declared.Leaders.{Leaders}
 use Rattle.search.specs.declared.DiskFit.the-variants.{Best, Missing}
 use Rattle.search.specs.Search.{topFits, behind, insertAt, insertTop, entered, noLeaders, triedAt, triedAll, lead, secondLed, firstLed, led}
 use Rattle.search.specs.Search.{candidatesOf, poolOf, searched, bestDiskFit}
-use Rattle.search.specs.Bill.{trialsOf, filled, allowedFrom, allowedOf, allowedPairs, poolHere, pairsTried, pairsKept}
+use Rattle.search.specs.Bill.{trialsOf, fitCount, allowedFrom, allowedOf, allowedPairs, poolHere, pairsTried, pairsKept}
 use Rattle.search.specs.Bill.{trial, answeredAt, answeredTrials, leadersOf, leadersKept}
 
 -- ---- the leaders after t trials, of which c answered: the second place is filled only where the first is
 pub record Placed (top : Top) (c : ℕ) : Type 0 where
-  pub places : filled (top .first) + filled (top .second) ≡ min topFits c
-  pub order : filled (top .second) ≤ filled (top .first)
+  pub places : fitCount (top .first) + fitCount (top .second) ≡ min topFits c
+  pub order : fitCount (top .second) ≤ fitCount (top .first)
 
 pub record LeadersCounted (l : Leaders) (t c : ℕ) : Type 0 where
   pub trials : l .trials ≡ t
   pub top : Placed (l .top) c
 
 -- what is put behind the first fills the second place
-behind-filled : (b : Scored) (f : Fit) → filled (behind b f) ≡ 1
+behind-filled : (b : Scored) (f : Fit) → fitCount (behind b f) ≡ 1
 unfolding behind
 behind-filled Nothing f = refl
 behind-filled (Found w) f = go (fitIsBetter f w)
   where
-    go : (t : Bool) → filled (cond t (Found f) (Found w)) ≡ 1
+    go : (t : Bool) → fitCount (cond t (Found f) (Found w)) ≡ 1
     go true = refl
     go false = refl
 
-insert-placed : (a b : Scored) (f : Fit) (c : ℕ) → filled a + filled b ≡ min topFits c → filled b ≤ filled a → Placed (insertAt a b f) (c + 1)
+insert-placed : (a b : Scored) (f : Fit) (c : ℕ) → fitCount a + fitCount b ≡ min topFits c → fitCount b ≤ fitCount a → Placed (insertAt a b f) (c + 1)
 unfolding insertAt
 insert-placed Nothing b f c e o = record { places = omega arith; order = omega arith }
 insert-placed (Found v) b f c e o = go (fitIsBetter f v) (behind-filled b f)
   where
     go :
-        (t : Bool) → filled (behind b f) ≡ 1 →
+        (t : Bool) → fitCount (behind b f) ≡ 1 →
         Placed (cond t (record { first = Found f; second = Found v }) (record { first = Found v; second = behind b f })) (c + 1)
     go true h = record { places = omega arith; order = omega arith }
     go false h = record { places = omega arith; order = omega arith }
 
-entered-counted : (l : Leaders) (x : Scored) (t c : ℕ) → LeadersCounted l t c → LeadersCounted (entered l x) (t + 1) (c + filled x)
+entered-counted : (l : Leaders) (x : Scored) (t c : ℕ) → LeadersCounted l t c → LeadersCounted (entered l x) (t + 1) (c + fitCount x)
 unfolding entered insertTop
 entered-counted l Nothing t c h =
     let z : c + 0 ≡ c = omega arith in
@@ -77,20 +77,20 @@ entered-counted l (Found f) t c h =
 
 turns-counted :
     (g : ℕ → Scored) (l : Leaders) (t c n : ℕ) → LeadersCounted l t c →
-    LeadersCounted (iter (λ r l. entered l (g r)) l n) (t + n) (iter (λ r c. c + filled (g r)) c n)
+    LeadersCounted (iter (λ r l. entered l (g r)) l n) (t + n) (iter (λ r c. c + fitCount (g r)) c n)
 unfolding iter
 turns-counted g l t c zero h = let z : t + 0 ≡ t = omega arith in rw z h
 turns-counted g l t c (suc n) h =
     let z : t + suc n ≡ t + n + 1 = omega arith in
     let i = turns-counted g l t c n h in
-    rw z (entered-counted (iter (λ r l. entered l (g r)) l n) (g n) (t + n) (iter (λ r c. c + filled (g r)) c n) i)
+    rw z (entered-counted (iter (λ r l. entered l (g r)) l n) (g n) (t + n) (iter (λ r c. c + fitCount (g r)) c n) i)
 
 -- ---- the bill of what is led
 lead-trials : (D : DiskData) (v : Fit) (s : Refined) → lead D v s .trials ≡ s .trials + 24
 unfolding lead
 lead-trials D v s = ap (_+_ (s .trials)) (refine-trials D v)
 
-places-billed : (D : DiskData) (t : ℕ) (a b : Scored) → filled b ≤ filled a → trialsOf (firstLed D t a b) ≡ t + 24 * (filled a + filled b)
+places-billed : (D : DiskData) (t : ℕ) (a b : Scored) → fitCount b ≤ fitCount a → trialsOf (firstLed D t a b) ≡ t + 24 * (fitCount a + fitCount b)
 unfolding firstLed secondLed
 places-billed D t Nothing b o = omega arith
 places-billed D t (Found v) Nothing o = let e = lead-trials D v (record { best = v; trials = t }) in omega arith
@@ -114,25 +114,25 @@ iter-through g f h s (suc n) e = e n (iter f s n) ∙ ap (h n) (iter-through g f
 
 module _ (candidates : CandidateSet) (edgeAlign : Row) (gradTotal : Float) (forceSeed forceHist : Forced) where
   pair-counted :
-      (i j : ℕ) (p : Pool) → pairAt candidates edgeAlign gradTotal forceSeed forceHist i j p .n
+      (i j : ℕ) (p : Pool) → pooledPair candidates edgeAlign gradTotal forceSeed forceHist i j p .n
       ≡ cond (validPair (at (candidates .angles) i) (at (candidates .angles) j)) (p .n + 1) (p .n)
-  unfolding pairAt pooled
+  unfolding pooledPair pooled
   pair-counted i j p = go (validPair (at (candidates .angles) i) (at (candidates .angles) j))
     where
       go : (b : Bool) → cond b (pooled (pairScore edgeAlign gradTotal forceSeed forceHist i j) p) p .n ≡ cond b (p .n + 1) (p .n)
       go true = refl
       go false = refl
 
-  row-counted : (i : ℕ) (p : Pool) → pairsFrom candidates edgeAlign gradTotal forceSeed forceHist i p .n ≡ allowedFrom candidates i (p .n)
-  unfolding pairsFrom allowedFrom range
+  row-counted : (i : ℕ) (p : Pool) → pooledFrom candidates edgeAlign gradTotal forceSeed forceHist i p .n ≡ allowedFrom candidates i (p .n)
+  unfolding pooledFrom allowedFrom range
   row-counted i p =
-      iter-through (λ p. p .n) (λ d. pairAt candidates edgeAlign gradTotal forceSeed forceHist i (i + 1 + d)) _ p (candidates .n - (i + 1))
+      iter-through (λ p. p .n) (λ d. pooledPair candidates edgeAlign gradTotal forceSeed forceHist i (i + 1 + d)) _ p (candidates .n - (i + 1))
       (λ d x. pair-counted i (i + 1 + d) x)
 
   pool-counted : buildPairPool candidates edgeAlign gradTotal forceSeed forceHist .n ≡ allowedOf candidates
   unfolding buildPairPool allowedOf
   pool-counted =
-      iter-through (λ p. p .n) (pairsFrom candidates edgeAlign gradTotal forceSeed forceHist) (allowedFrom candidates) noPairs (candidates .n) row-counted
+      iter-through (λ p. p .n) (pooledFrom candidates edgeAlign gradTotal forceSeed forceHist) (allowedFrom candidates) noPairs (candidates .n) row-counted
 
 -- fewer than two candidates have none
 few-allowed : (candidates : CandidateSet) → candidates .n < 2 → allowedOf candidates ≡ 0
@@ -192,7 +192,7 @@ module _ (D : DiskData) (base0 base1 : Float) where
       at-width w l t c h = turns-counted (trial D base0 base1 (at widthsPx w)) l t c k h
 
   -- the second place is filled only where the first is
-  leaders-in-order : filled (leadersOf D base0 base1 .top .second) ≤ filled (leadersOf D base0 base1 .top .first)
+  leaders-in-order : fitCount (leadersOf D base0 base1 .top .second) ≤ fitCount (leadersOf D base0 base1 .top .first)
   leaders-in-order = leaders-counted .top .order
 
   -- m is the lesser of 2 and the trials that answered
@@ -235,7 +235,7 @@ module _ (D : DiskData) (base0 base1 : Float) where
   disk-bill =
       let l = leadersOf D base0 base1 in
       ap trialsOf best-is-led ∙ places-billed D (l .trials) (l .top .first) (l .top .second) leaders-in-order ∙
-      ap (λ t. t + 24 * (filled (l .top .first) + filled (l .top .second))) (leaders-counted .trials)
+      ap (λ t. t + 24 * (fitCount (l .top .first) + fitCount (l .top .second))) (leaders-counted .trials)
 
   pub disk-bill-most : trialsOf (bestDiskFit D base0 base1) ≤ 144
   disk-bill-most = let e = disk-bill in let k = pairs-most in let m = leaders-most in omega arith
@@ -254,7 +254,7 @@ module _ (D : DiskData) (base0 base1 : Float) where
       second (Found w) s e = never e
 
       go :
-          (a b : Scored) → filled b ≤ filled a → firstLed D (leadersOf D base0 base1 .trials) a b ≡ Missing t → filled a + filled b ≡ 0
+          (a b : Scored) → fitCount b ≤ fitCount a → firstLed D (leadersOf D base0 base1 .trials) a b ≡ Missing t → fitCount a + fitCount b ≡ 0
       go Nothing b o e = omega arith
       go (Found v) b o e = absurd (second b _ e)
 

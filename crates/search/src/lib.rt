@@ -10,7 +10,7 @@ use search_refine::Refined;
 ghost use mathlib.Core.Path.{_≡_};
 ghost use Prim.Native.Nat.{_+_, _*_, _≤_, _<_};
 ghost use lib.ListN.{length, take};
-ghost use Rattle.data.specs.Data.{diskOf, OfPixels, OfValues, OfGradients, DiskSized, maxTanhPixels};
+ghost use Rattle.data.specs.Data.{lentDisk, OfPixels, OfValues, OfGradients, DiskSized, maxTanhPixels};
 ghost use Rattle.candidates.specs.Candidates.{maxPaired, maxPairs};
 ghost use Rattle.search.specs.Search as S;
 ghost use Rattle.search.specs.Cache as K;
@@ -127,7 +127,7 @@ fn score_cached(
     cache: &[f32],
 ) -> Scored
     requires { ⌜ (p .i < maxPaired) × (p .j < maxPaired) × (length (now «vals_centered») ≤ maxTanhPixels) × (length (now cache) ≡ K.cacheRoom) ⌝ }
-    ensures { λ r. ⌜ OfValues «val_energy» (now («vals_centered» .entry)) (λ D. r ≡ K.cachedScore D candidates width p (now (cache .entry))) ⌝ }
+    ensures { λ r. ⌜ OfValues «val_energy» «vals_centered» (λ D. r ≡ K.cachedScore D candidates width p (now (cache .entry))) ⌝ }
 {
     let i = p.i as usize;
     let j = p.j as usize;
@@ -164,8 +164,7 @@ fn try_pair(
         × K.Pixels (now xs) (now ys) (now «vals_centered») × K.Cached (now xs) (now ys) candidates width (pass .filled) (now cache) ⌝ }
     ensures { λ r. ⌜ K.Cached (now (xs .entry)) (now (ys .entry)) candidates width (r .filled) (now (cache .exit))
         × (r .leaders .trials ≡ pass .leaders .trials + 1)
-        × OfPixels «val_energy» (now (xs .entry)) (now (ys .entry)) (now («vals_centered» .entry))
-        (λ D. r .leaders ≡ S.entered (pass .leaders) (S.pairScored D candidates width p)) ⌝ }
+        × OfPixels «val_energy» xs ys «vals_centered» (λ D. r .leaders ≡ S.entered (pass .leaders) (S.pairScored D candidates width p)) ⌝ }
 {
     let i = p.i as usize;
     let j = p.j as usize;
@@ -192,8 +191,7 @@ fn try_width(
     requires { ⌜ (leaders .trials ≤ 72) × K.Listed ranked × K.Pixels (now xs) (now ys) (now «vals_centered»)
         × (length (now cache) ≡ K.cacheRoom) ⌝ }
     ensures { λ r. ⌜ (length (now (cache .exit)) ≡ K.cacheRoom) × (r .trials ≡ leaders .trials + ranked .n)
-        × OfPixels «val_energy» (now (xs .entry)) (now (ys .entry)) (now («vals_centered» .entry))
-        (λ D. r ≡ S.triedAt D candidates (take (ranked .n) (ranked .pairs)) width leaders) ⌝ }
+        × OfPixels «val_energy» xs ys «vals_centered» (λ D. r ≡ S.triedAt D candidates (take (ranked .n) (ranked .pairs)) width leaders) ⌝ }
 {
     let k = ranked.n;
     let filled = [false; candidates::MAX_PAIRED];
@@ -227,8 +225,7 @@ fn try_widths(
 ) -> Leaders
     requires { ⌜ K.Listed ranked × K.Pixels (now xs) (now ys) (now «vals_centered») × (length (now cache) ≡ K.cacheRoom) ⌝ }
     ensures { λ r. ⌜ (r .trials ≡ 4 * ranked .n)
-        × OfPixels «val_energy» (now (xs .entry)) (now (ys .entry)) (now («vals_centered» .entry))
-        (λ D. r ≡ S.triedAll D candidates (take (ranked .n) (ranked .pairs))) ⌝ }
+        × OfPixels «val_energy» xs ys «vals_centered» (λ D. r ≡ S.triedAll D candidates (take (ranked .n) (ranked .pairs))) ⌝ }
 {
     let mut leaders = Leaders {
         top: Top {
@@ -265,8 +262,7 @@ fn try_all(
 ) -> Leaders
     requires { ⌜ K.Listed ranked × K.Pixels (now xs) (now ys) (now «vals_centered») ⌝ }
     ensures { λ r. ⌜ (r .trials ≡ 4 * ranked .n)
-        × OfPixels «val_energy» (now (xs .entry)) (now (ys .entry)) (now («vals_centered» .entry))
-        (λ D. r ≡ S.triedAll D candidates (take (ranked .n) (ranked .pairs))) ⌝ }
+        × OfPixels «val_energy» xs ys «vals_centered» (λ D. r ≡ S.triedAll D candidates (take (ranked .n) (ranked .pairs))) ⌝ }
 {
     let mut cache = [0.0f32; CACHE];
     try_widths(
@@ -292,9 +288,7 @@ fn lead(
     grad_weights: &[f32],
 ) -> Refined
     requires { ⌜ (s .trials < 1000) × DiskSized (now xs) (now ys) (now «vals_centered») (now «grad_angles») (now «grad_weights») ⌝ }
-    ensures { λ r. ⌜ (r .trials ≡ s .trials + 24) × (r ≡ S.lead
-        (diskOf «val_energy» (now (xs .entry)) (now (ys .entry)) (now («vals_centered» .entry)) (now («grad_angles» .entry)) (now («grad_weights» .entry)))
-        seed s) ⌝ }
+    ensures { λ r. ⌜ (r .trials ≡ s .trials + 24) × (r ≡ S.lead (lentDisk «val_energy» xs ys «vals_centered» «grad_angles» «grad_weights») seed s) ⌝ }
 {
     let best = s.best;
     let mut rows = [0.0f32; search_rows::ROWS];
@@ -327,8 +321,7 @@ fn led(
     grad_weights: &[f32],
 ) -> DiskFit
     requires { ⌜ (leaders .trials ≤ 96) × DiskSized (now xs) (now ys) (now «vals_centered») (now «grad_angles») (now «grad_weights») ⌝ }
-    ensures { λ r. ⌜ r ≡ S.led
-        (diskOf «val_energy» (now (xs .entry)) (now (ys .entry)) (now («vals_centered» .entry)) (now («grad_angles» .entry)) (now («grad_weights» .entry)))
+    ensures { λ r. ⌜ r ≡ S.led (lentDisk «val_energy» xs ys «vals_centered» «grad_angles» «grad_weights»)
         leaders ⌝ }
 {
     let top = leaders.top;
@@ -379,8 +372,7 @@ fn pool_of(
 ) -> Pool
     requires { ⌜ (candidates .n ≤ maxPaired) × (length (now «grad_weights») ≡ length (now «grad_angles»))
         × (length (now «grad_angles») ≤ maxTanhPixels) ⌝ }
-    ensures { λ r. ⌜ (r .n ≤ maxPairs) × OfGradients (now («grad_angles» .entry)) (now («grad_weights» .entry))
-        (λ D. r ≡ S.poolOf D candidates base0 base1) ⌝ }
+    ensures { λ r. ⌜ (r .n ≤ maxPairs) × OfGradients «grad_angles» «grad_weights» (λ D. r ≡ S.poolOf D candidates base0 base1) ⌝ }
 {
     let mut edge_align = [0.0f32; candidates::MAX_CANDIDATES];
     let mut terms = [0.0f32; data::MAX_TANH_PIXELS];
@@ -412,8 +404,7 @@ fn search_set(
 ) -> DiskFit
     requires { ⌜ (2 ≤ candidates .n) × (candidates .n ≤ maxPaired)
         × DiskSized (now xs) (now ys) (now «vals_centered») (now «grad_angles») (now «grad_weights») ⌝ }
-    ensures { λ r. ⌜ r ≡ S.searched
-        (diskOf «val_energy» (now (xs .entry)) (now (ys .entry)) (now («vals_centered» .entry)) (now («grad_angles» .entry)) (now («grad_weights» .entry)))
+    ensures { λ r. ⌜ r ≡ S.searched (lentDisk «val_energy» xs ys «vals_centered» «grad_angles» «grad_weights»)
         candidates base0 base1 ⌝ }
 {
     let pool = pool_of(base0, base1, grad_angles, grad_weights, candidates);
@@ -445,8 +436,7 @@ pub fn best_disk_fit(
     grad_weights: &[f32],
 ) -> DiskFit
     requires { ⌜ DiskSized (now xs) (now ys) (now «vals_centered») (now «grad_angles») (now «grad_weights») ⌝ }
-    ensures { λ r. ⌜ r ≡ S.bestDiskFit
-        (diskOf «val_energy» (now (xs .entry)) (now (ys .entry)) (now («vals_centered» .entry)) (now («grad_angles» .entry)) (now («grad_weights» .entry)))
+    ensures { λ r. ⌜ r ≡ S.bestDiskFit (lentDisk «val_energy» xs ys «vals_centered» «grad_angles» «grad_weights»)
         base0 base1 ⌝ }
 {
     let b0 = geometry::wrap_pi(base0);

@@ -15,8 +15,8 @@ use Rattle.floats.specs.Rows.{Row, at}
 use Rattle.floats.specs.DiscreteLaws.{float-discrete}
 use Rattle.geometry.specs.Geometry.{validPair}
 use Rattle.loops.specs.Loops.{iter, range}
-use Rattle.candidates.specs.Candidates.{maxPaired, maxPairs, noPairs, pairScore, pooled, pairAt, pairsFrom, buildPairPool}
-use Rattle.candidates.specs.CandidatesLaws.{rowsBefore, rows-next, rows-most, room}
+use Rattle.candidates.specs.Candidates.{maxPaired, maxPairs, noPairs, pairScore, pooled, pooledPair, pooledFrom, buildPairPool}
+use Rattle.candidates.specs.CandidatesLaws.{rowsBefore, rows-next, rows-most, row-room}
 use Rattle.candidates.specs.declared.CandidateSet.{CandidateSet}
 use Rattle.candidates.specs.declared.Forced.{Forced}
 use Rattle.candidates.specs.declared.PairScore.{PairScore}
@@ -105,13 +105,13 @@ fresh-on c d k m p h l f =
 
 module _ (candidates : CandidateSet) (edgeAlign : Row) (gradTotal : Float) (forceSeed forceHist : Forced) where
   abbrev pairHere : ℕ → ℕ → Pool → Pool
-  pairHere = pairAt candidates edgeAlign gradTotal forceSeed forceHist
+  pairHere = pooledPair candidates edgeAlign gradTotal forceSeed forceHist
 
   abbrev rowHere : ℕ → Pool → Pool
-  rowHere = pairsFrom candidates edgeAlign gradTotal forceSeed forceHist
+  rowHere = pooledFrom candidates edgeAlign gradTotal forceSeed forceHist
 
   pair-fresh : (i j c : ℕ) (p : Pool) → c < maxPairs → Fresh c (spot i j) p → Fresh (c + 1) (spot i (j + 1)) (pairHere i j p)
-  unfolding pairAt pooled pairScore
+  unfolding pooledPair pooled pairScore
   pair-fresh i j c p h f = go (validPair (at (candidates .angles) i) (at (candidates .angles) j))
     where
       x : PairScore
@@ -145,13 +145,13 @@ module _ (candidates : CandidateSet) (edgeAlign : Row) (gradTotal : Float) (forc
       rw (z, y) (pair-fresh i (i + 1 + d) (c + d) _ (omega arith) (row-fresh i c p d (omega arith) f))
 
   rows-fresh : (i : ℕ) → candidates .n ≤ maxPaired → i ≤ candidates .n → Fresh (rowsBefore (candidates .n) i) (spot i 0) (iter rowHere noPairs i)
-  unfolding iter pairsFrom range
+  unfolding iter pooledFrom range
   rows-fresh zero h l = record { places = refl; most = omega arith; rising = omega arith }
   rows-fresh (suc i) h l =
       let n = candidates .n in
       let r = rowsBefore n i in
       let e : rowsBefore n (suc i) ≡ r + (n - (i + 1)) = rw add-one at (rows-next n i) ∙ ap (λ (k : ℕ). r + k) (omega arith) in
-      let c = room n i h l in
+      let c = row-room n i h l in
       let p : Pool = iter rowHere noPairs i in
       let b = fresh-on r r (spot i 0) (spot i (i + 1)) p (omega arith) (omega arith) (rows-fresh i h (omega arith)) in
       let f = row-fresh i r p (n - (i + 1)) (omega arith) b in

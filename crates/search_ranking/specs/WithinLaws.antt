@@ -7,7 +7,7 @@ use lib.Ieee.{Float}
 use Rattle.floats.specs.Rows.{Row, at}
 use Rattle.geometry.specs.Geometry.{validPair}
 use Rattle.loops.specs.IterLaws.{iter-keeps, iter-keeps-below, range-keeps-below}
-use Rattle.candidates.specs.Candidates.{maxPairs, noPair, noPairs, pairScore, pooled, pairAt, pairsFrom, buildPairPool}
+use Rattle.candidates.specs.Candidates.{maxPairs, noPair, noPairs, pairScore, pooled, pooledPair, pooledFrom, buildPairPool}
 use Rattle.candidates.specs.declared.CandidateSet.{CandidateSet}
 use Rattle.candidates.specs.declared.Forced.{Forced}
 use Rattle.candidates.specs.declared.PairScore.{PairScore}
@@ -80,13 +80,13 @@ module _ (candidates : CandidateSet) (edgeAlign : Row) (gradTotal : Float) (forc
   Fine p = PairsWithin (candidates .n) (p .pairs)
 
   abbrev pairHere : ℕ → ℕ → Pool → Pool
-  pairHere = pairAt candidates edgeAlign gradTotal forceSeed forceHist
+  pairHere = pooledPair candidates edgeAlign gradTotal forceSeed forceHist
 
   abbrev rowHere : ℕ → Pool → Pool
-  rowHere = pairsFrom candidates edgeAlign gradTotal forceSeed forceHist
+  rowHere = pooledFrom candidates edgeAlign gradTotal forceSeed forceHist
 
   pair-within : (i j : ℕ) (p : Pool) → i < candidates .n → j < candidates .n → Fine p → Fine (pairHere i j p)
-  unfolding pairAt pooled pairScore
+  unfolding pooledPair pooled pairScore
   pair-within i j p h k w = go (validPair (at (candidates .angles) i) (at (candidates .angles) j))
     where
       x : PairScore
@@ -97,7 +97,7 @@ module _ (candidates : CandidateSet) (edgeAlign : Row) (gradTotal : Float) (forc
       go false = w
 
   row-within : (i : ℕ) (p : Pool) → i < candidates .n → Fine p → Fine (rowHere i p)
-  unfolding pairsFrom
+  unfolding pooledFrom
   row-within i p h w = range-keeps-below Fine (pairHere i) p (i + 1) (candidates .n) w (λ j x k v. pair-within i j x h k v)
 
   pub pool-within : 0 < candidates .n → PairsWithin (candidates .n) (buildPairPool candidates edgeAlign gradTotal forceSeed forceHist .pairs)

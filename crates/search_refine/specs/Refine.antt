@@ -31,12 +31,12 @@ unlessMiddle d0 d1 = cond (eq d0 nought && eq d1 nought) [] (by d0 d1 ∷ [])
 unfoldable pub beside : Float → Float → List Offset
 beside step d0 = unlessMiddle d0 (neg step) ++ (unlessMiddle d0 nought ++ unlessMiddle d0 step)
 
-unfoldable pub around : Float → List Offset
-around step = beside step (neg step) ++ (beside step nought ++ beside step step)
+unfoldable pub offsetsAround : Float → List Offset
+offsetsAround step = beside step (neg step) ++ (beside step nought ++ beside step step)
 
 -- for step_deg in [1.0, 0.5, 0.25]
 unfoldable pub offsets : List Offset
-offsets = around (toRadians (lit 0x3f80_0000)) ++ (around (toRadians (lit 0x3f00_0000)) ++ around (toRadians (lit 0x3e80_0000)))
+offsets = offsetsAround (toRadians (lit 0x3f80_0000)) ++ (offsetsAround (toRadians (lit 0x3f00_0000)) ++ offsetsAround (toRadians (lit 0x3e80_0000)))
 
 -- ---- refine_fit_cached
 module _ (D : DiskData) (total : Float) where

@@ -26,7 +26,7 @@ use Rattle.search_rows.specs.Rows.{Stands, SlotsKept, heldScore}
 use Rattle.search_rows.specs.declared.Slots.{Slots}
 use Rattle.search_refine.specs.declared.Offset.{Offset}
 use Rattle.search_refine.specs.declared.Refined.{Refined}
-use Rattle.search_refine.specs.Refine.{by, unlessMiddle, beside, around, offsets, nowhere, neighbour, betterOf, tried}
+use Rattle.search_refine.specs.Refine.{by, unlessMiddle, beside, offsetsAround, offsets, nowhere, neighbour, betterOf, tried}
 use Rattle.search_refine.specs.Refine.{bestAfter, refineFitCached, answers, refineFit}
 
 -- ---- how the code finds the offsets of neighbour t: eight a step, the middle of the square passed over
@@ -43,7 +43,7 @@ abbrev offsetBy : ℕ → Offset
 offsetBy t = by (at (sides (stepAt t)) (placeOf t / 3)) (at (sides (stepAt t)) (placeOf t % 3))
 
 all-offsets : tab offsetBy 24 ≡ offsets
-unfolding tab offsets around beside unlessMiddle toRadians eq mul neg ofBits
+unfolding tab offsets offsetsAround beside unlessMiddle toRadians eq mul neg ofBits
 all-offsets = refl
 
 pub offset-at : (t : ℕ) → t < 24 → offsetBy t ≡ getD offsets t nowhere

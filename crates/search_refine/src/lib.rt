@@ -7,7 +7,7 @@ use search_rows::Slots;
 ghost use mathlib.Core.Path.{_≡_};
 ghost use Prim.Native.Nat.{_+_, _<_};
 ghost use lib.ListN.{length, getD};
-ghost use Rattle.data.specs.Data.{diskOf, DiskSized};
+ghost use Rattle.data.specs.Data.{lentDisk, DiskSized};
 ghost use Rattle.search_rows.specs.Rows.{SlotsKept, rowsRoom};
 ghost use Rattle.search_refine.specs.Refine as R;
 ghost use Rattle.search_refine.specs.RefineLaws as L;
@@ -91,12 +91,11 @@ fn try_neighbour(
         × SlotsKept (now (xs .entry)) (now (ys .entry)) (now («grad_angles» .entry)) (now («grad_weights» .entry))
         (r .refined .best .width) (r .slots) (now (rows .exit))
         × (r .slots .total ≡ turn .slots .total)
-        × (r .refined .best ≡ R.tried
-        (diskOf «val_energy» (now (xs .entry)) (now (ys .entry)) (now («vals_centered» .entry)) (now («grad_angles» .entry)) (now («grad_weights» .entry)))
+        × (r .refined .best ≡ R.tried (lentDisk «val_energy» xs ys «vals_centered» «grad_angles» «grad_weights»)
         (turn .slots .total) (getD R.offsets t R.nowhere) (turn .refined .best)) ⌝ }
 {
-    let refined = turn.refined;
-    let best = refined.best;
+    let before = turn.refined;
+    let best = before.best;
     let b1 = best.theta1;
     let b2 = best.theta2;
     let width = best.width;
@@ -110,11 +109,8 @@ fn try_neighbour(
     let j = search_rows::slot_of(one, 3, b2, t2, k % 3);
     let slots = search_rows::hold(xs, ys, grad_angles, grad_weights, one, t2, width, j, rows);
     let answer = search_rows::score_held(val_energy, vals_centered, slots, width, i, j, rows);
-    let next = judge(refined, answer);
-    Turn {
-        refined: next,
-        slots,
-    }
+    let refined = judge(before, answer);
+    Turn { refined, slots }
 }
 
 // Step 6 of best_disk_fit, for one leader: 24 neighbours of a fit. `rows` has room for seven rows;
@@ -130,8 +126,7 @@ pub fn refine_fit_cached(
     rows: &mut [f32],
 ) -> Refined
     requires { ⌜ DiskSized (now xs) (now ys) (now «vals_centered») (now «grad_angles») (now «grad_weights») × (length (now rows) ≡ rowsRoom) ⌝ }
-    ensures { λ r. ⌜ r ≡ R.refineFitCached
-        (diskOf «val_energy» (now (xs .entry)) (now (ys .entry)) (now («vals_centered» .entry)) (now («grad_angles» .entry)) (now («grad_weights» .entry)))
+    ensures { λ r. ⌜ r ≡ R.refineFitCached (lentDisk «val_energy» xs ys «vals_centered» «grad_angles» «grad_weights»)
         seed ⌝ }
 {
     let total = score_edges::edge_weight_total(grad_weights);

@@ -74,10 +74,10 @@ six : (n : ℕ) (rows : Row) → length (rowsOf n rows 6) ≡ 6
 six n rows = tab-length (rowOf n rows) 6
 
 -- a row is made: row q comes back as r, and the scratch as u
-pub filled :
+pub row-filled :
     (n q : ℕ) (r u rows : Row) → n ≤ maxTanhPixels → q < 6 → length rows ≡ rowsRoom → length r ≡ n → length u ≡ n →
     RowFilled n q r rows (lent n 6 u (lent n q r rows))
-filled n q r u rows m h l er eu =
+row-filled n q r u rows m h l er eu =
     record {
       is = ext-getD [] (rowsOf n after 6) (set (rowsOf n rows 6) q r) (six n after ∙ sym (length-set (rowsOf n rows 6) q r ∙ six n rows))
           (λ j k. each j (rw (six n after) at k));

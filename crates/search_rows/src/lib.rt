@@ -160,7 +160,7 @@ pub fn score_held(
     rows: &[f32],
 ) -> Scored
     requires { ⌜ (i < 6) × (j < 6) × (length (now «vals_centered») ≤ maxTanhPixels) × (length (now rows) ≡ R.rowsRoom) ⌝ }
-    ensures { λ r. ⌜ OfValues «val_energy» (now («vals_centered» .entry)) (λ D. r ≡ R.heldScore D slots width i j (now (rows .entry))) ⌝ }
+    ensures { λ r. ⌜ OfValues «val_energy» «vals_centered» (λ D. r ≡ R.heldScore D slots width i j (now (rows .entry))) ⌝ }
 {
     let n = vals_centered.len();
     let a = i * data::MAX_TANH_PIXELS;

@@ -142,12 +142,8 @@ fn pair_sums(centered: &[f32], h1: &[f32], h2: &[f32]) -> Sums
 fn kept(s: SeedCandidate) -> Seed
     ensures { λ r. ⌜ r ≡ S.kept s ⌝ }
 {
-    if floats::is_finite(s.rms) {
-        if floats::is_finite(s.amp) {
-            if floats::is_finite(s.mu) {
-                return Seed::Found(s);
-            }
-        }
+    if floats::is_finite(s.rms) && floats::is_finite(s.amp) && floats::is_finite(s.mu) {
+        return Seed::Found(s);
     }
     Seed::Nothing
 }

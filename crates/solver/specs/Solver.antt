@@ -179,11 +179,11 @@ sines n ringPhi = tab (λ i. sinCos (at ringPhi i) .s) n
 abbrev pub cosines : ℕ → Row → Row
 cosines n ringPhi = tab (λ i. sinCos (at ringPhi i) .c) n
 
-abbrev pub whole : ℕ → Final → Started
-whole n f = record { fit = finished n (f .p) (f .last .m) (f .last .ssr); updates = f .updates }
+abbrev pub startFrom : ℕ → Final → Started
+startFrom n f = record { fit = finished n (f .p) (f .last .m) (f .last .ssr); updates = f .updates }
 
 -- solver.rs: fit_with_seed, with the number of updates that it made
 unfoldable pub fitWithSeed : ℕ → Row → Row → Params → Float → Started
 fitWithSeed n samples ringPhi seed centeredVar =
     cond (degenerate (seed .amp) centeredVar) (record { fit = degenerateFit centeredVar; updates = 0 })
-    (whole n (updates n samples (sines n ringPhi) (cosines n ringPhi) seed))
+    (startFrom n (updates n samples (sines n ringPhi) (cosines n ringPhi) seed))

@@ -30,7 +30,7 @@ use Rattle.solver.specs.declared.Sums.{Sums}
 use Rattle.solver.specs.declared.TwoAxisFit.{TwoAxisFit}
 use Rattle.solver.specs.declared.Started.{Started}
 use Rattle.solver.specs.Solver.{sampleAt, Normal, empty, added, grown, pass, cut, small, moved, stay, to, stepOf}
-use Rattle.solver.specs.Solver.{Final, updatesFrom, updates, sines, cosines, whole, finished}
+use Rattle.solver.specs.Solver.{Final, updatesFrom, updates, sines, cosines, startFrom, finished}
 use Rattle.solver.specs.Buffers.{RingNear, TurnedTo, Sines, Prepared, sampleFrom, PassFilled, summed, noSums, packed, spread, Stopped}
 
 -- ---- the angles
@@ -209,9 +209,9 @@ stopped-at p l jtj ssr k f em es e =
     }
 
 pub whole-stopped : (n : ℕ) (p : Params) (jtj : Matrix) (ssr : Float) (k : ℕ) (f : Final) (fit : TwoAxisFit) → Stopped p jtj ssr k f →
-    fit ≡ finished n p jtj ssr → _≡_ {A = Started} (record { fit = fit; updates = k }) (whole n f)
+    fit ≡ finished n p jtj ssr → _≡_ {A = Started} (record { fit = fit; updates = k }) (startFrom n f)
 whole-stopped n p jtj ssr k f fit s e = rw (← s .params, ← s .matrix, ← s .squares, ← s .updates, e)
 
 pub whole-prepared : (n : ℕ) (samples ringPhi sphi cphi : Row) (seed : Params) → Prepared ringPhi sphi cphi → length ringPhi ≡ n →
-    whole n (updates n samples sphi cphi seed) ≡ whole n (updates n samples (sines n ringPhi) (cosines n ringPhi) seed)
+    startFrom n (updates n samples sphi cphi seed) ≡ startFrom n (updates n samples (sines n ringPhi) (cosines n ringPhi) seed)
 whole-prepared n samples ringPhi sphi cphi seed h l = rw (h .s, h .c, l)

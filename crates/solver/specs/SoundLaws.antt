@@ -19,7 +19,7 @@ use Rattle.solver_axes.specs.declared.Axes.{Axes}
 use Rattle.solver.specs.declared.Params.{Params}
 use Rattle.solver.specs.declared.TwoAxisFit.{TwoAxisFit}
 use Rattle.solver.specs.Solver.{pass, cut, small, moved, Step, stay, to, stepOf, after, Final, updatesFrom, updates}
-use Rattle.solver.specs.Solver.{degenerateFit, degenerate, assembled, finished, whole, sines, cosines, fitWithSeed}
+use Rattle.solver.specs.Solver.{degenerateFit, degenerate, assembled, finished, startFrom, sines, cosines, fitWithSeed}
 
 -- ---- at most six updates
 after-most : (s : Step) (k m : ℕ) (a : Final) (f : Params → Final) → a .updates ≤ m → ((q : Params) → f q .updates ≤ m) → after s a f .updates ≤ m
@@ -45,7 +45,7 @@ start-most n samples ringPhi p centeredVar = go (degenerate (p .amp) centeredVar
     end : Final
     end = updates n samples (sines n ringPhi) (cosines n ringPhi) p
 
-    go : (b : Bool) → cond b (record { fit = degenerateFit centeredVar; updates = 0 }) (whole n end) .updates ≤ 6
+    go : (b : Bool) → cond b (record { fit = degenerateFit centeredVar; updates = 0 }) (startFrom n end) .updates ≤ 6
     go true = omega arith
     go false = updates-most n samples (sines n ringPhi) (cosines n ringPhi) p
 
@@ -129,6 +129,6 @@ start-sound n samples ringPhi p centeredVar h = go (degenerate (p .amp) centered
     held : ParamsHeld (end .p)
     held = unfold updates in from-held n samples (sines n ringPhi) (cosines n ringPhi) 6 0 p h
 
-    go : (b : Bool) → Sound (cond b (record { fit = degenerateFit centeredVar; updates = 0 }) (whole n end) .fit)
+    go : (b : Bool) → Sound (cond b (record { fit = degenerateFit centeredVar; updates = 0 }) (startFrom n end) .fit)
     go true = degenerate-sound centeredVar
     go false = finished-sound n (end .p) (end .last .m) (end .last .ssr) held

@@ -287,12 +287,7 @@ fn cut(d: f32) -> f32
 fn is_small(d1: f32, d2: f32, d3: f32) -> bool
     ensures { λ r. ⌜ r ≡ S.small d1 d2 d3 ⌝ }
 {
-    if floats::abs(d2) < GN_TOL {
-        if floats::abs(d3) < GN_TOL {
-            return floats::abs(d1) < 1e-4;
-        }
-    }
-    false
+    floats::abs(d2) < GN_TOL && floats::abs(d3) < GN_TOL && floats::abs(d1) < 1e-4
 }
 
 fn moved(p: Params, d0: f32, d1: f32, d2: f32, d3: f32) -> Params
@@ -423,7 +418,7 @@ pub fn fit_prepared(
     js: &mut [f32],
 ) -> Started
     requires { ⌜ B.PassRoom (now samples) (now sphi) (now cphi) (now js) ⌝ }
-    ensures { λ r. ⌜ r ≡ S.whole (length (now (samples .entry)))
+    ensures { λ r. ⌜ r ≡ S.startFrom (length (now (samples .entry)))
         (S.updates (length (now (samples .entry))) (now (samples .entry)) (now (sphi .entry)) (now (cphi .entry)) seed) ⌝ }
 {
     let mut jtj = [[0.0f32; 4]; 4];

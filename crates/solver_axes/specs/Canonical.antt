@@ -21,14 +21,14 @@ unfoldable pub placed : Float → Float → Float → Bool → Axes
 placed t d a w = let t1 = remEuclid binary32 t pi in record { theta1 = t1; theta2 = t1 ⊕ d; amp = a; swapped = w }
 
 -- both axes are wrapped already, and the amplitude is not negative: where the arc is at least PI the axes are exchanged
-unfoldable pub settled : Float → Float → Float → Axes
-settled t1 t2 a = let w = le pi (arc t1 t2) in placed (cond w t2 t1) (cond w (arc t2 t1) (arc t1 t2)) a w
+unfoldable pub axesSettled : Float → Float → Float → Axes
+axesSettled t1 t2 a = let w = le pi (arc t1 t2) in placed (cond w t2 t1) (cond w (arc t2 t1) (arc t1 t2)) a w
 
 -- solver.rs: canonicalize_tracking_swap; canonicalize is the same without the last field
 unfoldable pub canonicalizeTrackingSwap : Float → Float → Float → Axes
 canonicalizeTrackingSwap t1 t2 a =
     let n = lt a nought in
-    settled (cond n (wrapToTau (wrapToTau t1 ⊕ pi)) (wrapToTau t1)) (wrapToTau t2) (cond n (neg a) a)
+    axesSettled (cond n (wrapToTau (wrapToTau t1 ⊕ pi)) (wrapToTau t1)) (wrapToTau t2) (cond n (neg a) a)
 
 -- What the contracts say of ranges, beside their equations.
 -- r is x wrapped by TAU: from 0 to TAU, TAU itself included, for every x, and 0 where x is NaN or an infinity

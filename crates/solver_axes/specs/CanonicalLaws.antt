@@ -16,11 +16,11 @@ use Rattle.floats.specs.Ops.{_⊕_, _⊖_, nought, pi, tau}
 use Rattle.floats.specs.Library.{remEuclid}
 use Rattle.floats.specs.UnitLaws.{Val, lt-val, neg-val}
 use Rattle.floats.specs.RoundingLaws.{R, Rep, counted, R-exact, R-mono, R-upper, R-lower, R-zero, R-rep, rep-step, rep-mod}
-use Rattle.floats.specs.NonNegLaws.{NonNeg, or-r, ltb-no, ltb-yes, clear, lt-is, le-is, lt-of, le-of, add-nn, sub-nn, sub-neg}
+use Rattle.floats.specs.NonNegLaws.{NonNeg, or-r, ltb-no, ltb-yes, plus-nn, lt-is, le-is, lt-of, le-of, add-nn, sub-nn, sub-neg}
 use Rattle.floats.specs.RemLaws.{P, W, pi-val, tau-val, pi-rep, tau-rep, pi-nn, tau-nn, nought-val, nought-nn}
 use Rattle.floats.specs.RemLaws.{remEuclid-nn, remEuclid-neg, remEuclid-zero, remEuclid-range, remEuclid-wild}
 use Rattle.solver_axes.specs.declared.Axes.{Axes}
-use Rattle.solver_axes.specs.Canonical.{wrapToTau, arc, placed, settled, canonicalizeTrackingSwap, WrappedTau, CanonicalRange}
+use Rattle.solver_axes.specs.Canonical.{wrapToTau, arc, placed, axesSettled, canonicalizeTrackingSwap, WrappedTau, CanonicalRange}
 
 -- ---- wrapping
 abbrev Wrapped : Float → Type 0
@@ -187,7 +187,7 @@ amp-kept a n h =
 amp-turned : (a : Float) (n : ℕ) → Val binary32 a true n → Rep binary32 n → 0 < n → AmpRange (sized (lt a nought) a)
 amp-turned a n v r p =
     let e = lt-val binary32 a nought true n false 0 v nought-val ∙ ltb-yes 0 (n + 0) (plus p) in
-    let h = clear binary32 (neg a) n (neg-val binary32 a true n v) r in
+    let h = plus-nn binary32 (neg a) n (neg-val binary32 a true n v) r in
     subst (λ (b : Bool). AmpRange (sized b a)) (sym e)
     (or-r (isNan (neg a)) (le nought (neg a)) (le-of binary32 nought (neg a) 0 n nought-nn h zero-le))
   where
@@ -195,7 +195,7 @@ amp-turned a n v r p =
     plus h = omega arith
 
 amp-counted : (a : Float) (s : Bool) (n : ℕ) → Val binary32 a s n → Rep binary32 n → AmpRange (sized (lt a nought) a)
-amp-counted a false n v r = amp-kept a n (clear binary32 a n v r)
+amp-counted a false n v r = amp-kept a n (plus-nn binary32 a n v r)
 amp-counted a true n v r = elim (eq-zero-or-pos n) [
   | inl e ↦ amp-kept a n (record { sign = true; val = v; none = λ t. e; rep = r })
   | inr p ↦ amp-turned a n v r p
@@ -208,7 +208,7 @@ amp-all (inf false) p = unfold isNan lt le neg eq ofBits in tt
 amp-all (fin s m e) p = let q = counted binary32 (fin s m e) p tt in amp-counted (fin s m e) (q .sign) (q .count) (q .val) (q .rep)
 
 pub canonical-amp : (t1 t2 a : Float) → T (fits binary32 a) → let r = canonicalizeTrackingSwap t1 t2 a in T (isNan (r .amp) || le nought (r .amp))
-unfolding canonicalizeTrackingSwap settled placed
+unfolding canonicalizeTrackingSwap axesSettled placed
 canonical-amp t1 t2 a p = amp-all a p
 
 -- ---- the range
@@ -235,8 +235,8 @@ placed-range t d a w n c h g l z =
     }
 
 module _ (t1 t2 a : Float) (m n : ℕ) (h : NonNeg binary32 t1 m) (M : m ≤ W) (g : NonNeg binary32 t2 n) (N : n ≤ W) (z : AmpRange a) where
-  settled-range : InRange (settled t1 t2 a)
-  unfolding settled
+  settled-range : InRange (axesSettled t1 t2 a)
+  unfolding axesSettled
   settled-range =
       go (le pi (arc t1 t2)) (λ t. leb→le P (q .c) (subst T is t)) (λ t. nleb→lt P (q .c) (subst (λ (b : Bool). T (not b)) is t))
     where
@@ -258,7 +258,7 @@ module _ (t1 t2 a : Float) (p : T (fits binary32 t1)) (q : T (fits binary32 t2))
       first : Bool → Float
       first n = cond n (wrapToTau (wrapToTau t1 ⊕ pi)) (wrapToTau t1)
 
-      go : (n : Bool) → AmpRange (cond n (neg a) a) → InRange (settled (first n) (wrapToTau t2) (cond n (neg a) a))
+      go : (n : Bool) → AmpRange (cond n (neg a) a) → InRange (axesSettled (first n) (wrapToTau t2) (cond n (neg a) a))
       go true z =
           let x = wrapToTau t1 ⊕ pi in
           let u = wrap-range x (add-fits binary32 (wrapToTau t1) pi) in

@@ -42,7 +42,7 @@ fn placed(t: f32, d: f32, a: f32, w: bool) -> Axes
 
 // Exchanging the axes is the one way to the short arc that leaves the model as it is.
 fn settled(t1: f32, t2: f32, a: f32) -> Axes
-    ensures { λ r. ⌜ r ≡ C.settled t1 t2 a ⌝ }
+    ensures { λ r. ⌜ r ≡ C.axesSettled t1 t2 a ⌝ }
 {
     let diff = arc(t1, t2);
     if diff >= floats::PI {

@@ -7,7 +7,7 @@ use Rattle.loops.specs.Loops.{iter, range}
 use Rattle.loops.specs.IterLaws.{iter-zero, range-start, iter-more, range-more}
 use Rattle.candidates.specs.declared.Pool.{Pool}
 use Rattle.candidates.specs.Candidates as C
-use Rattle.candidates.specs.CandidatesLaws.{rowsBefore, rows-zero, rows-next, room}
+use Rattle.candidates.specs.CandidatesLaws.{rowsBefore, rows-zero, rows-next, row-room}
 use borrow.Author.Needs.{needs}
 use Rattle.candidates.proofs.build_pair_pool.Statement.{statement}
 use Rattle.candidates.proofs.build_pair_pool.Tie as tie
@@ -15,7 +15,7 @@ use Rattle.candidates.proofs.build_pair_pool.Tie as tie
 abbrev Inv-pairs : tie.InvT-pairs
 Inv-pairs edgeAlign gradTotal forceSeed forceHist candidates n pool₀ i j₀ pool j =
     (i < n) × (i + 1 ≤ j) × (j ≤ n) × (rowsBefore n i + (n - 1 - i) ≤ C.maxPairs) × (pool .n ≤ rowsBefore n i + (j - 1 - i))
-    × (pool ≡ range (C.pairAt candidates edgeAlign gradTotal forceSeed forceHist i) pool₀ (i + 1) j)
+    × (pool ≡ range (C.pooledPair candidates edgeAlign gradTotal forceSeed forceHist i) pool₀ (i + 1) j)
 
 abbrev μ-pairs : tie.MeasureT-pairs
 μ-pairs edgeAlign gradTotal forceSeed forceHist candidates n pool₀ i j₀ pool j = n - j
@@ -23,7 +23,7 @@ abbrev μ-pairs : tie.MeasureT-pairs
 abbrev Inv-loop : tie.InvT-loop
 Inv-loop edgeAlign gradTotal forceSeed forceHist candidates n pool₀ i₀ pool i =
     (i ≤ n) × (pool .n ≤ rowsBefore n i) × (rowsBefore n i ≤ C.maxPairs)
-    × (pool ≡ iter (C.pairsFrom candidates edgeAlign gradTotal forceSeed forceHist) C.noPairs i)
+    × (pool ≡ iter (C.pooledFrom candidates edgeAlign gradTotal forceSeed forceHist) C.noPairs i)
 
 abbrev μ-loop : tie.MeasureT-loop
 μ-loop edgeAlign gradTotal forceSeed forceHist candidates n pool₀ i₀ pool i = n - i
@@ -36,11 +36,11 @@ loop-holds c =
 
 pairs-holds : tie.Need-pairs-holds Inv-pairs μ-pairs Inv-loop μ-loop
 pairs-holds c =
-    let h = room (c .before .before .before .before .args .t1 .n) (c .before .loop .i) (search needs) (search needs) in
+    let h = row-room (c .before .before .before .before .args .t1 .n) (c .before .loop .i) (search needs) (search needs) in
     (search needs, search needs, search needs, h, omega arith, rw range-start)
 
 pairs-again : tie.Need-pairs-again Inv-pairs μ-pairs Inv-loop μ-loop
-unfolding C.pairAt
+unfolding C.pooledPair
 pairs-again c =
     let v = c .before in
     let e = v .before .before .before .before .pairs .inv .5 in
@@ -48,7 +48,7 @@ pairs-again c =
     (search needs, search needs, search needs, search needs, omega arith, range-more _ _ _ _ _ _ (search needs) e (rw (← v .valid-pair .ensures, no)))
 
 pairs-again-2 : tie.Need-pairs-again-2 Inv-pairs μ-pairs Inv-loop μ-loop
-unfolding C.pairAt C.pooled
+unfolding C.pooledPair C.pooled
 pairs-again-2 c =
     let v = c .before .before in
     let e = v .before .before .before .before .pairs .inv .5 in
@@ -62,7 +62,7 @@ pairs-again-2 c =
     )
 
 loop-again : tie.Need-loop-again Inv-pairs μ-pairs Inv-loop μ-loop
-unfolding C.pairsFrom
+unfolding C.pooledFrom
 loop-again c =
     let l = c .before .before .before in
     let n = l .before .before .before .args .t1 .n in

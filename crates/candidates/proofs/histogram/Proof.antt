@@ -12,7 +12,7 @@ use Rattle.candidates.proofs.histogram.Statement.{statement}
 use Rattle.candidates.proofs.histogram.Tie as tie
 
 abbrev Inv-loop : tie.InvT-loop
-Inv-loop gradAngles gradWeights hist₀ n i₀ hist i = (i ≤ n) × (length hist ≡ histBins) × (hist ≡ iter (C.counted gradAngles gradWeights) hist₀ i)
+Inv-loop gradAngles gradWeights hist₀ n i₀ hist i = (i ≤ n) × (length hist ≡ histBins) × (hist ≡ iter (C.binned gradAngles gradWeights) hist₀ i)
 
 abbrev μ-loop : tie.MeasureT-loop
 μ-loop gradAngles gradWeights hist₀ n i₀ hist i = n - i
@@ -21,11 +21,11 @@ loop-holds : tie.Need-loop-holds Inv-loop μ-loop
 loop-holds c = (search needs, search needs, rw iter-zero)
 
 loop-again : tie.Need-loop-again Inv-loop μ-loop
-unfolding C.counted
+unfolding C.binned
 loop-again c = (search needs, search needs, iter-more _ _ _ _ _ (c .before .before .before .loop .inv .2) (rw (c .if1 .taken)))
 
 loop-again-2 : tie.Need-loop-again-2 Inv-loop μ-loop
-unfolding C.counted
+unfolding C.binned
 loop-again-2 c =
     let b = c .before .before .before in
     let e = b .before .before .before .loop .inv .2 in

@@ -11,33 +11,33 @@ shifted-requires : tie.Need-shifted-requires
 shifted-requires c κs =
     let at-args = c .before .before .before .before .before .before .args in
     let at-pre = c .before .before .before .before .before .before .pre in (
-      below-more (length (at-args .grad-weights .now)) 320 (c .first-wild .result) (omega (arith, at-pre .0, at-pre .4)) (c .first-wild .ensures .1),
-      omega (arith, at-pre .0),
+      below-more (length (at-args .grad-weights .now)) 320 (c .first-wild .result) (omega (arith, at-pre .most, at-pre .w)) (c .first-wild .ensures .1),
+      omega (arith, at-pre .most),
     )
 
 shifted-requires-2 : tie.Need-shifted-requires-2
 shifted-requires-2 c κs =
     let at-args = c .before .before .before .before .before .before .before .before .args in
     let at-pre = c .before .before .before .before .before .before .before .before .pre in (
-      below-more (length (at-args .grad-angles .now)) 320 (c .first-wild2 .result) (omega (arith, at-pre .0, at-pre .3)) (c .first-wild2 .ensures .1),
-      omega (arith, at-pre .0),
+      below-more (length (at-args .grad-angles .now)) 320 (c .first-wild2 .result) (omega (arith, at-pre .most, at-pre .a)) (c .first-wild2 .ensures .1),
+      omega (arith, at-pre .most),
     )
 
 shifted-requires-3 : tie.Need-shifted-requires-3
 shifted-requires-3 c κs =
     let at-args = c .before .before .before .before .before .before .before .before .before .before .args in
     let at-pre = c .before .before .before .before .before .before .before .before .before .before .pre in (
-      below-more (length (at-args .vals-centered .now)) 320 (c .first-wild3 .result) (omega (arith, at-pre .0, at-pre .2))
+      below-more (length (at-args .vals-centered .now)) 320 (c .first-wild3 .result) (omega (arith, at-pre .most, at-pre .v))
           (c .first-wild3 .ensures .1),
-      omega (arith, at-pre .0),
+      omega (arith, at-pre .most),
     )
 
 shifted-requires-4 : tie.Need-shifted-requires-4
 shifted-requires-4 c κs =
     let at-args = c .before .before .before .before .before .before .before .before .before .before .before .before .args in
     let at-pre = c .before .before .before .before .before .before .before .before .before .before .before .before .pre in (
-      below-more (length (at-args .ys .now)) 320 (c .first-wild4 .result) (omega (arith, at-pre .0, at-pre .1)) (c .first-wild4 .ensures .1),
-      omega (arith, at-pre .0),
+      below-more (length (at-args .ys .now)) 320 (c .first-wild4 .result) (omega (arith, at-pre .most, at-pre .y)) (c .first-wild4 .ensures .1),
+      omega (arith, at-pre .most),
     )
 
 shifted-requires-5 : tie.Need-shifted-requires-5
@@ -46,7 +46,7 @@ shifted-requires-5 c κs =
     let at-args = at-args-14 .before .before .args in
     let at-pre-14 = c .before .before .before .before .before .before .before .before .before .before .before .before in
     let at-pre = at-pre-14 .before .before .pre in
-    (below-more (length (at-args .xs .now)) 320 (c .first-wild5 .result) (at-pre .0) (c .first-wild5 .ensures .1), omega arith)
+    (below-more (length (at-args .xs .now)) 320 (c .first-wild5 .result) (at-pre .most) (c .first-wild5 .ensures .1), omega arith)
 
 returns : tie.Need-returns
 returns c =
@@ -80,7 +80,7 @@ returns c =
       ← at-lone .ensures,
       ← at-lone2 .ensures,
     ) at (disk-places (length (at-args .xs .now)) (at-args .val-energy) (at-args .base0) (at-args .base1) (at-args .xs .now)
-    (at-args .ys .now) (at-args .vals-centered .now) (at-args .grad-angles .now) (at-args .grad-weights .now) refl (at-pre .1) (at-pre .2) (at-pre .3)))
+    (at-args .ys .now) (at-args .vals-centered .now) (at-args .grad-angles .now) (at-args .grad-weights .now) refl (at-pre .y) (at-pre .v) (at-pre .a)))
 
 pub disk-wild-spec : {M : Type 1} → statement M
 disk-wild-spec =

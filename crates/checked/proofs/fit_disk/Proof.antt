@@ -1,85 +1,71 @@
 -- The number of pixels, the lengths, and then the values. Assumes nothing.
 use Rattle.checked.specs.Checked as C
 use mathlib.Core.Path.{_≡_, refl}
-use mathlib.Core.Bool.{true}
+use mathlib.Core.Bool.{true, false, not}
+use mathlib.Core.Logic.{⊎-elim}
 use Prim.Native.Nat.{ℕ}
 use lib.Dec.{eqb}
-use borrow.Author.Tests.{eq-eqb, ne-eqb, lt-ltb, le-ltb}
-use borrow.Author.Needs.{needs}
+use lib.ListN.{length}
+use Rattle.floats.specs.Rows.{Row}
+use borrow.Author.Tests.{eq-eqb, ne-eqb, eqb-true, ltb-false, not-true, not-false}
 use Rattle.checked.proofs.fit_disk.Statement.{statement}
 use Rattle.checked.proofs.fit_disk.Tie as tie
 
 xs-same : (n : ℕ) → eqb n n ≡ true
 xs-same n = eq-eqb n n refl
 
+-- no pixel, or too many
 returns : tie.Need-returns
 unfolding C.checkedDisk
-returns c = rw (eq-eqb _ _ (c .if1 .taken))
+returns c =
+    ⊎-elim
+    (λ w. rw (eq-eqb _ _ (w .taken)))
+    (λ w. rw (ne-eqb _ _ (w .0 .left), w .1 .taken))
+    (c .if1 .came)
 
+-- the first length that differs is that of ys, the values, the angles or the weights
 returns-2 : tie.Need-returns-2
-unfolding C.checkedDisk
-returns-2 c = rw (ne-eqb _ _ (c .before .if1 .left), lt-ltb _ _ (c .if2 .taken))
+unfolding C.checkedDisk C.sameLengths
+returns-2 c =
+    let some = ne-eqb _ _ (c .before .before .if1 .left) in
+    let few = c .before .if2 .left in
+    ⊎-elim
+    (λ w. rw (some, few, xs-same _, ne-eqb _ _ (w .taken)))
+    (⊎-elim
+    (λ w. rw (some, few, xs-same _, eq-eqb _ _ (w .0 .left), not-true (eqb _ _) (w .1 .taken)))
+    (⊎-elim
+    (λ w. rw (some, few, xs-same _, eq-eqb _ _ (w .0 .left), not-false (eqb _ _) (w .1 .left), not-true (eqb _ _) (w .2 .taken)))
+    (λ w. rw (some, few, xs-same _, eq-eqb _ _ (w .0 .left), not-false (eqb _ _) (w .1 .left), not-false (eqb _ _) (w .2 .left), not-true (eqb _ _) (w .3 .taken)))))
+    (c .if3 .came)
+
+disk-looked-requires : tie.Need-disk-looked-requires
+disk-looked-requires c κs =
+    let c3 = c .before .before .before in
+    let args = c3 .before .before .before .before .before .before .before .before .args in
+    let n = length (args .xs .now) in
+    let same : (l : Row) → not (eqb (length l) n) ≡ false → length l ≡ n = λ l e. eqb-true (length l) n (not-false (eqb (length l) n) e) in
+    record {
+      most = ltb-false 320 n (c3 .before .if2 .left);
+      y = c3 .if3 .left;
+      v = same (args .vals-centered .now) (c .before .before .if4 .left);
+      a = same (args .grad-angles .now) (c .before .if5 .left);
+      w = same (args .grad-weights .now) (c .if6 .left);
+    }
 
 returns-3 : tie.Need-returns-3
 unfolding C.checkedDisk C.sameLengths
 returns-3 c =
-    let at-if1 = c .before .before .before .before .before .before .if1 in
-    let at-if2 = c .before .before .before .before .before .if2 in
-    let at-if3 = c .before .before .before .before .if3 in
-    let at-if4 = c .before .before .before .if4 in
-    let at-if5 = c .before .before .if5 in
-    let at-if6 = c .before .if6 in
+    let c4 = c .before .before .before in
+    let c2 = c4 .before .before in
     rw (
-      ne-eqb _ _ (at-if1 .left),
-      le-ltb _ _ (at-if2 .left),
+      ne-eqb _ _ (c2 .before .if1 .left),
+      c2 .if2 .left,
       xs-same _,
-      eq-eqb _ _ (at-if3 .taken),
-      eq-eqb _ _ (at-if4 .taken),
-      eq-eqb _ _ (at-if5 .taken),
-      eq-eqb _ _ (at-if6 .taken),
+      eq-eqb _ _ (c4 .before .if3 .left),
+      not-false (eqb _ _) (c4 .if4 .left),
+      not-false (eqb _ _) (c .before .before .if5 .left),
+      not-false (eqb _ _) (c .before .if6 .left),
     ) (c .disk-looked .ensures)
 
-returns-4 : tie.Need-returns-4
-unfolding C.checkedDisk C.sameLengths
-returns-4 c =
-    let at-if1 = c .before .before .before .before .before .if1 in
-    let at-if2 = c .before .before .before .before .if2 in
-    let at-if3 = c .before .before .before .if3 in
-    let at-if4 = c .before .before .if4 in
-    let at-if5 = c .before .if5 in
-    rw (
-      ne-eqb _ _ (at-if1 .left),
-      le-ltb _ _ (at-if2 .left),
-      xs-same _,
-      eq-eqb _ _ (at-if3 .taken),
-      eq-eqb _ _ (at-if4 .taken),
-      eq-eqb _ _ (at-if5 .taken),
-      ne-eqb _ _ (c .if6 .left),
-    )
-
-returns-5 : tie.Need-returns-5
-unfolding C.checkedDisk C.sameLengths
-returns-5 c =
-    let at-if1 = c .before .before .before .before .if1 in
-    let at-if2 = c .before .before .before .if2 in
-    let at-if3 = c .before .before .if3 in
-    let at-if4 = c .before .if4 in
-    rw (ne-eqb _ _ (at-if1 .left), le-ltb _ _ (at-if2 .left), xs-same _, eq-eqb _ _ (at-if3 .taken), eq-eqb _ _ (at-if4 .taken), ne-eqb _ _ (c .if5 .left))
-
-returns-6 : tie.Need-returns-6
-unfolding C.checkedDisk C.sameLengths
-returns-6 c =
-    let at-if1 = c .before .before .before .if1 in
-    let at-if2 = c .before .before .if2 in
-    let at-if3 = c .before .if3 in
-    rw (ne-eqb _ _ (at-if1 .left), le-ltb _ _ (at-if2 .left), xs-same _, eq-eqb _ _ (at-if3 .taken), ne-eqb _ _ (c .if4 .left))
-
-returns-7 : tie.Need-returns-7
-unfolding C.checkedDisk C.sameLengths
-returns-7 c = rw (ne-eqb _ _ (c .before .before .if1 .left), le-ltb _ _ (c .before .if2 .left), xs-same _, ne-eqb _ _ (c .if3 .left))
-
 pub fit-disk-spec : {M : Type 1} → statement M
-fit-disk-spec =
-    tie.close
-    (tie.spec
-    returns returns-2 (λ c κs. search needs) returns-3 returns-4 returns-5 returns-6 returns-7)
+fit-disk-spec = tie.close (tie.spec returns returns-2 disk-looked-requires returns-3)

@@ -5,14 +5,14 @@ use lib.ListN.{length}
 use Rattle.lines.specs.Turns.{StateKept, input, output}
 use Rattle.lines.specs.TurnsLaws.{Running, run-start, run-on, run-ends, run-out}
 use Rattle.explain.specs.declared.Explaining.{Explaining}
-use Rattle.explain.specs.Explain.{Turn, begun}
+use Rattle.explain.specs.Explain.{ExplainTurn, firstState}
 use borrow.Author.Needs.{needs}
 use Rattle.explain.proofs.serve.Statement.{statement}
 use Rattle.explain.proofs.serve.Tie as tie
 
 abbrev Inv-loop : tie.InvT-loop
 Inv-loop buf₀ text₀ x₀ turns₀ buf text x turns =
-    StateKept (x .state) × (length buf ≡ input) × (length text ≡ output) × Running Explaining Turn begun buf₀ text₀ turns x buf text
+    StateKept (x .state) × (length buf ≡ input) × (length text ≡ output) × Running Explaining ExplainTurn firstState buf₀ text₀ turns x buf text
 
 abbrev μ-loop : tie.MeasureT-loop
 μ-loop buf₀ text₀ x₀ turns₀ buf text x turns = turns

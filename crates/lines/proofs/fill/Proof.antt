@@ -4,13 +4,13 @@ use Prim.Native.Nat.{_-_}
 use native.Mathlib.Omega.{arith}
 use lib.ListN.{length}
 use borrow.Rule.Slice.PartMut.{take-put}
-use Rattle.lines.specs.Lines.{filled}
+use Rattle.lines.specs.Lines.{withBlock}
 use borrow.Author.Needs.{needs}
 use Rattle.lines.proofs.fill.Statement.{statement}
 use Rattle.lines.proofs.fill.Tie as tie
 
 returns : tie.Need-returns
-unfolding filled
+unfolding withBlock
 returns c =
     let b6 = c .before .before .before .before .before .before in
     let b11 = b6 .before .before .before .before .before in

@@ -8,9 +8,10 @@ use lib.Dec.{T, le→leb, lit<, lit≤}
 use lib.IntN.{pos}
 use lib.Ieee.{Float, binary32, inFloat, ne, eq, sub}
 use lib.Ieee.Scale.{finite}
-use Rattle.floats.specs.FiniteLaws.{finite-test, of-true, not-true, not-false}
-use Rattle.remainders.specs.RemainderLaws.{number, rem-wild, far-field, far-rem, turn, M}
+use Rattle.floats.specs.FiniteLaws.{finite-test, of-true}
+use Rattle.remainders.specs.RemainderLaws.{finite-number, rem-wild, far-field, far-rem, modulus, M}
 use borrow.Author.Needs.{needs}
+use borrow.Author.Tests.{not-true, not-false}
 use Rattle.remainders.proofs.rem_far.Statement.{statement}
 use Rattle.remainders.proofs.rem_far.Tie as tie
 
@@ -30,10 +31,10 @@ exact r a e = le→leb r 16777216 (subst (λ (z : ℕ). z ≤ 16777216) (sym e) 
 
 returns : tie.Need-returns
 returns c = let s = c .before in
-    rem-wild binary32 (s .args .x) (turn (s .args .q)) (wild (s .args .x) (c .if1 .taken))
+    rem-wild binary32 (s .args .x) (modulus (s .args .q)) (wild (s .args .x) (c .if1 .taken))
 
 float-to-bits-b : tie.Need-float-to-bits-b
-float-to-bits-b c = number (c .before .args .x) (tame (c .before .args .x) (c .if1 .left))
+float-to-bits-b c = finite-number (c .before .args .x) (tame (c .before .args .x) (c .if1 .left))
 
 add-m : tie.Need-add-m
 add-m c = search needs

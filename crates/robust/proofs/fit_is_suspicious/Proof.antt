@@ -1,38 +1,31 @@
 -- Three tests, and then the triggers. Assumes nothing.
+use mathlib.Core.Logic.{⊎-elim}
 use Rattle.robust.specs.Robust as R
 use borrow.Author.Needs.{needs}
 use Rattle.robust.proofs.fit_is_suspicious.Statement.{statement}
 use Rattle.robust.proofs.fit_is_suspicious.Tie as tie
 
+-- the first test held, or the second, or the third
 returns : tie.Need-returns
 unfolding R.fitIsSuspicious
 returns c =
-    let at-is-finite = c .before .before .before .before .before .is-finite in
-    let at-if1 = c .before .before .before .before .if1 in
-    let at-is-finite2 = c .before .before .before .is-finite2 in
-    let at-if2 = c .before .before .if2 in
-    rw (← at-is-finite .ensures, at-if1 .taken, ← at-is-finite2 .ensures, at-if2 .taken, c .if3 .taken)
+    let first = c .before .is-finite .ensures in
+    ⊎-elim
+    (λ w. rw (← first, w .taken))
+    (⊎-elim
+    (λ w. rw (← first, w .0 .left, ← w .1 .ensures, w .2 .taken))
+    (λ w. rw (← first, w .0 .left, ← w .1 .ensures, w .2 .left, w .4 .taken)))
+    (c .if1 .came)
 
 returns-2 : tie.Need-returns-2
 unfolding R.fitIsSuspicious
 returns-2 c =
-    let at-is-finite = c .before .before .before .before .before .before .is-finite in
-    let at-if1 = c .before .before .before .before .before .if1 in
-    let at-is-finite2 = c .before .before .before .before .is-finite2 in
-    let at-if2 = c .before .before .before .if2 in
-    let at-if3 = c .before .if3 in
-    rw (← at-is-finite .ensures, at-if1 .taken, ← at-is-finite2 .ensures, at-if2 .taken, at-if3 .left) (c .is-triggered .ensures)
-
-returns-3 : tie.Need-returns-3
-unfolding R.fitIsSuspicious
-returns-3 c = rw (← c .before .before .before .is-finite .ensures, c .before .before .if1 .taken, ← c .before .is-finite2 .ensures, c .if2 .left)
-
-returns-4 : tie.Need-returns-4
-unfolding R.fitIsSuspicious
-returns-4 c = rw (← c .before .is-finite .ensures, c .if1 .left)
+    let third = c .before in
+    let second = third .before .before .before in
+    let first = second .before .before in
+    let f1 = second .before .if1 .left in
+    let f2 = third .before .before .if2 .left in
+    rw (← first .is-finite .ensures, f1, ← second .is-finite2 .ensures, f2, third .if3 .left) (c .is-triggered .ensures)
 
 pub fit-is-suspicious-spec : {M : Type 1} → statement M
-fit-is-suspicious-spec =
-    tie.close
-    (tie.spec
-    (λ c κs. search needs) (λ c κs. search needs) returns (λ c κs. search needs) returns-2 returns-3 returns-4)
+fit-is-suspicious-spec = tie.close (tie.spec (λ c κs. search needs) (λ c κs. search needs) returns (λ c κs. search needs) returns-2)

@@ -1,4 +1,5 @@
 -- Both ends of the range. Assumes nothing.
+use mathlib.Core.Logic.{⊎-elim}
 use Rattle.robust.specs.Robust as R
 use Rattle.robust.specs.RobustLaws.{min-rad-is, max-rad-is}
 use Rattle.robust.proofs.is_outside.Statement.{statement}
@@ -6,18 +7,11 @@ use Rattle.robust.proofs.is_outside.Tie as tie
 
 returns : tie.Need-returns
 unfolding R.outside
-returns c = rw (min-rad-is, max-rad-is, c .before .if1 .taken, c .if2 .taken)
-
-returns-2 : tie.Need-returns-2
-unfolding R.outside
-returns-2 c = rw (min-rad-is, max-rad-is, c .before .if1 .taken, c .if2 .left)
-
-returns-3 : tie.Need-returns-3
-unfolding R.outside
-returns-3 c = rw (min-rad-is, c .if1 .left)
+returns c =
+    ⊎-elim
+    (λ w. rw (min-rad-is, max-rad-is, w .0 .taken, w .1))
+    (λ w. rw (min-rad-is, w .1, w .0 .left))
+    (c .if1 .came)
 
 pub is-outside-spec : {M : Type 1} → statement M
-is-outside-spec =
-    tie.close
-    (tie.spec
-    returns returns-2 returns-3)
+is-outside-spec = tie.close (tie.spec returns)

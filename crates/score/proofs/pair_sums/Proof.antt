@@ -10,17 +10,17 @@ use Rattle.score.proofs.pair_sums.Statement.{statement}
 use Rattle.score.proofs.pair_sums.Tie as tie
 
 abbrev Inv-loop : tie.InvT-loop
-Inv-loop vals h0 h1 n s₀ p₀ s p = (p ≤ n) × (s ≡ S.pairSums p vals h0 h1)
+Inv-loop vals h0 h1 n s₀ p₀ s p = (p ≤ n) × (s ≡ S.cachedSums p vals h0 h1)
 
 abbrev μ-loop : tie.MeasureT-loop
 μ-loop vals h0 h1 n s₀ p₀ s p = n - p
 
 loop-holds : tie.Need-loop-holds Inv-loop μ-loop
-unfolding S.pairSums
+unfolding S.cachedSums
 loop-holds c = (search needs, rw iter-zero)
 
 loop-again : tie.Need-loop-again Inv-loop μ-loop
-unfolding S.pairSums S.summed
+unfolding S.cachedSums S.pixelSummed
 loop-again c = (search needs, rw iter-next (cc))
 
 returns : tie.Need-returns Inv-loop μ-loop

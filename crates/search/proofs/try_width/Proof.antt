@@ -4,9 +4,10 @@ use Prim.Native.Nat.{_+_, _-_, _≤_}
 use native.Mathlib.Omega.{arith}
 use lib.ListN.{take, getD}
 use lib.Seq.{getD-take}
+use Rattle.floats.specs.Rows.{Row}
 use Rattle.loops.specs.Loops.{iter}
 use Rattle.loops.specs.IterLaws.{iter-zero, iter-more}
-use Rattle.data.specs.Data.{OfPixels}
+use Rattle.data.specs.Data.{diskOf}
 use Rattle.search_ranking.specs.Ranking.{blank}
 use Rattle.search.specs.Search as S
 use Rattle.search.specs.Cache.{Cached}
@@ -19,8 +20,8 @@ abbrev Inv-loop : tie.InvT-loop
 Inv-loop val-energy xs ys vals-centered candidates width cache₀ ranked k pass₀ r₀ cache pass r =
     let ps = take (ranked .n) (ranked .pairs) in
     (r ≤ k) × Cached xs ys candidates width (pass .filled) cache × (pass .leaders .trials ≡ pass₀ .leaders .trials + r)
-    × OfPixels val-energy xs ys vals-centered
-    (λ D. pass .leaders ≡ iter (λ r l. S.entered l (S.pairScored D candidates width (getD ps r blank))) (pass₀ .leaders) r)
+    × ((angles weights : Row) → let D = diskOf val-energy xs ys vals-centered angles weights in
+    pass .leaders ≡ iter (λ r l. S.entered l (S.pairScored D candidates width (getD ps r blank))) (pass₀ .leaders) r)
 
 abbrev μ-loop : tie.MeasureT-loop
 μ-loop val-energy xs ys vals-centered candidates width cache₀ ranked k pass₀ r₀ cache pass r = k - r

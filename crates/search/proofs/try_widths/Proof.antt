@@ -3,10 +3,10 @@ use mathlib.Core.Path.{_≡_}
 use Prim.Native.Nat.{_+_, _-_, _*_, _≤_}
 use native.Mathlib.Omega.{arith}
 use lib.ListN.{take, length}
-use Rattle.floats.specs.Rows.{at}
+use Rattle.floats.specs.Rows.{Row, at}
 use Rattle.loops.specs.Loops.{iter}
 use Rattle.loops.specs.IterLaws.{iter-zero, iter-more}
-use Rattle.data.specs.Data.{OfPixels}
+use Rattle.data.specs.Data.{diskOf}
 use Rattle.score.specs.Score.{widthsPx}
 use Rattle.search.specs.Search as S
 use Rattle.search.specs.Cache.{cacheRoom}
@@ -18,7 +18,8 @@ abbrev Inv-loop : tie.InvT-loop
 Inv-loop val-energy xs ys vals-centered candidates ranked cache₀ leaders₀ w₀ cache leaders w =
     let ps = take (ranked .n) (ranked .pairs) in
     (w ≤ 4) × (length cache ≡ cacheRoom) × (leaders .trials ≤ 24 * w) × (leaders .trials ≡ iter (λ _ t. t + ranked .n) 0 w)
-    × OfPixels val-energy xs ys vals-centered (λ D. leaders ≡ iter (λ w. S.triedAt D candidates ps (at widthsPx w)) S.noLeaders w)
+    × ((angles weights : Row) → let D = diskOf val-energy xs ys vals-centered angles weights in
+    leaders ≡ iter (λ w. S.triedAt D candidates ps (at widthsPx w)) S.noLeaders w)
 
 abbrev μ-loop : tie.MeasureT-loop
 μ-loop val-energy xs ys vals-centered candidates ranked cache₀ leaders₀ w₀ cache leaders w = 4 - w

@@ -3,7 +3,7 @@ use mathlib.Core.Path.{_≡_, _∙_}
 use Prim.Native.Nat.{_+_, _-_, _*_}
 use native.Mathlib.Omega.{arith}
 use lib.ListN.{length}
-use Rattle.search_rows.specs.RowsLaws.{filled}
+use Rattle.search_rows.specs.RowsLaws.{row-filled}
 use borrow.Author.Needs.{needs}
 use Rattle.search_rows.proofs.fill_row.Statement.{statement}
 use Rattle.search_rows.proofs.fill_row.Tie as tie
@@ -21,7 +21,7 @@ returns c =
     let eu = c2 .refined-sum .kept .1 .1 .1 .0 in
     let u = c2 .refined-sum .last .1 .1 .1 .0 in (
       rw (s .pre .1 .a) at (c2 .refined-sum .ensures),
-      rw (p, z, ← c6 .axis-row .ensures) (filled n q _ u _ (s .pre .1 .most) (s .pre .0) (s .pre .2) (er ∙ search needs) (eu ∙ search needs)),
+      rw (p, z, ← c6 .axis-row .ensures) (row-filled n q _ u _ (s .pre .1 .most) (s .pre .0) (s .pre .2) (er ∙ search needs) (eu ∙ search needs)),
     )
 
 pub fill-row-spec : {M : Type 1} → statement M

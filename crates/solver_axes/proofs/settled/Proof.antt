@@ -5,11 +5,11 @@ use Rattle.solver_axes.proofs.settled.Statement.{statement}
 use Rattle.solver_axes.proofs.settled.Tie as tie
 
 returns : tie.Need-returns
-unfolding C.settled
+unfolding C.axesSettled
 returns c = rw (← c .before .before .before .arc .ensures, c .before .before .if1 .taken, ← c .before .arc2 .ensures) (c .placed .ensures)
 
 returns-2 : tie.Need-returns-2
-unfolding C.settled
+unfolding C.axesSettled
 returns-2 c = rw (← c .before .before .arc .ensures, c .before .if1 .left) (c .placed2 .ensures)
 
 pub settled-spec : {M : Type 1} → statement M
