@@ -12,7 +12,7 @@ use Rattle.robust.specs.declared.RingFit.{RingFit}
 use Rattle.solver.specs.declared.TwoAxisFit.{TwoAxisFit}
 use Rattle.score.specs.Score.{fitStdErrors}
 use Rattle.score.specs.declared.Fit.{Fit}
-use Rattle.data.specs.Data.{DiskData}
+use Rattle.data.specs.Data.{DiskData, maxTanhPixels}
 use Rattle.search.specs.Search.{bestDiskFit}
 use Rattle.search.specs.declared.DiskFit.{DiskFit}
 use Rattle.search.specs.declared.DiskFit.the-variants.{Best, Missing}
@@ -114,7 +114,7 @@ sameLengths D =
 
 unfoldable pub checkedDisk : DiskData → Float → Float → DiskAnswer
 checkedDisk D base0 base1 =
-    cond (eqb (D .n) 0 || ltb 320 (D .n)) (Disks.Refused 2 0)
+    cond (eqb (D .n) 0 || ltb maxTanhPixels (D .n)) (Disks.Refused 2 0)
     (cond (sameLengths D)
     (diskLooked D base0 base1 (firstWild (diskInputs D base0 base1)))
     (Disks.Refused 1 0))

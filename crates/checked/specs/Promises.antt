@@ -18,7 +18,7 @@ use Rattle.robust.specs.declared.RingFit.{RingFit}
 use Rattle.score.specs.Score.{fitStdErrors, widthsPx}
 use Rattle.score.specs.ScoreLaws.{SoundFit, errors-sound}
 use Rattle.score.specs.declared.Fit.{Fit}
-use Rattle.data.specs.Data.{DiskData}
+use Rattle.data.specs.Data.{DiskData, maxTanhPixels}
 use Rattle.search.specs.Search.{bestDiskFit}
 use Rattle.search.specs.Bill.{trialsOf, pairsKept, leadersKept, answeredTrials}
 use Rattle.search.specs.BillLaws.{disk-bill, disk-bill-most, leaders-are, missing-bill, missing-leaders}
@@ -201,12 +201,12 @@ module _ (D : DiskData) (base0 base1 : Float) where
 
   -- the number of pixels is 1 to 320
   abbrev PixelsInRange : Type 0
-  PixelsInRange = (eqb (D .n) 0 || ltb 320 (D .n)) ≡ false
+  PixelsInRange = (eqb (D .n) 0 || ltb maxTanhPixels (D .n)) ≡ false
 
   -- exactly when each answer is given: 2 for the number of pixels, then 1 for lengths that differ, 3 for a value that is not finite, at the first
   -- such place, 4 where the search answers nothing, at the number of its trials; else its fit
   pub data DiskCase (a : DiskAnswer) : Type 0 where
-    wrong-count : (eqb (D .n) 0 || ltb 320 (D .n)) ≡ true → a ≡ Disks.Refused 2 0 → DiskCase a
+    wrong-count : (eqb (D .n) 0 || ltb maxTanhPixels (D .n)) ≡ true → a ≡ Disks.Refused 2 0 → DiskCase a
     wrong-lengths : PixelsInRange → C.sameLengths D ≡ false → a ≡ Disks.Refused 1 0 → DiskCase a
     wrong-disk-value : (p : ℕ) → p < 3 + 5 * D .n → PixelsInRange → IsFirstWild disk-inputs p → a ≡ Disks.Refused 3 p → DiskCase a
     no-fit : (t : ℕ) → length disk-inputs ≡ 3 + 5 * D .n → AllFinite disk-inputs → bestDiskFit D base0 base1 ≡ Missing t → a ≡ Disks.Refused 4 t → DiskCase a
@@ -241,9 +241,9 @@ module _ (D : DiskData) (base0 base1 : Float) where
 
   pub disk-cases : DiskCase disk-answer
   unfolding checkedDisk C.diskLooked C.diskFitted
-  disk-cases = go (eqb (D .n) 0 || ltb 320 (D .n)) (C.sameLengths D) refl refl (firstWild disk-inputs) refl
+  disk-cases = go (eqb (D .n) 0 || ltb maxTanhPixels (D .n)) (C.sameLengths D) refl refl (firstWild disk-inputs) refl
     where
-      go : (x y : Bool) → (eqb (D .n) 0 || ltb 320 (D .n)) ≡ x → C.sameLengths D ≡ y → (w : Wild) → firstWild disk-inputs ≡ w →
+      go : (x y : Bool) → (eqb (D .n) 0 || ltb maxTanhPixels (D .n)) ≡ x → C.sameLengths D ≡ y → (w : Wild) → firstWild disk-inputs ≡ w →
           DiskCase (cond x (Disks.Refused 2 0) (cond y (C.diskLooked D base0 base1 w) (Disks.Refused 1 0)))
       go true y p q w e = wrong-count p refl
       go false false p q w e = wrong-lengths p q refl

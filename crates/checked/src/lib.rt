@@ -9,7 +9,7 @@ ghost use mathlib.Core.Path.{_≡_};
 ghost use Prim.Native.Nat.{_<_, _≤_};
 ghost use lib.ListN.{length};
 ghost use lib.Ieee.{Float};
-ghost use Rattle.data.specs.Data.{lentDisk, OfPixels, DiskSized};
+ghost use Rattle.data.specs.Data.{lentDisk, OfPixels, DiskSized, maxTanhPixels};
 ghost use Rattle.checked.specs.Checked as C;
 ghost use Rattle.checked.specs.Parts as P;
 
@@ -72,7 +72,7 @@ pub fn first_wild(xs: &[f32]) -> Wild
 
 // The place of a value that is not finite among all values, or what comes later.
 fn shifted(w: Wild, off: u16, next: Wild) -> Wild
-    requires { ⌜ P.Below 320 w × (off ≤ 4096) ⌝ }
+    requires { ⌜ P.Below maxTanhPixels w × (off ≤ 4096) ⌝ }
     ensures { λ r. ⌜ r ≡ P.shiftedBy w off next ⌝ }
 {
     let Wild::At(i) = w else {
@@ -176,7 +176,7 @@ fn disk_wild(
 }
 
 fn with_errors(xs: &[f32], ys: &[f32], vals_centered: &[f32], f: Fit, trials: usize) -> DiskAnswer
-    requires { ⌜ (length (now xs) ≤ 320) × (length (now ys) ≡ length (now xs)) × (length (now «vals_centered») ≡ length (now xs)) ⌝ }
+    requires { ⌜ (length (now xs) ≤ maxTanhPixels) × (length (now ys) ≡ length (now xs)) × (length (now «vals_centered») ≡ length (now xs)) ⌝ }
     ensures { λ r. ⌜ ((energy : Float) → OfPixels energy xs ys «vals_centered» (λ D. r ≡ C.measuredOf D f trials)) ⌝ }
 {
     let e = score::fit_std_errors(xs, ys, vals_centered, f);

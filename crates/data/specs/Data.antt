@@ -32,24 +32,24 @@ diskOf valEnergy xs ys valsCentered gradAngles gradWeights =
     }
 
 -- ---- a contract's own words: a slice that is lent for reading, and the disk of five of them as a call finds it
-abbrev pub Lent : Type 0
-Lent = Both (RefT Row) (RefT Row)
+abbrev pub InSlice : Type 0
+InSlice = Both (RefT Row) (RefT Row)
 
-abbrev pub lentDisk : Float → Lent → Lent → Lent → Lent → Lent → DiskData
+abbrev pub lentDisk : Float → InSlice → InSlice → InSlice → InSlice → InSlice → DiskData
 lentDisk valEnergy xs ys valsCentered gradAngles gradWeights =
     diskOf valEnergy (now (xs .entry)) (now (ys .entry)) (now (valsCentered .entry)) (now (gradAngles .entry)) (now (gradWeights .entry))
 
 -- what a function that is handed some slices of a disk says: P, of every disk that has them
-abbrev pub OfPixels : Float → Lent → Lent → Lent → (DiskData → Type 0) → Type 0
+abbrev pub OfPixels : Float → InSlice → InSlice → InSlice → (DiskData → Type 0) → Type 0
 OfPixels valEnergy xs ys valsCentered P =
     (angles weights : Row) → P (diskOf valEnergy (now (xs .entry)) (now (ys .entry)) (now (valsCentered .entry)) angles weights)
 
-abbrev pub OfValues : Float → Lent → (DiskData → Type 0) → Type 0
+abbrev pub OfValues : Float → InSlice → (DiskData → Type 0) → Type 0
 OfValues valEnergy valsCentered P =
     let vals = now (valsCentered .entry) in
     (xs ys angles weights : Row) → length xs ≡ length vals → P (diskOf valEnergy xs ys vals angles weights)
 
-abbrev pub OfGradients : Lent → Lent → (DiskData → Type 0) → Type 0
+abbrev pub OfGradients : InSlice → InSlice → (DiskData → Type 0) → Type 0
 OfGradients gradAngles gradWeights P =
     let angles = now (gradAngles .entry) in
     (valEnergy : Float) (xs ys vals : Row) → length xs ≡ length angles → P (diskOf valEnergy xs ys vals angles (now (gradWeights .entry)))

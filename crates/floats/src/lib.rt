@@ -1,7 +1,7 @@
 // What Rust's library does on f32 and f64, each function proved equal to its definition in
 // specs/Library.antt for every value: NaN, infinities, both zeros and subnormals.
 ghost use mathlib.Core.Path.{_≡_};
-ghost use Prim.Native.Nat.{_<_, _≤_};
+ghost use Prim.Native.Nat.{_^_, _<_};
 ghost use lib.IntN.{pos};
 ghost use mathlib.Core.Bool.{true};
 ghost use lib.Ieee.{binary32, binary64, eq, toBits, ofBits, ofInt};
@@ -203,14 +203,13 @@ pub fn widen(x: f32) -> f64
 }
 
 pub fn count_f32(n: usize) -> f32
-    requires { ⌜ n ≤ 320 ⌝ }
+    requires { ⌜ n < 2 ^ 32 ⌝ }
     ensures { λ r. ⌜ r ≡ ofInt binary32 (pos n) ⌝ }
 {
     std::num::nearest_u32_to_f32(n as u32)
 }
 
 pub fn count_f64(n: usize) -> f64
-    requires { ⌜ n ≤ 320 ⌝ }
     ensures { λ r. ⌜ r ≡ ofInt binary64 (pos n) ⌝ }
 {
     std::num::nearest_u64_to_f64(n as u64)

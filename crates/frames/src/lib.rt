@@ -7,6 +7,7 @@ use shapes::Shape;
 ghost use mathlib.Core.Path.{_≡_};
 ghost use Prim.Native.Nat.{_+_, _*_, _≤_};
 ghost use lib.ListN.{length};
+ghost use Rattle.data.specs.Data.{maxTanhPixels};
 ghost use Rattle.hex.specs.Hex.{put, Written};
 ghost use Rattle.checked.specs.Checked.{checkedDisk, fitCounts, flag};
 ghost use Rattle.frames.specs.Frames as F;
@@ -58,7 +59,7 @@ fn disk_answered(a: DiskAnswer) -> Answer
 
 // The answer to a disk's values: five runs of n in one slice.
 fn runs_answered(energy: f32, base0: f32, base1: f32, vs: &[f32], n: usize) -> Answer
-    requires { ⌜ (n ≤ 320) × (length (now vs) ≡ 5 * n) ⌝ }
+    requires { ⌜ (n ≤ maxTanhPixels) × (length (now vs) ≡ 5 * n) ⌝ }
     ensures { λ r. ⌜ r ≡ F.diskAnswered (checkedDisk (diskOfRuns energy (now (vs .entry)) n) base0 base1) ⌝ }
 {
     let a = 0usize;
@@ -81,7 +82,7 @@ fn runs_answered(energy: f32, base0: f32, base1: f32, vs: &[f32], n: usize) -> A
 
 // The values of a disk whose line has the right length, read into a lent row of 5 n places.
 fn runs_line(line: &[u8], n: usize, vs: &mut [f32]) -> Answer
-    requires { ⌜ (n ≤ 320) × (length (now line) ≡ 30 + 40 * n) × (length (now vs) ≡ 5 * n) ⌝ }
+    requires { ⌜ (n ≤ maxTanhPixels) × (length (now line) ≡ 30 + 40 * n) × (length (now vs) ≡ 5 * n) ⌝ }
     ensures { λ r. ⌜ r ≡ F.diskAnswer (now (line .entry)) n ⌝ }
 {
     let energy = hex::value_at(line, 6);
@@ -93,10 +94,10 @@ fn runs_line(line: &[u8], n: usize, vs: &mut [f32]) -> Answer
 
 // The same, with the row on this call's stack.
 fn disk_line(line: &[u8], n: usize) -> Answer
-    requires { ⌜ (n ≤ 320) × (length (now line) ≡ 30 + 40 * n) ⌝ }
+    requires { ⌜ (n ≤ maxTanhPixels) × (length (now line) ≡ 30 + 40 * n) ⌝ }
     ensures { λ r. ⌜ r ≡ F.diskAnswer (now (line .entry)) n ⌝ }
 {
-    let mut vs = [0.0f32; 1600];
+    let mut vs = [0.0f32; 5 * data::MAX_TANH_PIXELS];
     let from = 0usize;
     let m = 5 * n;
     runs_line(line, n, &mut vs[from..m])

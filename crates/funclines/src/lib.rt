@@ -9,7 +9,7 @@ use solver::Params;
 use solver::Started;
 use solver::TwoAxisFit;
 use solver_elimination::Solved;
-ghost use Prim.Native.Nat.{_≤_};
+ghost use Prim.Native.Nat.{_^_, _<_};
 
 // ---- what crosses to C, under the names of tests/funclines.h; `some` is false where there is nothing
 
@@ -251,7 +251,7 @@ pub extern "C" fn fl_solve_4x4(a: &[[f32; 4]; 4], b: &[f32; 4]) -> Four {
 
 #[no_mangle]
 pub extern "C" fn fl_axis_std_errors(jtj: &[[f32; 4]; 4], ssr: f32, n: usize) -> Two
-    requires { ⌜ n ≤ 320 ⌝ }
+    requires { ⌜ n < 2 ^ 32 ⌝ }
 {
     let e = solver_elimination::axis_std_errors(jtj, ssr, n);
     Two {

@@ -13,7 +13,8 @@ use search_ranking::Ranked;
 ghost use mathlib.Core.Path.{_≡_};
 ghost use Prim.Native.Nat.{_≤_};
 ghost use lib.ListN.{length};
-ghost use Rattle.data.specs.Data.{DiskSized};
+ghost use Rattle.data.specs.Data.{DiskSized, maxTanhPixels};
+ghost use Rattle.candidates.specs.Candidates.{maxCandidates, maxPaired, maxPairs};
 ghost use Rattle.search_rows.specs.Rows.{Outlined};
 
 // ---- what crosses to C, under the names of tests/funclines.h; `some` is false where there is nothing
@@ -26,7 +27,7 @@ pub struct Two {
 #[repr(C)]
 pub struct Set {
     pub n: usize,
-    pub angles: [f32; 64],
+    pub angles: [f32; candidates::MAX_CANDIDATES],
 }
 
 #[repr(C)]
@@ -53,7 +54,7 @@ pub struct Ranking {
 #[repr(C)]
 pub struct Pairs {
     pub n: usize,
-    pub pairs: [Ranking; 276],
+    pub pairs: [Ranking; candidates::MAX_PAIRS],
 }
 
 #[repr(C)]
@@ -77,7 +78,7 @@ pub struct Best {
 #[repr(C)]
 pub struct Sums {
     pub total: f32,
-    pub sums: [f32; 64],
+    pub sums: [f32; candidates::MAX_CANDIDATES],
 }
 
 // Three rows, 320 places apart, and what else their maker had room for.
@@ -192,8 +193,8 @@ fn pool_of(ps: Pairs) -> Pool
     ensures { λ r. ⌜ r .n ≡ ps .n ⌝ }
 {
     let first = score_of(ps.pairs[0]);
-    let mut pairs = [first; 276];
-    for k in 0..276usize {
+    let mut pairs = [first; candidates::MAX_PAIRS];
+    for k in 0..candidates::MAX_PAIRS {
         pairs[k] = score_of(ps.pairs[k]);
     }
     Pool { n: ps.n, pairs }
@@ -201,8 +202,8 @@ fn pool_of(ps: Pairs) -> Pool
 
 fn pairs_of(pool: Pool) -> Pairs {
     let first = ranking_of(pool.pairs[0]);
-    let mut pairs = [first; 276];
-    for k in 0..276usize {
+    let mut pairs = [first; candidates::MAX_PAIRS];
+    for k in 0..candidates::MAX_PAIRS {
         pairs[k] = ranking_of(pool.pairs[k]);
     }
     Pairs { n: pool.n, pairs }
@@ -210,7 +211,7 @@ fn pairs_of(pool: Pool) -> Pairs {
 
 fn ranked_of(top: Ranked) -> Pairs {
     let first = ranking_of(top.pairs[0]);
-    let mut pairs = [first; 276];
+    let mut pairs = [first; candidates::MAX_PAIRS];
     for k in 0..24usize {
         pairs[k] = ranking_of(top.pairs[k]);
     }
@@ -221,7 +222,7 @@ fn ranked_of(top: Ranked) -> Pairs {
 
 #[no_mangle]
 pub extern "C" fn fl_push_unique(set: Set, angle: f32, min_sep: f32) -> Set
-    requires { ⌜ set .n ≤ 64 ⌝ }
+    requires { ⌜ set .n ≤ maxCandidates ⌝ }
 {
     let s = candidates_of(set);
     set_of(s.push_unique(angle, min_sep))
@@ -241,7 +242,7 @@ pub extern "C" fn fl_histogram_candidates(
 
 #[no_mangle]
 pub extern "C" fn fl_forced_seed_pair(set: Set, base0: f32, base1: f32) -> Pair
-    requires { ⌜ set .n ≤ 64 ⌝ }
+    requires { ⌜ set .n ≤ maxCandidates ⌝ }
 {
     pair_of(candidates::forced_seed_pair(candidates_of(set), base0, base1))
 }
@@ -255,7 +256,7 @@ pub extern "C" fn fl_forced_histogram_pair(set: Set, edges: &[f32]) -> Pair
 
 #[no_mangle]
 pub extern "C" fn fl_closest_candidate(set: Set, target: f32) -> Index
-    requires { ⌜ set .n ≤ 64 ⌝ }
+    requires { ⌜ set .n ≤ maxCandidates ⌝ }
 {
     match candidates::closest_candidate(candidates_of(set), target) {
         Closest::At(i) => Index { some: true, i },
@@ -276,7 +277,7 @@ pub extern "C" fn fl_build_pair_pool(
     seed: Pair,
     histogram: Pair,
 ) -> Pairs
-    requires { ⌜ set .n ≤ 24 ⌝ }
+    requires { ⌜ set .n ≤ maxPaired ⌝ }
     requires { ⌜ set .n ≤ length (now edges) ⌝ }
 {
     pairs_of(candidates::build_pair_pool(
@@ -308,7 +309,7 @@ pub extern "C" fn fl_score_pair_cached(
 ) -> Fit9
     requires { ⌜ length (now h0) ≡ length (now «vals_centered») ⌝ }
     requires { ⌜ length (now h1) ≡ length (now «vals_centered») ⌝ }
-    requires { ⌜ length (now «vals_centered») ≤ 320 ⌝ }
+    requires { ⌜ length (now «vals_centered») ≤ maxTanhPixels ⌝ }
 {
     optional_of(score::score_pair_cached(
         val_energy,
@@ -329,11 +330,11 @@ pub extern "C" fn fl_precompute_edge_alignments(
     set: Set,
 ) -> Sums
     requires { ⌜ length (now «grad_weights») ≡ length (now «grad_angles») ⌝ }
-    requires { ⌜ length (now «grad_angles») ≤ 320 ⌝ }
-    requires { ⌜ set .n ≤ 64 ⌝ }
+    requires { ⌜ length (now «grad_angles») ≤ maxTanhPixels ⌝ }
+    requires { ⌜ set .n ≤ maxCandidates ⌝ }
 {
-    let mut terms = [0.0f32; 320];
-    let mut sums = [0.0f32; 64];
+    let mut terms = [0.0f32; data::MAX_TANH_PIXELS];
+    let mut sums = [0.0f32; candidates::MAX_CANDIDATES];
     let from = 0usize;
     let n = grad_angles.len();
     let total = score::precompute_edge_alignments(
@@ -360,7 +361,7 @@ pub extern "C" fn fl_fit_std_errors(
 ) -> Two
     requires { ⌜ length (now ys) ≡ length (now xs) ⌝ }
     requires { ⌜ length (now «vals_centered») ≡ length (now xs) ⌝ }
-    requires { ⌜ length (now xs) ≤ 320 ⌝ }
+    requires { ⌜ length (now xs) ≤ maxTanhPixels ⌝ }
 {
     let e = score::fit_std_errors(xs, ys, vals_centered, fit_of(*fit));
     Two {
@@ -407,7 +408,7 @@ pub extern "C" fn fl_best_disk_fit(
 
 #[no_mangle]
 pub extern "C" fn fl_rank(pool: Pairs) -> Pairs
-    requires { ⌜ pool .n ≤ 276 ⌝ }
+    requires { ⌜ pool .n ≤ maxPairs ⌝ }
 {
     ranked_of(search_ranking::rank(pool_of(pool)))
 }

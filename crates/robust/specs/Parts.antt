@@ -5,18 +5,19 @@ use Prim.Native.Nat.{ℕ, _+_, _*_, _≤_}
 use lib.ListN.{length}
 use Rattle.floats.specs.Rows.{Row}
 use Rattle.solver.specs.Solver.{fitWithSeed}
-use Rattle.solver.specs.Buffers.{Prepared}
+use Rattle.solver.specs.Buffers.{Prepared, maxSamples}
 use Rattle.solver.specs.declared.Started.{Started}
 use Rattle.seed.specs.Seed.{secondHarmonic}
+use Rattle.robust_lanes.specs.Lanes.{gridPlaces}
 use Rattle.robust.specs.declared.First.{First}
 use Rattle.robust.specs.declared.Second.{Second}
 use Rattle.robust.specs.declared.Second.the-variants.{Made, Missing}
 use Rattle.robust.specs.declared.RingFit.{RingFit}
 use Rattle.robust.specs.Robust as R
 
--- ---- the buffers: an angle, a sine and a cosine for each of at most 24 samples, and four places in js
+-- ---- the buffers: an angle, a sine and a cosine for each sample, and four places in js
 pub record Lent (samples ringPhi sphi cphi js : Row) : Type 0 where
-  pub few : length samples ≤ 24
+  pub few : length samples ≤ maxSamples
   pub phi : length ringPhi ≡ length samples
   pub s : length sphi ≡ length samples
   pub c : length cphi ≡ length samples
@@ -24,14 +25,14 @@ pub record Lent (samples ringPhi sphi cphi js : Row) : Type 0 where
 
 -- the same, with the sines and cosines of the angles in their buffers
 pub record Ready (samples ringPhi sphi cphi js : Row) : Type 0 where
-  pub few : length samples ≤ 24
+  pub few : length samples ≤ maxSamples
   pub phi : length ringPhi ≡ length samples
   pub sines : Prepared ringPhi sphi cphi
   pub j : length js ≡ 4 * length samples
 
--- the grid's rows: 24 places for each sample, and two
+-- the grid's rows: their places for each sample, and two
 pub record Rows (samples h : Row) : Type 0 where
-  pub places : length h ≡ 24 * length samples + 2
+  pub places : length h ≡ gridPlaces * length samples + 2
 
 -- ---- starts without their sum
 abbrev pub startedOf : R.Start → Started

@@ -14,7 +14,8 @@ use Rattle.floats.specs.Rows.{Row}
 use Rattle.floats.specs.Library.{toRadians}
 use Rattle.loops.specs.TabLaws.{tab-length, part-same}
 use Rattle.solver.specs.Solver.{sines, cosines, updates, startFrom, degenerate, degenerateFit, fitWithSeed}
-use Rattle.solver.specs.Buffers.{Prepared, PassRoom}
+use Rattle.solver.specs.Buffers.{Prepared, PassRoom, maxSamples}
+use Rattle.robust_lanes.specs.Lanes.{gridPlaces}
 use Rattle.solver.specs.SolverLaws.{prepared-length, whole-prepared}
 use Rattle.solver.specs.declared.Params.{Params}
 use Rattle.solver.specs.declared.Started.{Started}
@@ -62,11 +63,11 @@ ready-room {samples} {ringPhi} {sphi} {cphi} r =
     record { few = omega arith; s = l .0 ∙ r .phi; c = l .1 ∙ r .phi; j = r .j }
 
 pub ready-rows : {samples ringPhi sphi cphi js h : Row} → Ready samples ringPhi sphi cphi js → Rows samples h
-    → (length cphi ≡ length sphi) × (length sphi ≤ 24) × (length h ≡ 24 * length sphi + 2)
+    → (length cphi ≡ length sphi) × (length sphi ≤ maxSamples) × (length h ≡ gridPlaces * length sphi + 2)
 ready-rows {samples} {ringPhi} {sphi} {cphi} r w =
     let l = prepared-length ringPhi sphi cphi (r .sines) in
     let n : length sphi ≡ length samples = l .0 ∙ r .phi in
-    (l .1 ∙ sym (l .0), omega (arith, n, r .few), w .places ∙ ap (λ (k : ℕ). 24 * k + 2) (sym n))
+    (l .1 ∙ sym (l .0), omega (arith, n, r .few), w .places ∙ ap (λ (k : ℕ). gridPlaces * k + 2) (sym n))
 
 -- ---- a start, where it is refused and where the sines and cosines are at hand
 module _ (n : ℕ) (samples ringPhi : Row) (seed : Params) (centeredVar : Float) where

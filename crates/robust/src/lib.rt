@@ -22,6 +22,9 @@ const ROBUST_SEP_TRIGGER_MIN_RAD: f32 = 1.13446403;
 
 const ROBUST_SEP_TRIGGER_MAX_RAD: f32 = 2.00712872;
 
+// The grid's rows for 16 samples, and the two places that the last lanes look at.
+const GRID_16: usize = robust_lanes::GRID_PLACES * 16 + 2;
+
 // The second start's fit, or that there was none.
 pub enum Second {
     Made(Started),
@@ -352,7 +355,7 @@ fn with_grid_16(
     ensures { λ r. ⌜ P.Chosen (f .primary) (P.secondOf (R.robustGridFit 16 (now (samples .entry)) (now («ring_phi» .entry))
         (f .mean) (f .«centered_var»))) r ⌝ }
 {
-    let mut h = [0.0f32; 386];
+    let mut h = [0.0f32; GRID_16];
     let s = grid_fit(
         samples,
         ring_phi,

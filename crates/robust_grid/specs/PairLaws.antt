@@ -20,7 +20,7 @@ use Rattle.seed.specs.Seed.{robustGridStepDeg}
 use Rattle.seed.specs.declared.Seed.{Seed}
 use Rattle.seed.specs.declared.Seed.the-variants.{Nothing}
 use Rattle.robust_grid.specs.Grid.{gridAngle, pairAt, pairsFrom, bestOf}
-use Rattle.robust_lanes.specs.Lanes.{inserted}
+use Rattle.robust_lanes.specs.Lanes.{gridPlaces, inserted}
 use Rattle.robust_grid.specs.Places.{lastOf, stepAt}
 
 -- the literal of the code: 8 degrees
@@ -55,13 +55,15 @@ same false false t = refl
 near : ℕ → Bool
 near a = not (lt (lit 0x4280_0000) (gridAngle a) || lt (gridAngle a) (minus 0x4280_0000))
 
-all-near : T (every near 24)
+all-near : T (every near gridPlaces)
 unfolding every near toRadians lt mul neg ofBits ofInt round size
 all-near = tt
 
-pub grid-near : (a : ℕ) → a < 24 → sinCosNear (gridAngle a) ≡ sinCos (gridAngle a)
+pub grid-near : (a : ℕ) → a < gridPlaces → sinCosNear (gridAngle a) ≡ sinCos (gridAngle a)
 unfolding sinCos turn
-grid-near a l = ap sinCosNear (go (lt (lit 0x4280_0000) (gridAngle a) || lt (gridAngle a) (minus 0x4280_0000)) (unfold near in every-at near 24 all-near a l))
+grid-near a l =
+    let far = lt (lit 0x4280_0000) (gridAngle a) || lt (gridAngle a) (minus 0x4280_0000) in
+    ap sinCosNear (go far (unfold near in every-at near gridPlaces all-near a l))
   where
     go : (b : Bool) → T (not b) → gridAngle a ≡ cond b (rem binary32 (gridAngle a) (lit 0x40c9_0fdb)) (gridAngle a)
     go true t = absurd t

@@ -19,7 +19,7 @@ use Rattle.seed.specs.declared.Seed.{Seed}
 use Rattle.seed.specs.declared.Seed.the-variants.{Nothing}
 use Rattle.robust_grid.specs.Grid.{gridAngle, factor, gridRow, pairAt, pairsFrom, bestOf, bestSeed}
 use Rattle.robust_grid.specs.Places.{Axes, rowFrom, sampleRow, sampleRowAt, Grid, scoreAt}
-use Rattle.robust_lanes.specs.Lanes.{sumsAt}
+use Rattle.robust_lanes.specs.Lanes.{gridPlaces, sumsAt}
 
 -- ---- scores that agree on the grid have the same best
 module _ (f g : ℕ → ℕ → Seed) (h : (a b : ℕ) → a < 23 → b < 23 → f a b ≡ g a b) where
@@ -38,10 +38,10 @@ module _ (f g : ℕ → ℕ → Seed) (h : (a b : ℕ) → a < 23 → b < 23 →
 -- ---- a sample's row
 pub row-is : (s c : Float) (sines cosines : Row) → Axes sines cosines → rowFrom s c sines cosines ≡ sampleRow s c
 unfolding rowFrom sampleRow
-row-is s c sines cosines x = tab-same _ _ 24 (λ a l. ap (factor s c) (both a l))
+row-is s c sines cosines x = tab-same _ _ gridPlaces (λ a l. ap (factor s c) (both a l))
   where
-    both : (a : ℕ) → a < 24 → _≡_ {A = SinCos} (record { s = at sines a; c = at cosines a }) (sinCos (gridAngle a))
-    both a l = rw (x .s, x .c, tab-at (λ a. sinCos (gridAngle a) .s) nan 24 a l, tab-at (λ a. sinCos (gridAngle a) .c) nan 24 a l)
+    both : (a : ℕ) → a < gridPlaces → _≡_ {A = SinCos} (record { s = at sines a; c = at cosines a }) (sinCos (gridAngle a))
+    both a l = rw (x .s, x .c, tab-at (λ a. sinCos (gridAngle a) .s) nan gridPlaces a l, tab-at (λ a. sinCos (gridAngle a) .c) nan gridPlaces a l)
 
 -- ---- the buffer, sample by sample
 module _ {sphi cphi : Row} where
@@ -49,31 +49,31 @@ module _ {sphi cphi : Row} where
   grid-none = record { row = below-none _ }
 
   -- the row of sample k came back as r
-  pub grid-more : {h : Row} (r x : Row) {k : ℕ} → Grid sphi cphi h k → k * 24 ≤ length h → r ≡ sampleRow (at sphi k) (at cphi k)
-      → Grid sphi cphi (take (k * 24) h ++ (r ++ x)) (k + 1)
+  pub grid-more : {h : Row} (r x : Row) {k : ℕ} → Grid sphi cphi h k → k * gridPlaces ≤ length h → r ≡ sampleRow (at sphi k) (at cphi k)
+      → Grid sphi cphi (take (k * gridPlaces) h ++ (r ++ x)) (k + 1)
   unfolding sampleRow
   grid-more {h} r x {k} g room e =
-      let l : length r ≡ 24 = ap length e ∙ tab-length _ 24 in
+      let l : length r ≡ gridPlaces = ap length e ∙ tab-length _ gridPlaces in
       record {
-        row = below-more (λ i. sampleRowAt (take (k * 24) h ++ (r ++ x)) i ≡ sampleRow (at sphi i) (at cphi i)) k
-            (λ i b. part-kept h (r ++ x) (k * 24) (i * 24) 24 room (omega arith) ∙ g .row i b)
-            (part-same h r x (k * 24) 24 room l ∙ e);
+        row = below-more (λ i. sampleRowAt (take (k * gridPlaces) h ++ (r ++ x)) i ≡ sampleRow (at sphi i) (at cphi i)) k
+            (λ i b. part-kept h (r ++ x) (k * gridPlaces) (i * gridPlaces) gridPlaces room (omega arith) ∙ g .row i b)
+            (part-same h r x (k * gridPlaces) gridPlaces room l ∙ e);
       }
 
   -- what stands at a place
-  place : {h : Row} {n : ℕ} → Grid sphi cphi h n → (i : ℕ) → i < n → (a : ℕ) → a < 24
-      → at h (i * 24 + a) ≡ factor (at sphi i) (at cphi i) (sinCos (gridAngle a))
+  place : {h : Row} {n : ℕ} → Grid sphi cphi h n → (i : ℕ) → i < n → (a : ℕ) → a < gridPlaces
+      → at h (i * gridPlaces + a) ≡ factor (at sphi i) (at cphi i) (sinCos (gridAngle a))
   unfolding sampleRow
   place {h} g i l a b =
-      sym (getD-drop (i * 24) h a nan) ∙ sym (getD-take 24 (drop (i * 24) h) a nan b) ∙ ap (λ (r : Row). at r a) (g .row i l)
-      ∙ tab-at (λ a. factor (at sphi i) (at cphi i) (sinCos (gridAngle a))) nan 24 a b
+      sym (getD-drop (i * gridPlaces) h a nan) ∙ sym (getD-take gridPlaces (drop (i * gridPlaces) h) a nan b) ∙ ap (λ (r : Row). at r a) (g .row i l)
+      ∙ tab-at (λ a. factor (at sphi i) (at cphi i) (sinCos (gridAngle a))) nan gridPlaces a b
 
   module _ {h : Row} {n : ℕ} (g : Grid sphi cphi h n) (centered : Row) where
     sums-same : (a b : ℕ) → a < 23 → b < 23 → sumsAt n centered h a b ≡ pairSums n centered (gridRow n sphi cphi a) (gridRow n sphi cphi b)
     unfolding sumsAt pairSums gridRow
     sums-same a b x y = iter-same _ _ zeros n (λ i l s. rw (at-row a x i l, at-row b y i l))
       where
-        at-row : (a : ℕ) → a < 23 → (i : ℕ) → i < n → at h (i * 24 + a) ≡ at (tab (λ i. factor (at sphi i) (at cphi i) (sinCos (gridAngle a))) n) i
+        at-row : (a : ℕ) → a < 23 → (i : ℕ) → i < n → at h (i * gridPlaces + a) ≡ at (tab (λ i. factor (at sphi i) (at cphi i) (sinCos (gridAngle a))) n) i
         at-row a x i l = place g i l a (omega arith) ∙ sym (tab-at (λ i. factor (at sphi i) (at cphi i) (sinCos (gridAngle a))) nan n i l)
 
     pub grid-best : (centeredSs mean : Float) → bestOf (scoreAt n h centered centeredSs mean) ≡ bestSeed n sphi cphi centered centeredSs mean

@@ -11,25 +11,25 @@ use Rattle.elementary.specs.Elementary.{sinCos}
 use Rattle.loops.specs.Loops.{range, tab}
 use Rattle.seed.specs.Seed.{scored}
 use Rattle.seed.specs.declared.Seed.{Seed}
-use Rattle.robust_lanes.specs.Lanes.{inserted, sumsAt}
+use Rattle.robust_lanes.specs.Lanes.{gridPlaces, inserted, sumsAt}
 use Rattle.robust_grid.specs.Grid.{gridAngle, factor}
 
 -- ---- the buffer
 -- the sines and cosines of the grid's angles, and of one more
 pub record Axes (sines cosines : Row) : Type 0 where
-  pub s : sines ≡ tab (λ a. sinCos (gridAngle a) .s) 24
-  pub c : cosines ≡ tab (λ a. sinCos (gridAngle a) .c) 24
+  pub s : sines ≡ tab (λ a. sinCos (gridAngle a) .s) gridPlaces
+  pub c : cosines ≡ tab (λ a. sinCos (gridAngle a) .c) gridPlaces
 
 -- a sample's factors from such rows, and the factors themselves
 unfoldable pub rowFrom : Float → Float → Row → Row → Row
-rowFrom s c sines cosines = tab (λ a. factor s c (record { s = at sines a; c = at cosines a })) 24
+rowFrom s c sines cosines = tab (λ a. factor s c (record { s = at sines a; c = at cosines a })) gridPlaces
 
 unfoldable pub sampleRow : Float → Float → Row
-sampleRow s c = tab (λ a. factor s c (sinCos (gridAngle a))) 24
+sampleRow s c = tab (λ a. factor s c (sinCos (gridAngle a))) gridPlaces
 
 -- the 24 places of sample i
 abbrev pub sampleRowAt : Row → ℕ → Row
-sampleRowAt h i = take 24 (drop (i * 24) h)
+sampleRowAt h i = take gridPlaces (drop (i * gridPlaces) h)
 
 -- the first k samples have their factors
 pub record Grid (sphi cphi h : Row) (k : ℕ) : Type 0 where

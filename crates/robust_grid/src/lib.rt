@@ -6,6 +6,7 @@ ghost use mathlib.Core.Path.{_≡_};
 ghost use Prim.Native.Nat.{_+_, _*_, _≤_, _<_};
 ghost use lib.ListN.{length};
 ghost use Rattle.floats.specs.Rows.{count};
+ghost use Rattle.solver.specs.Buffers.{maxSamples};
 ghost use Rattle.robust_grid.specs.Grid as G;
 ghost use Rattle.robust_grid.specs.Places as P;
 ghost use Rattle.robust_lanes.specs.Lanes as L;
@@ -16,19 +17,19 @@ const TANH_BETA: f32 = 4.0;
 const GRID_STEP: f32 = 0.139626339;
 
 fn grid_angle(a: usize) -> f32
-    requires { ⌜ a < 24 ⌝ }
+    requires { ⌜ a < L.gridPlaces ⌝ }
     ensures { λ r. ⌜ r ≡ G.gridAngle a ⌝ }
 {
     floats::count_f32(a) * GRID_STEP
 }
 
 // Sine and cosine of each angle of the grid. All are below 64 in size, so that this becomes vector code. Here and in
-// `grid_row` the loop runs to 24: to 23 the compiler would leave three angles apart. Place 23 is not used.
+// `grid_row` the loop runs over all places: to 23 the compiler would leave three angles apart. Place 23 is not used.
 fn grid_axes(sines: &mut [f32], cosines: &mut [f32])
-    requires { ⌜ (length (now sines) ≡ 24) × (length (now cosines) ≡ 24) ⌝ }
+    requires { ⌜ (length (now sines) ≡ L.gridPlaces) × (length (now cosines) ≡ L.gridPlaces) ⌝ }
     ensures { λ _. ⌜ P.Axes (now (sines .exit)) (now (cosines .exit)) ⌝ }
 {
-    for a in 0..24 {
+    for a in 0..robust_lanes::GRID_PLACES {
         let t = elementary::sin_cos_near(grid_angle(a));
         sines[a] = t.s;
         cosines[a] = t.c;
@@ -37,26 +38,26 @@ fn grid_axes(sines: &mut [f32], cosines: &mut [f32])
 
 // The model's factor of one sample at each angle of the grid.
 fn grid_row(s: f32, c: f32, sines: &[f32], cosines: &[f32], row: &mut [f32])
-    requires { ⌜ (length (now sines) ≡ 24) × (length (now cosines) ≡ 24) × (length (now row) ≡ 24) ⌝ }
+    requires { ⌜ (length (now sines) ≡ L.gridPlaces) × (length (now cosines) ≡ L.gridPlaces) × (length (now row) ≡ L.gridPlaces) ⌝ }
     ensures { λ _. ⌜ now (row .exit) ≡ P.rowFrom s c (now (sines .entry)) (now (cosines .entry)) ⌝ }
 {
-    for a in 0..24 {
+    for a in 0..robust_lanes::GRID_PLACES {
         row[a] = elementary::tanh(TANH_BETA * (s * cosines[a] - c * sines[a]));
     }
 }
 
-// All samples, 24 places apart.
+// All samples.
 pub fn fill_grid(sphi: &[f32], cphi: &[f32], h: &mut [f32])
-    requires { ⌜ (length (now cphi) ≡ length (now sphi)) × (length (now sphi) ≤ 24) × (length (now h) ≡ 24 * length (now sphi) + 2) ⌝ }
+    requires { ⌜ (length (now cphi) ≡ length (now sphi)) × (length (now sphi) ≤ maxSamples) × (length (now h) ≡ L.gridPlaces * length (now sphi) + 2) ⌝ }
     ensures { λ _. ⌜ P.Grid (now (sphi .entry)) (now (cphi .entry)) (now (h .exit)) (length (now (sphi .entry))) ⌝ }
 {
     let n = sphi.len();
-    let mut sines = [0.0f32; 24];
-    let mut cosines = [0.0f32; 24];
+    let mut sines = [0.0f32; robust_lanes::GRID_PLACES];
+    let mut cosines = [0.0f32; robust_lanes::GRID_PLACES];
     grid_axes(&mut sines, &mut cosines);
     for i in 0..n {
-        let b = i * 24;
-        let e = b + 24;
+        let b = i * robust_lanes::GRID_PLACES;
+        let e = b + robust_lanes::GRID_PLACES;
         grid_row(sphi[i], cphi[i], &sines, &cosines, &mut h[b..e]);
     }
 }

@@ -9,7 +9,7 @@ use Rattle.floats.specs.Rows.{Row, at}
 use Rattle.loops.specs.IterLaws.{iter-zero, iter-next}
 use Rattle.seed.specs.Seed.{summedBy}
 use Rattle.robust_lanes.specs.declared.Lanes.{Lanes}
-use Rattle.robust_lanes.specs.Lanes.{sumsAt, four, laneSums, lanesAdded}
+use Rattle.robust_lanes.specs.Lanes.{gridPlaces, sumsAt, four, laneSums, lanesAdded}
 
 pub four-at : (f : ℕ → Float) (k : ℕ) → k < 4 → at (four f) k ≡ f k
 four-at f zero l = refl
@@ -30,11 +30,12 @@ module _ (centered h : Row) (a b : ℕ) where
   unfolding laneSums sumsAt
   lanes-none = simp iter-zero
 
-  next : (i k : ℕ) → sumsAt (i + 1) centered h a (b + k) ≡ summedBy (at centered i) (at h (i * 24 + a)) (at h (i * 24 + b + k)) (sumsAt i centered h a (b + k))
+  next : (i k : ℕ) → sumsAt (i + 1) centered h a (b + k) ≡
+      summedBy (at centered i) (at h (i * gridPlaces + a)) (at h (i * gridPlaces + b + k)) (sumsAt i centered h a (b + k))
   unfolding sumsAt
-  next i k = let z : i * 24 + (b + k) ≡ i * 24 + b + k = omega arith in rw (iter-next, z)
+  next i k = let z : i * gridPlaces + (b + k) ≡ i * gridPlaces + b + k = omega arith in rw (iter-next, z)
 
-  pub lanes-more : (i : ℕ) (s t : Lanes) (y : Row) → s ≡ laneSums i centered h a b → y ≡ four (λ k. at h (i * 24 + b + k))
-      → t ≡ lanesAdded s (at centered i) (at h (i * 24 + a)) y → t ≡ laneSums (i + 1) centered h a b
+  pub lanes-more : (i : ℕ) (s t : Lanes) (y : Row) → s ≡ laneSums i centered h a b → y ≡ four (λ k. at h (i * gridPlaces + b + k))
+      → t ≡ lanesAdded s (at centered i) (at h (i * gridPlaces + a)) y → t ≡ laneSums (i + 1) centered h a b
   unfolding laneSums summedBy
   lanes-more i s t y e g d = d ∙ (rw (e, g, next i 0, next i 1, next i 2, next i 3))

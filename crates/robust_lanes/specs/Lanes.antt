@@ -8,6 +8,7 @@ use Rattle.floats.specs.Ops.{_⊕_, _⊖_, _⊗_, _⊘_, nought}
 use Rattle.floats.specs.Rows.{Row, at}
 use Rattle.floats.specs.Library.{max, sqrt}
 use Rattle.loops.specs.Loops.{iter}
+use Rattle.solver.specs.Buffers.{maxSamples}
 use Rattle.seed.specs.Seed.{zeros, summedBy, insertSeedCandidate}
 use Rattle.seed.specs.declared.Sums.{Sums}
 use Rattle.seed.specs.declared.Seed.{Seed}
@@ -15,15 +16,19 @@ use Rattle.seed.specs.declared.Seed.the-variants.{Found, Nothing}
 use Rattle.robust_lanes.specs.declared.Best.{Best}
 use Rattle.robust_lanes.specs.declared.Lanes.{Lanes}
 
--- 24 places for each sample, and two that the last lanes of the last sample look at
+-- the grid's rows stand so far apart: a place for each of its 23 angles, and one that evens them out
+abbrev pub gridPlaces : ℕ
+gridPlaces = 24
+
+-- these places for each sample, and two that the last lanes of the last sample look at
 pub record GridRoom (centered h : Row) : Type 0 where
-  pub few : length centered ≤ 24
-  pub places : length h ≡ 24 * length centered + 2
+  pub few : length centered ≤ maxSamples
+  pub places : length h ≡ gridPlaces * length centered + 2
 
 -- ---- four pairs
 -- the sums of the angles a and b
 unfoldable pub sumsAt : ℕ → Row → Row → ℕ → ℕ → Sums
-sumsAt n centered h a b = iter (λ i. summedBy (at centered i) (at h (i * 24 + a)) (at h (i * 24 + b))) zeros n
+sumsAt n centered h a b = iter (λ i. summedBy (at centered i) (at h (i * gridPlaces + a)) (at h (i * gridPlaces + b))) zeros n
 
 abbrev pub four : (ℕ → Float) → Row
 four f = f 0 ∷ f 1 ∷ f 2 ∷ f 3 ∷ []

@@ -8,6 +8,9 @@ ghost use Rattle.floats.specs.Ops.{nought};
 ghost use Rattle.floats.specs.Library.{max};
 ghost use Rattle.robust_lanes.specs.Lanes as L;
 
+// A sample's places in the grid's rows.
+pub const GRID_PLACES: usize = 24;
+
 // The sums of four pairs side by side: of the angle a with b, b + 1, b + 2 and b + 3.
 pub struct Lanes {
     pub q_sum: [f32; 4],
@@ -61,9 +64,9 @@ pub fn lane_sums(h: &[f32], centered: &[f32], a: usize, b: usize) -> Lanes
         num: none,
     };
     for i in 0..n {
-        let k = i * 24 + b;
+        let k = i * GRID_PLACES + b;
         let y = [h[k], h[k + 1], h[k + 2], h[k + 3]];
-        let next = added(s, centered[i], h[i * 24 + a], y);
+        let next = added(s, centered[i], h[i * GRID_PLACES + a], y);
         s = next;
     }
     s

@@ -7,6 +7,7 @@ ghost use Prim.Native.Nat.{_≤_};
 ghost use lib.Ieee.{Float};
 ghost use lib.ListN.{length};
 ghost use Rattle.data.specs.Data.{OfPixels, OfValues, OfGradients, maxTanhPixels};
+ghost use Rattle.candidates.specs.Candidates.{maxCandidates};
 ghost use Rattle.score.specs.Score as S;
 
 pub const WIDTHS_PX: [f32; 4] = [0.35, 0.70, 1.40, 2.80];
@@ -190,7 +191,7 @@ pub fn precompute_edge_alignments(
     out: &mut [f32],
 ) -> f32
     requires { ⌜ (length (now «grad_weights») ≡ length (now «grad_angles»)) × (length (now terms) ≡ length (now «grad_angles»))
-        × (candidates .n ≤ length (now out)) × (length (now out) ≤ 64) ⌝ }
+        × (candidates .n ≤ length (now out)) × (length (now out) ≤ maxCandidates) ⌝ }
     ensures { λ r. ⌜ OfGradients «grad_angles» «grad_weights» (λ D. _≡_ {A = S.Alignments} (record { total = r; out = now (out .exit) })
         (S.precomputeEdgeAlignments D candidates (now (out .entry)))) ⌝ }
 {

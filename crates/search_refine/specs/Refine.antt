@@ -38,6 +38,10 @@ offsetsAround step = beside step (neg step) ++ (beside step nought ++ beside ste
 unfoldable pub offsets : List Offset
 offsets = offsetsAround (toRadians (lit 0x3f80_0000)) ++ (offsetsAround (toRadians (lit 0x3f00_0000)) ++ offsetsAround (toRadians (lit 0x3e80_0000)))
 
+-- eight at each step
+abbrev pub neighbours : ℕ
+neighbours = 24
+
 -- ---- refine_fit_cached
 module _ (D : DiskData) (total : Float) where
   -- one scoring: the best's axes moved by an offset

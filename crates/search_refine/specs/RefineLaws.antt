@@ -26,7 +26,7 @@ use Rattle.search_rows.specs.Rows.{Stands, SlotsKept, heldScore}
 use Rattle.search_rows.specs.declared.Slots.{Slots}
 use Rattle.search_refine.specs.declared.Offset.{Offset}
 use Rattle.search_refine.specs.declared.Refined.{Refined}
-use Rattle.search_refine.specs.Refine.{by, unlessMiddle, beside, offsetsAround, offsets, nowhere, neighbour, betterOf, tried}
+use Rattle.search_refine.specs.Refine.{by, unlessMiddle, beside, offsetsAround, offsets, neighbours, nowhere, neighbour, betterOf, tried}
 use Rattle.search_refine.specs.Refine.{bestAfter, refineFitCached, answers, refineFit}
 
 -- ---- how the code finds the offsets of neighbour t: eight a step, the middle of the square passed over
@@ -42,15 +42,15 @@ sides step = neg step ∷ nought ∷ step ∷ []
 abbrev offsetBy : ℕ → Offset
 offsetBy t = by (at (sides (stepAt t)) (placeOf t / 3)) (at (sides (stepAt t)) (placeOf t % 3))
 
-all-offsets : tab offsetBy 24 ≡ offsets
+all-offsets : tab offsetBy neighbours ≡ offsets
 unfolding tab offsets offsetsAround beside unlessMiddle toRadians eq mul neg ofBits
 all-offsets = refl
 
-pub offset-at : (t : ℕ) → t < 24 → offsetBy t ≡ getD offsets t nowhere
-offset-at t h = sym (tab-at offsetBy nowhere 24 t h) ∙ ap (λ (l : List Offset). getD l t nowhere) all-offsets
+pub offset-at : (t : ℕ) → t < neighbours → offsetBy t ≡ getD offsets t nowhere
+offset-at t h = sym (tab-at offsetBy nowhere neighbours t h) ∙ ap (λ (l : List Offset). getD l t nowhere) all-offsets
 
-pub offsets-are : length offsets ≡ 24
-offsets-are = ap length (sym all-offsets) ∙ tab-length offsetBy 24
+pub offsets-are : length offsets ≡ neighbours
+offsets-are = ap length (sym all-offsets) ∙ tab-length offsetBy neighbours
 
 -- ---- a neighbour
 -- with the rows of both axes in their slots the held score is the neighbour's
@@ -102,8 +102,8 @@ kept-on {xs} {ys} {angles} {weights} {rows} {slots} D total o best next e h =
 -- 24 turns of the code, with the total of all weights
 pub refined-is :
     (energy : Float) (xs ys vals angles weights : Row) (total : Float) (seed : Fit) (r : Refined) →
-    total ≡ edgeWeightTotal (length weights) weights → length weights ≡ length xs → r .trials ≡ 24 →
-    r .best ≡ iter (λ t. tried (diskOf energy xs ys vals angles weights) total (getD offsets t nowhere)) seed 24 →
+    total ≡ edgeWeightTotal (length weights) weights → length weights ≡ length xs → r .trials ≡ neighbours →
+    r .best ≡ iter (λ t. tried (diskOf energy xs ys vals angles weights) total (getD offsets t nowhere)) seed neighbours →
     r ≡ refineFitCached (diskOf energy xs ys vals angles weights) seed
 unfolding refineFitCached bestAfter
 refined-is energy xs ys vals angles weights total seed r t w n e =

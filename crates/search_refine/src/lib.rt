@@ -43,7 +43,7 @@ fn place(t: usize) -> usize
 
 // The offsets of neighbour t: the steps are 1, 0.5 and 0.25 degrees.
 fn offset_at(t: usize) -> Offset
-    requires { ⌜ t < 24 ⌝ }
+    requires { ⌜ t < R.neighbours ⌝ }
     ensures { λ r. ⌜ r ≡ getD R.offsets t R.nowhere ⌝ }
 {
     let steps_deg = [1.0f32, 0.5, 0.25];
@@ -84,7 +84,7 @@ fn try_neighbour(
     t: usize,
     rows: &mut [f32],
 ) -> Turn
-    requires { ⌜ (t < 24) × (turn .refined .trials < 1000)
+    requires { ⌜ (t < R.neighbours) × (turn .refined .trials < 1000)
         × DiskSized (now xs) (now ys) (now «vals_centered») (now «grad_angles») (now «grad_weights»)
         × SlotsKept (now xs) (now ys) (now «grad_angles») (now «grad_weights») (turn .refined .best .width) (turn .slots) (now rows) ⌝ }
     ensures { λ r. ⌜ (r .refined .trials ≡ turn .refined .trials + 1)

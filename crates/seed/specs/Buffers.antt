@@ -6,13 +6,14 @@ use lib.Ieee.{Float}
 use Rattle.floats.specs.Ops.{_⊕_, _⊖_, _⊗_, lit}
 use Rattle.floats.specs.Rows.{Row, at}
 use Rattle.elementary.specs.Elementary.{turn}
+use Rattle.solver.specs.Buffers.{maxSamples}
 use Rattle.loops.specs.Loops.{iter, tab}
 use Rattle.seed.specs.declared.Waves.{Waves}
 use Rattle.seed.specs.Seed.{calm}
 
--- every buffer is as long as the samples, of which there are at most 320
+-- every buffer is as long as the samples, of which there are not too many
 pub record HarmonicRoom (samples ringPhi turned sphi cphi : Row) : Type 0 where
-  pub few : length samples ≤ 320
+  pub few : length samples ≤ maxSamples
   pub phi : length ringPhi ≡ length samples
   pub t : length turned ≡ length samples
   pub s : length sphi ≡ length samples

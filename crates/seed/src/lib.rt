@@ -3,6 +3,7 @@
 ghost use mathlib.Core.Path.{_≡_};
 ghost use Prim.Native.Nat.{_≤_};
 ghost use lib.ListN.{length};
+ghost use Rattle.solver.specs.Buffers.{maxSamples};
 ghost use Rattle.seed.specs.Seed as S;
 ghost use Rattle.seed.specs.Buffers as B;
 
@@ -187,7 +188,7 @@ pub fn score_seed_pair(
     theta1: f32,
     theta2: f32,
 ) -> Seed
-    requires { ⌜ (length (now h1) ≡ length (now centered)) × (length (now h2) ≡ length (now centered)) × (length (now centered) ≤ 320) ⌝ }
+    requires { ⌜ (length (now h1) ≡ length (now centered)) × (length (now h2) ≡ length (now centered)) × (length (now centered) ≤ maxSamples) ⌝ }
     ensures { λ r. ⌜ r ≡ S.scoreSeedPair (length (now (centered .entry))) (now (centered .entry)) «centered_ss» mean
         (now (h1 .entry)) (now (h2 .entry)) theta1 theta2 ⌝ }
 {

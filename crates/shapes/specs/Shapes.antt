@@ -5,6 +5,7 @@ use mathlib.Core.Path.{_≡_}
 use Prim.Native.Nat.{ℕ, _+_, _*_, _≤_}
 use lib.ListN.{length}
 use lib.Dec.{ltb, eqb}
+use Rattle.data.specs.Data.{maxTanhPixels}
 use Rattle.hex.specs.Hex.{allHex, byteOf}
 use Rattle.shapes.specs.declared.Fault.the-variants.{TooLong, Foreign, Short, RingLength, DiskShort, DiskLength}
 use Rattle.shapes.specs.declared.Shape.{Shape}
@@ -19,7 +20,7 @@ diskLength n = 30 + 40 * n
 
 -- 12,830 characters
 abbrev pub limit : ℕ
-limit = diskLength 320
+limit = diskLength maxTanhPixels
 
 -- how long the answer of a fit is, a disk's and a ring's
 abbrev pub fitLength : Bool → ℕ
@@ -28,9 +29,9 @@ fitLength disk = cond disk 98 60
 unfoldable pub ringShape : List ℕ → Shape
 ringShape l = cond (eqb (length l) (ringLength 16)) Ring (Malformed RingLength)
 
--- a count of 0 or above 320 is refused before the length is looked at
+-- a count of 0 or of too many is refused before the length is looked at
 unfoldable pub countedShape : ℕ → ℕ → Shape
-countedShape size n = cond (eqb n 0 || ltb 320 n) (BadCount n) (cond (eqb size (diskLength n)) (Disk n) (Malformed (DiskLength n)))
+countedShape size n = cond (eqb n 0 || ltb maxTanhPixels n) (BadCount n) (cond (eqb size (diskLength n)) (Disk n) (Malformed (DiskLength n)))
 
 -- the count is the four digits behind the type
 unfoldable pub diskShape : List ℕ → Shape
@@ -49,7 +50,7 @@ shapeOf l =
 -- what a reader of the values relies on
 abbrev pub ShapeSized : ℕ → Shape → Type 0
 ShapeSized size Ring = size ≡ ringLength 16
-ShapeSized size (Disk n) = (n ≤ 320) × (size ≡ diskLength n)
+ShapeSized size (Disk n) = (n ≤ maxTanhPixels) × (size ≡ diskLength n)
 ShapeSized size (BadCount n) = 0 ≤ size
 ShapeSized size (OtherType kind) = 0 ≤ size
 ShapeSized size (Malformed fault) = 0 ≤ size

@@ -5,10 +5,8 @@ ghost use Prim.Native.Nat.{_≤_, _<_};
 ghost use lib.ListN.{length};
 ghost use Rattle.shapes.specs.Shapes as S;
 
-// Samples of a ring, and the most pixels of a disk.
+// Samples of a ring.
 pub const SAMPLES: usize = 16;
-
-pub const MAX_PIXELS: usize = 320;
 
 // A disk's line before its pixels, and for each pixel, in characters.
 pub const DISK_HEAD: usize = 30;
@@ -16,7 +14,7 @@ pub const DISK_HEAD: usize = 30;
 pub const PIXEL: usize = 40;
 
 // The longest frame line: a disk of the most pixels.
-pub const LIMIT: usize = DISK_HEAD + PIXEL * MAX_PIXELS;
+pub const LIMIT: usize = DISK_HEAD + PIXEL * data::MAX_TANH_PIXELS;
 
 // What makes a line malformed: it is too long; it has a character that is no digit; it is too short for
 // a type; the length that its type, or its count of pixels, asks for.
@@ -56,7 +54,7 @@ fn counted_shape(line: &[u8], n: u32) -> Shape
     if pixels == 0 {
         return Shape::BadCount(n);
     }
-    if pixels > MAX_PIXELS {
+    if pixels > data::MAX_TANH_PIXELS {
         return Shape::BadCount(n);
     }
     if line.len() == DISK_HEAD + PIXEL * pixels {

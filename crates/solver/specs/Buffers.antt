@@ -33,9 +33,13 @@ pub record Prepared (ringPhi sphi cphi : Row) : Type 0 where
   pub c : cphi ≡ cosines (length ringPhi) ringPhi
 
 -- ---- a pass
--- there are at most 320 samples, a sine and a cosine for each, and four places in js
+-- the most samples that the buffers have room for
+abbrev pub maxSamples : ℕ
+maxSamples = 24
+
+-- a sine and a cosine for each sample, and four places in js
 pub record PassRoom (samples sphi cphi js : Row) : Type 0 where
-  pub few : length samples ≤ 320
+  pub few : length samples ≤ maxSamples
   pub s : length sphi ≡ length samples
   pub c : length cphi ≡ length samples
   pub j : length js ≡ 4 * length samples

@@ -5,7 +5,7 @@ use solver_elimination::Errors;
 use solver_elimination::Solved;
 ghost use mathlib.Core.Path.{_≡_};
 ghost use mathlib.Core.Bool.{true};
-ghost use Prim.Native.Nat.{_*_, _≤_};
+ghost use Prim.Native.Nat.{_*_, _^_, _<_, _≤_};
 ghost use lib.ListN.{length};
 ghost use Rattle.solver.specs.Solver as S;
 ghost use Rattle.elementary.specs.Elementary.{turn};
@@ -228,7 +228,7 @@ fn no_sums() -> Sums
 
 // The sums of all samples, in their order.
 fn add_up(js: &[f32], n: usize) -> Sums
-    requires { ⌜ (n ≤ 320) × (length (now js) ≡ 4 * n) ⌝ }
+    requires { ⌜ (n ≤ B.maxSamples) × (length (now js) ≡ 4 * n) ⌝ }
     ensures { λ r. ⌜ B.spread r ≡ B.summed n (now (js .entry)) ⌝ }
 {
     let mut s = no_sums();
@@ -399,7 +399,7 @@ fn assembled(a: Axes, e: Errors, rms: f32) -> TwoAxisFit
 }
 
 fn finished(p: Params, jtj: &[[f32; 4]; 4], ssr: f32, n: usize) -> TwoAxisFit
-    requires { ⌜ n ≤ 320 ⌝ }
+    requires { ⌜ n < 2 ^ 32 ⌝ }
     ensures { λ r. ⌜ r ≡ S.finished n p (now (jtj .entry)) ssr ⌝ }
 {
     let e = solver_elimination::axis_std_errors(jtj, ssr, n);

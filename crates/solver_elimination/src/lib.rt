@@ -2,7 +2,7 @@
 // ring_fit/solver.rs, solve_4x4 and axis_std_errors.
 ghost use mathlib.Core.Path.{_≡_};
 ghost use mathlib.Core.Bool.{false};
-ghost use Prim.Native.Nat.{_≤_, _<_};
+ghost use Prim.Native.Nat.{_^_, _<_};
 ghost use Rattle.floats.specs.Rows.{at};
 ghost use Rattle.solver_elimination.specs.Solve as S;
 
@@ -177,7 +177,7 @@ fn both_errors(jtj: &[[f32; 4]; 4], v: f32) -> Errors
 }
 
 pub fn axis_std_errors(jtj: &[[f32; 4]; 4], ssr: f32, n: usize) -> Errors
-    requires { ⌜ n ≤ 320 ⌝ }
+    requires { ⌜ n < 2 ^ 32 ⌝ }
     ensures { λ r. ⌜ r ≡ S.axisStdErrors (now (jtj .entry)) ssr n ⌝ }
 {
     if n <= 4 {

@@ -34,8 +34,10 @@ returns-2 c =
     (⊎-elim
     (λ w. rw (some, few, xs-same _, eq-eqb _ _ (w .0 .left), not-true (eqb _ _) (w .1 .taken)))
     (⊎-elim
-    (λ w. rw (some, few, xs-same _, eq-eqb _ _ (w .0 .left), not-false (eqb _ _) (w .1 .left), not-true (eqb _ _) (w .2 .taken)))
-    (λ w. rw (some, few, xs-same _, eq-eqb _ _ (w .0 .left), not-false (eqb _ _) (w .1 .left), not-false (eqb _ _) (w .2 .left), not-true (eqb _ _) (w .3 .taken)))))
+    (λ w. let y = eq-eqb _ _ (w .0 .left) in rw (some, few, xs-same _, y, not-false (eqb _ _) (w .1 .left), not-true (eqb _ _) (w .2 .taken)))
+    (λ w.
+    let y = eq-eqb _ _ (w .0 .left) in
+    rw (some, few, xs-same _, y, not-false (eqb _ _) (w .1 .left), not-false (eqb _ _) (w .2 .left), not-true (eqb _ _) (w .3 .taken)))))
     (c .if3 .came)
 
 disk-looked-requires : tie.Need-disk-looked-requires

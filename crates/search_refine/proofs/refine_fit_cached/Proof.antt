@@ -8,7 +8,7 @@ use Rattle.loops.specs.IterLaws.{iter-zero, iter-more}
 use Rattle.data.specs.Data.{diskOf}
 use Rattle.search_rows.specs.Rows.{SlotsKept}
 use Rattle.search_rows.specs.RowsLaws.{kept-none}
-use Rattle.search_refine.specs.Refine.{offsets, nowhere, tried}
+use Rattle.search_refine.specs.Refine.{offsets, neighbours, nowhere, tried}
 use Rattle.search_refine.specs.RefineLaws.{refined-is}
 use borrow.Author.Needs.{needs}
 use Rattle.search_refine.proofs.refine_fit_cached.Statement.{statement}
@@ -17,12 +17,12 @@ use Rattle.search_refine.proofs.refine_fit_cached.Tie as tie
 abbrev Inv-loop : tie.InvT-loop
 Inv-loop val-energy xs ys vals-centered grad-angles grad-weights rows₀ total turn₀ t₀ rows turn t =
     let D = diskOf val-energy xs ys vals-centered grad-angles grad-weights in
-    (t ≤ 24) × (turn .refined .trials ≡ t) × (turn .slots .total ≡ total)
+    (t ≤ neighbours) × (turn .refined .trials ≡ t) × (turn .slots .total ≡ total)
     × SlotsKept xs ys grad-angles grad-weights (turn .refined .best .width) (turn .slots) rows
     × (turn .refined .best ≡ iter (λ t. tried D total (getD offsets t nowhere)) (turn₀ .refined .best) t)
 
 abbrev μ-loop : tie.MeasureT-loop
-μ-loop val-energy xs ys vals-centered grad-angles grad-weights rows₀ total turn₀ t₀ rows turn t = 24 - t
+μ-loop val-energy xs ys vals-centered grad-angles grad-weights rows₀ total turn₀ t₀ rows turn t = neighbours - t
 
 loop-holds : tie.Need-loop-holds Inv-loop μ-loop
 loop-holds c =
@@ -44,7 +44,7 @@ loop-again c =
 returns : tie.Need-returns Inv-loop μ-loop
 returns c =
     let l = c .before .before in
-    let h : l .loop .t ≡ 24 = omega arith in
+    let h : l .loop .t ≡ neighbours = omega arith in
     let i = rw h at (l .loop .inv) in
     let w = l .before .before in
     let s = w .before .before .before .before .before .before .before in
