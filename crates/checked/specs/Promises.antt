@@ -36,13 +36,11 @@ use Rattle.checked.specs.Checked as C
 use Rattle.checked.specs.Checked.{firstWild, ringInputs, checkedRing, ringNumber, ringPlace, ringValues, ringCounts, diskInputs, checkedDisk, diskNumber}
 use Rattle.checked.specs.Checked.{diskPlace, diskValues, diskCounts}
 use Rattle.checked.specs.CheckedLaws.{IsFirstWild, wild-first, clean-finite}
+use Rattle.floats.specs.FiniteLaws.{of-true}
 
 -- every value of a list is finite
 abbrev pub AllFinite : List Float → Type 0
 AllFinite l = (i : ℕ) → i < length l → finite (getD l i nan) ≡ true
-
-as-true : {b : Bool} → b ≡ true → T b
-as-true e = rw e tt
 
 -- ---- the ring
 module _ (samples angles : List Float) where
@@ -64,7 +62,7 @@ module _ (samples angles : List Float) where
   ring-cases = go (eqb (length samples) 16) (eqb (length angles) 16) refl refl (firstWild inputs) refl
     where
       sixteen : (l : List Float) → eqb (length l) 16 ≡ true → length l ≡ 16
-      sixteen l p = eqb→eq (length l) 16 (as-true p)
+      sixteen l p = eqb→eq (length l) 16 (of-true p)
 
       total : eqb (length samples) 16 ≡ true → eqb (length angles) 16 ≡ true → length inputs ≡ 32
       total p q = length-append samples angles ∙ omega (arith, sixteen samples p, sixteen angles q)
@@ -186,7 +184,7 @@ module _ (samples angles : List Float) where
     ring-zero z =
         let n = answered-is-the-fit .sixteen in
         let each : (i : ℕ) → i < 16 → T (finite (getD samples i nan)) =
-        λ i h. as-true (sym (ap finite (List·getD-append samples angles nan i (omega (arith, n)))) ∙
+        λ i h. of-true (sym (ap finite (List·getD-append samples angles nan i (omega (arith, n)))) ∙
         answered-finite .1 i (omega (arith, answered-finite .0))) in
         let t = ring-tiny samples angles each (rw values-are at z) in
         (t .number, t .above, t .small)

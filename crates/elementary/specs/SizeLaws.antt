@@ -18,6 +18,7 @@ use Rattle.floats.specs.RankLaws.{Sized, sized-no-nan}
 use Rattle.floats.specs.NarrowOrderLaws.{G, G-mono, fraction-sized}
 use Rattle.floats.specs.NonNegLaws.{sum-same, sum-np-lt, sum-pn-ge, sum-pn-lt}
 use Rattle.floats.specs.ProductLaws.{mul-val, mul-size, div-val}
+use Rattle.floats.specs.FiniteLaws.{finite-number}
 
 -- 1 in units
 abbrev pub L : ℕ
@@ -230,9 +231,4 @@ mul-number {a} {b} {x} {y} h k =
     (mul-size binary32 x y (h .sign) (h .count) (k .sign) (k .count) (h .val) (k .val))
 
 pub within-number : {n : ℕ} {x : Float} → Within n x → T (not (isNan x))
-within-number {n} {x} h = go x (within-finite h)
-  where
-    go : (x : Float) → T (finite x) → T (not (isNan x))
-    go nan t = absurd t
-    go (inf s) t = absurd t
-    go (fin s m e) t = unfold isNan in tt
+within-number {n} {x} h = finite-number x (within-finite h)

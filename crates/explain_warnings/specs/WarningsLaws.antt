@@ -1,12 +1,8 @@
 -- What the comparisons of a float with itself tell, by its three kinds; and the text of the warnings. Assumes nothing.
-use mathlib.Core.Path.{_≡_, refl, sym, subst, ap, _∙_}
+use mathlib.Core.Path.{_≡_, refl, sym, ap, _∙_}
 use mathlib.Core.Bool.{Bool, true, false, not, true≢false}
-use lib.Dec.{T}
-use lib.Ieee.{Float, nan, inf, fin, eq, ne, isNan}
-use lib.Ieee.Compare.{differs-from-itself}
+use lib.Ieee.{Float, nan, inf, fin, eq}
 use lib.Ieee.Scale.{finite}
-use Rattle.floats.specs.FiniteLaws.{of-true}
-use Rattle.floats.specs.PositiveLaws.{not-nan}
 use mathlib.Core.List.{List}
 use Prim.Native.Nat.{ℕ}
 use Rattle.explain_words.specs.Tell.{told, telling, spelled, piece, flagsOf, barred, barless, allBarless}
@@ -14,17 +10,6 @@ use Rattle.hex.specs.Hex.{bytes, codes}
 use Rattle.explain_words.specs.TellLaws.{told-telling}
 use Rattle.explain_warnings.specs.declared.Reading.{Reading}
 use Rattle.explain_warnings.specs.Warnings.{isInfinite, warningsOf, warningsText}
-
-shut : (b : Bool) → T (not b) → false ≡ b
-shut true t = absurd t
-shut false t = refl
-
-pub nan-test : (x : Float) → ne x x ≡ isNan x
-nan-test x = go (ne x x) refl
-  where
-    go : (b : Bool) → ne x x ≡ b → b ≡ isNan x
-    go true d = subst (λ (y : Float). true ≡ isNan y) (sym (differs-from-itself x (of-true d))) (unfold isNan in refl)
-    go false d = shut (isNan x) (not-nan x d)
 
 pub infinite-test : (x : Float) → eq x x ≡ true → not (finite x) ≡ isInfinite x
 unfolding isInfinite

@@ -2,20 +2,22 @@
 -- fraction and takes what is below zero to 0.
 -- And the bin of an angle: ((angle / PI) * HIST_BINS as f32).floor() as usize % HIST_BINS. Assumes nothing.
 use mathlib.Core.Path.{_≡_, refl, sym, ap, _∙_, subst}
-use Prim.Native.Nat.{ℕ, zero, suc, _+_, _-_, _*_, _/_, _%_, _^_, _≤_, _<_, min, zero-le}
+use Prim.Native.Nat.{ℕ, zero, suc, _+_, _-_, _*_, _/_, _%_, _^_, _≤_, min, zero-le}
 use native.Mathlib.Nat.{le-trans, le-of-lt, le-of-eq, mul-one, mul-pos, zero-lt-suc, mul-div-cancel, div-le-self, le-div-iff-mul-le}
 use native.Mathlib.Omega.{arith}
 use mathlib.Core.Bool.{Bool, true, false, not, _&&_, cond, true≢false, false≢true}
 use lib.IntN.{ℤ, pos, negsuc}
-use lib.Dec.{T, ltb, leb, ltb→lt, lt→ltb, nltb→le, eqb}
+use lib.Dec.{T, ltb, leb, ltb→lt, nltb→le, eqb}
 use lib.Pow.{pow-pos}
 use lib.Ieee.{Float, nan, inf, fin, Format, binary32, prec, up, down, round, lt, fits, toUnsigned}
 use lib.Ieee.Fits.{down-pos, and-l, and-r, mul-fits}
 use lib.Ieee.Exact.{HasValue}
 use lib.Ieee.Back.{round-whole}
+use borrow.Author.Tests.{lt-ltb}
 use Rattle.floats.specs.Ops.{_⊗_, _⊘_, pi}
 use Rattle.floats.specs.Rows.{count}
 use Rattle.floats.specs.Library.{histBins, bin, floor, toIndex}
+use Rattle.floats.specs.UnitLaws.{pos-plus, plus-pos}
 
 cast-of-value : (x : Float) (n : ℕ) → HasValue x false n 1 → toIndex x ≡ min n (2 ^ 64 - 1)
 unfolding toUnsigned
@@ -78,13 +80,7 @@ cast-low (inf true) h = refl
 cast-low (inf false) h = absurd (true≢false h)
 cast-low (fin true m e) h = refl
 cast-low (fin false m e) h =
-    absurd (true≢false (sym (yes (1 * 1 * down e + m * up e * 1) (some (1 * 1 * down e) (m * up e * 1) (mul-pos (zero-lt-suc 0) (down-pos e)))) ∙ h))
-  where
-    yes : (n : ℕ) → 0 < n → ltb 0 n ≡ true
-    yes n h = lib.Ieee.Bits.is-true (ltb 0 n) (lt→ltb 0 n h)
-
-    some : (a b : ℕ) → 0 < a → 0 < a + b
-    some a b h = omega arith
+    absurd (true≢false (sym (lt-ltb 0 (1 * 1 * down e + m * up e * 1) (pos-plus (1 * 1 * down e) (m * up e * 1) (mul-pos (zero-lt-suc 0) (down-pos e)))) ∙ h))
 
 -- above -1 and not below 2 ^ 64
 pub cast-high : (x : Float) → lt (fin true 1 (pos 0)) x ≡ true → lt x (fin false 1 (pos 64)) ≡ false → toIndex x ≡ 2 ^ 64 - 1
@@ -93,13 +89,7 @@ cast-high nan a b = absurd (false≢true a)
 cast-high (inf true) a b = absurd (false≢true a)
 cast-high (inf false) a b = refl
 cast-high (fin true m e) a b =
-    absurd (true≢false (sym (yes (m * up e * 1 + 1 * 2 ^ 64 * down e) (some (m * up e * 1) (1 * 2 ^ 64 * down e) (mul-pos (pow-pos 64) (down-pos e)))) ∙ b))
-  where
-    yes : (n : ℕ) → 0 < n → ltb 0 n ≡ true
-    yes n h = lib.Ieee.Bits.is-true (ltb 0 n) (lt→ltb 0 n h)
-
-    some : (a b : ℕ) → 0 < b → 0 < a + b
-    some a b h = omega arith
+    absurd (true≢false (sym (lt-ltb 0 (m * up e * 1 + 1 * 2 ^ 64 * down e) (plus-pos (m * up e * 1) (1 * 2 ^ 64 * down e) (mul-pos (pow-pos 64) (down-pos e)))) ∙ b))
 cast-high (fin false m e) a b =
     let g : 2 ^ 64 * down e ≤ m * up e = le-trans (nltb→le (m * up e * 1) (2 ^ 64 * down e) (subst (λ (t : Bool). T (not t)) (sym b) tt))
     (le-of-eq (mul-one (m * up e))) in

@@ -2,11 +2,11 @@
 use mathlib.Core.Path.{_≡_, refl, sym, ap, _∙_, subst}
 use Prim.Native.Nat.{ℕ, suc, _+_, _-_, _*_, _^_, _<_}
 use native.Mathlib.Nat.{le-refl, sub-self, zero-mul, mul-pos}
-use mathlib.Core.Bool.{Bool, true, false, _&&_}
+use mathlib.Core.Bool.{Bool, true, false, _&&_, not}
 use lib.IntN.{ℤ, pos}
 use lib.Dec.{T, eqb, eqb-refl}
 use lib.Pow.{pow-pos}
-use lib.Ieee.{Float, nan, inf, fin, Format, binary32, binary64, prec, emax, low, up, down, round, add, sub, neg, eq, ofBits}
+use lib.Ieee.{Float, nan, inf, fin, Format, binary32, binary64, prec, emax, low, up, down, round, add, sub, neg, eq, ofBits, isNan}
 use lib.Ieee.Fits.{down-pos}
 use lib.Ieee.Bits.{is-true}
 use lib.Ieee.Exact.{HasValue, round-exact}
@@ -56,6 +56,13 @@ finite-test f (fin s m e) =
     ap (λ (z : Float). eq z z) (differ f s m e)
     ∙ eq-self (round f false (m * up e * down e - m * up e * down e) (down e * down e))
     (nothing f (m * up e * down e - m * up e * down e) (down e * down e) (mul-pos (down-pos e) (down-pos e)) (sub-self (m * up e * down e)))
+
+-- what is finite is a number
+pub finite-number : (x : Float) → T (finite x) → T (not (isNan x))
+unfolding isNan
+finite-number nan t = t
+finite-number (inf s) t = tt
+finite-number (fin s m e) t = tt
 
 -- ---- for the proofs of code
 pub of-true : {b : Bool} → b ≡ true → T b

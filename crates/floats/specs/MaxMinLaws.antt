@@ -3,7 +3,6 @@
 use mathlib.Core.Path.{_≡_, refl, sym, ap, _∙_, subst}
 use Prim.Native.Nat.{ℕ, zero, suc, _+_, _*_, _<_, zero-le}
 use native.Mathlib.Nat.{le-refl, le-trans, le-of-eq, zero-mul, mul-pos, zero-lt-suc}
-use native.Mathlib.Omega.{arith}
 use mathlib.Core.Bool.{Bool, true, false, not, _&&_, _||_, Bool·beq, cond, true≢false, false≢true}
 use lib.IntN.{ℤ, pos}
 use lib.Dec.{T, ltb, eqb, eqb→eq, eqb-refl, lit<}
@@ -13,10 +12,10 @@ use lib.Ieee.Bits.{is-true}
 use lib.Ieee.Fits.{and-l, and-r, down-pos}
 use lib.Ieee.Exact.{HasValue}
 use lib.Ieee.Back.{whole-unique}
+use borrow.Author.Tests.{le-ltb, lt-ltb}
 use Rattle.floats.specs.Ops.{nought}
 use Rattle.floats.specs.Library.{negative, before, max, min}
-use Rattle.floats.specs.UnitLaws.{eq-val, zero-val}
-use Rattle.floats.specs.NonNegLaws.{ltb-no, ltb-yes}
+use Rattle.floats.specs.UnitLaws.{eq-val, zero-val, pos-plus}
 use Rattle.floats.specs.FiniteLaws.{of-true}
 use Rattle.floats.specs.RankLaws.{rankOf, rank→le, le-of-not-lt, le-no-nan}
 
@@ -212,20 +211,17 @@ max-nought f (fin s zero e) p = subst (λ (x : Float). max x nought ≡ cond (lt
     zeros : (s : Bool) → max (fin s 0 (pos 0)) nought ≡ cond (lt nought (fin s 0 (pos 0))) (fin s 0 (pos 0)) nought
     zeros true = refl
     zeros false = refl
-max-nought f (fin true (suc m) e) p = go (ltb 0 (a + 0 * down e)) (eqb a (0 * down e) && eqb a 0) (ltb-yes 0 (a + 0 * down e) (more a (0 * down e) (some m e)))
+max-nought f (fin true (suc m) e) p = go (ltb 0 (a + 0 * down e)) (eqb a (0 * down e) && eqb a 0) (lt-ltb 0 (a + 0 * down e) (pos-plus a (0 * down e) (some m e)))
   where
     a : ℕ
     a = suc m * up e * 1
-
-    more : (a b : ℕ) → 0 < a → 0 < a + b
-    more a b h = omega arith
 
     go : (u v : Bool) → u ≡ true → cond (u || (v && true)) nought (fin true (suc m) e) ≡ nought
     go true v h = refl
     go false v h = absurd (false≢true h)
 max-nought f (fin false (suc m) e) p =
-    go (ltb a (0 * down e)) (eqb a (0 * down e) && true) (ltb (0 * down e) a) (ltb-no a (0 * down e) (le-trans (le-of-eq (zero-mul (down e))) zero-le))
-    (ltb-yes (0 * down e) a (subst (λ (z : ℕ). z < a) (sym (zero-mul (down e))) (some m e)))
+    go (ltb a (0 * down e)) (eqb a (0 * down e) && true) (ltb (0 * down e) a) (le-ltb a (0 * down e) (le-trans (le-of-eq (zero-mul (down e))) zero-le))
+    (lt-ltb (0 * down e) a (subst (λ (z : ℕ). z < a) (sym (zero-mul (down e))) (some m e)))
   where
     a : ℕ
     a = suc m * up e * 1

@@ -13,15 +13,15 @@ use lib.Dec.{T, isLe, isEq, ltb, leb→le, ltb→lt, nltb→le, eqb→eq, lit≤
 use lib.Arith.{le→nltb}
 use lib.Pow.{pow-add, pow-pos, pow-mono}
 use lib.Ieee.{Float, nan, inf, fin, Format, binary32, binary64, prec, emax, low, up, down, size, nearest, odd, units, round, ofBits, toBits, fits, neg, ne}
-use lib.Ieee.Fits.{round-is, down-pos, eq→eqb, odd-fits, inf-fits, nearest-le}
+use lib.Ieee.Fits.{round-is, down-pos, eq→eqb, nearest-le}
 use lib.Ieee.Digits.{size-le}
 use lib.Ieee.Exact.{units-val}
 use lib.Ieee.Bits.{ofBits-toBits, toBits-lt}
 use lib.Ieee.Compare.{differs-from-itself}
 use lib.Ieee.Nearest.{closest, closest-same, nearest-ge}
 use lib.Ieee.Scale.{round-same}
-use Rattle.floats.specs.UnitLaws.{Val}
-use Rattle.floats.specs.PatternLaws.{size-is, write, write-small, write-carry, read-low, read-high, pattern-neg}
+use Rattle.floats.specs.UnitLaws.{Val, neg-neg}
+use Rattle.floats.specs.PatternLaws.{size-is, write, write-small, write-carry, read-low, read-high, pattern-neg, units-fit}
 use Rattle.floats.specs.Library.{narrow}
 
 -- at a value of n units of the f64
@@ -136,14 +136,6 @@ closest-none a b h =
     half a b h = omega arith
 
 -- ---- patterns
-fit : (q k : ℕ) → q ≤ 2 ^ 24 → q * 2 ^ k < 2 ^ 277 → T (fits binary32 (units binary32 false q k))
-unfolding units
-fit q k hi s = pick (ltb (q * 2 ^ k) (2 ^ 277)) (odd 25 false q k 149) (odd-fits binary32 25 false q k (lt-of-le-of-lt hi (lit< tt)) hi s)
-  where
-    pick : (b : Bool) (x : Float) → T (fits binary32 x) → T (fits binary32 (cond b x (inf false)))
-    pick true x t = t
-    pick false x t = inf-fits binary32 false
-
 -- from the overflow on, the infinity
 over : (q k : ℕ) → 2 ^ 277 ≤ q * 2 ^ k → units binary32 false q k ≡ inf false
 unfolding units
@@ -179,7 +171,7 @@ pattern-high q k lo hi l = go (ltb (q * 2 ^ k) (2 ^ 277)) (ltb→lt (q * 2 ^ k) 
         (native.Mathlib.Nat.le-of-mul-le-mul-right (subst (λ (z : ℕ). 2 ^ 24 * 2 ^ 253 ≤ q * 2 ^ z) (top-k h) h) (pow-pos 253))
 
     go : (b : Bool) → (T b → q * 2 ^ k < 2 ^ 277) → (T (not b) → 2 ^ 277 ≤ q * 2 ^ k) → units binary32 false q k ≡ ofBits binary32 (k * 8388608 + q)
-    go true u v = sym (ofBits-toBits binary32 (units binary32 false q k) (fit q k hi (u tt))) ∙ ap (ofBits binary32) (wrote (u tt))
+    go true u v = sym (ofBits-toBits binary32 (units binary32 false q k) (units-fit binary32 q k hi)) ∙ ap (ofBits binary32) (wrote (u tt))
     go false u v =
         over q k (v tt) ∙ sym inf-pattern
         ∙ ap (ofBits binary32) (sym (ap (λ (z : ℕ). z * 8388608 + q) (top-k (v tt)) ∙ ap (λ (z : ℕ). 253 * 8388608 + z) (top-q (v tt))))
@@ -187,7 +179,7 @@ pattern-high q k lo hi l = go (ltb (q * 2 ^ k) (2 ^ 277)) (ltb→lt (q * 2 ^ k) 
 pub pattern-low : (q : ℕ) → q < 2 ^ 24 → units binary32 false q 0 ≡ ofBits binary32 q
 pattern-low q h =
     let s : q * 2 ^ 0 < 2 ^ 277 = lt-of-le-of-lt (le-of-eq (mul-one q)) (lt-of-lt-of-le h (lit≤ tt)) in
-    sym (ofBits-toBits binary32 (units binary32 false q 0) (fit q 0 (le-of-lt h) s))
+    sym (ofBits-toBits binary32 (units binary32 false q 0) (units-fit binary32 q 0 (le-of-lt h)))
     ∙ ap (ofBits binary32) (write-small binary32 (units binary32 false q 0) q h
     (subst (λ (z : ℕ). Val binary32 (units binary32 false q 0) false z) (mul-one q) (units-val binary32 false q 0 s)))
 
@@ -328,14 +320,6 @@ pub neg-round : (f : Format) (a c : ℕ) → round f true a c ≡ neg (round f f
 neg-round f a c =
     round-is f true a c ∙ neg-units f (closest (a * 2 ^ low f) (c * 2 ^ (size (a * 2 ^ low f / c) - prec f))) (size (a * 2 ^ low f / c) - prec f) ∙
     ap neg (sym (round-is f false a c))
-
-neg-neg : (x : Float) → neg (neg x) ≡ x
-unfolding neg
-neg-neg nan = refl
-neg-neg (inf true) = refl
-neg-neg (inf false) = refl
-neg-neg (fin true m e) = refl
-neg-neg (fin false m e) = refl
 
 pub narrow-neg : (x : Float) → narrow (neg x) ≡ neg (narrow x)
 unfolding narrow neg

@@ -3,7 +3,7 @@
 use mathlib.Core.Path.{_≡_, refl, sym, ap, _∙_, subst}
 use mathlib.Core.Logic.{_⊎_, inl, inr}
 use Prim.Native.Nat.{ℕ, _+_, _-_, _^_, _≤_, _<_}
-use native.Mathlib.Nat.{le-of-eq, le-of-lt, not-le-of-lt, zero-mul, eq-or-lt-of-le}
+use native.Mathlib.Nat.{le-of-eq, le-of-lt, zero-mul, eq-or-lt-of-le}
 use native.Mathlib.Omega.{arith}
 use mathlib.Core.Bool.{Bool, true, false, not, _||_, Bool·beq, cond}
 use lib.IntN.{pos}
@@ -11,7 +11,8 @@ use lib.Dec.{T, leb, ltb, eqb, leb→le, le→leb, ltb→lt, lt→ltb, nltb→le
 use lib.Ieee.{Float, fin, Format, low, round, sum, add, sub, lt, le, below, level}
 use lib.Ieee.Fits.{and-i, and-l, eq→eqb}
 use lib.Ieee.Scale.{overflow}
-use Rattle.floats.specs.UnitLaws.{Val, same-test, lt-val, le-val, add-val, sub-val}
+use borrow.Author.Tests.{le-ltb, lt-ltb}
+use Rattle.floats.specs.UnitLaws.{Val, same-test, lt-val, le-val, add-val, sub-val, not-so}
 use Rattle.floats.specs.RoundingLaws.{R, Rep, round-R, R-zero, R-rep, rep-zero}
 
 pub record NonNeg (f : Format) (x : Float) (n : ℕ) : Type 0 where
@@ -27,14 +28,6 @@ pub zero-nn : (f : Format) → NonNeg f (fin false 0 (pos 0)) 0
 zero-nn f = plus-nn f (fin false 0 (pos 0)) 0 (refl, zero-mul (2 ^ low f)) (rep-zero f)
 
 -- ---- order
-bool-false : (b : Bool) → (T b → ⊥) → b ≡ false
-bool-false true h = absurd (h tt)
-bool-false false h = refl
-
-bool-true : (b : Bool) → T b → b ≡ true
-bool-true true t = refl
-bool-true false t = absurd t
-
 not-below-zero : (a b : ℕ) → b ≡ 0 → a < b → ⊥
 not-below-zero a b e h = omega arith
 
@@ -46,11 +39,11 @@ zero-or a b e h = omega arith
 
 below-nn : (s : Bool) (a : ℕ) (t : Bool) (b : ℕ) → (T s → a ≡ 0) → (T t → b ≡ 0) → below s a t b ≡ ltb a b
 below-nn false a false b p q = refl
-below-nn false a true b p q = sym (bool-false (ltb a b) (λ t. not-below-zero a b (q tt) (ltb→lt a b t)))
+below-nn false a true b p q = sym (not-so (ltb a b) (λ t. not-below-zero a b (q tt) (ltb→lt a b t)))
 below-nn true a false b p q =
     same-test (ltb 0 (a + b)) (ltb a b) (λ t. lt→ltb a b (zero-and a b (p tt) (ltb→lt 0 (a + b) t))) (λ t. lt→ltb 0 (a + b) (zero-or a b (p tt) (ltb→lt a b t)))
 below-nn true a true b p q =
-    bool-false (ltb b a) (λ t. not-below-zero b a (p tt) (ltb→lt b a t)) ∙ sym (bool-false (ltb a b) (λ t. not-below-zero a b (q tt) (ltb→lt a b t)))
+    not-so (ltb b a) (λ t. not-below-zero b a (p tt) (ltb→lt b a t)) ∙ sym (not-so (ltb a b) (λ t. not-below-zero a b (q tt) (ltb→lt a b t)))
 
 or-case : (a b : Bool) → T (a || b) → T a ⊎ T b
 or-case true b t = inl tt
@@ -99,12 +92,6 @@ module _ (f : Format) (x y : Float) (a b : ℕ) (h : NonNeg f x a) (k : NonNeg f
   le-of l = subst T (sym le-is) (le→leb a b l)
 
 -- ---- `sum`, by the signs
-pub ltb-no : (a b : ℕ) → b ≤ a → ltb a b ≡ false
-ltb-no a b h = bool-false (ltb a b) (λ t. not-le-of-lt (ltb→lt a b t) h)
-
-pub ltb-yes : (a b : ℕ) → a < b → ltb a b ≡ true
-ltb-yes a b h = bool-true (ltb a b) (lt→ltb a b h)
-
 module _ (f : Format) (a b c : ℕ) where
   pub sum-same : (s : Bool) → sum f s a s b c ≡ round f s (a + b) c
   unfolding sum
@@ -113,27 +100,27 @@ module _ (f : Format) (a b c : ℕ) where
 
   pub sum-pn-ge : b ≤ a → sum f false a true b c ≡ round f false (a - b) c
   unfolding sum
-  sum-pn-ge h = ap (λ (z : Bool). cond z (round f true (b - a) c) (round f false (a - b) c)) (ltb-no a b h)
+  sum-pn-ge h = ap (λ (z : Bool). cond z (round f true (b - a) c) (round f false (a - b) c)) (le-ltb a b h)
 
   pub sum-pn-lt : a < b → sum f false a true b c ≡ round f true (b - a) c
   unfolding sum
-  sum-pn-lt h = ap (λ (z : Bool). cond z (round f true (b - a) c) (round f false (a - b) c)) (ltb-yes a b h)
+  sum-pn-lt h = ap (λ (z : Bool). cond z (round f true (b - a) c) (round f false (a - b) c)) (lt-ltb a b h)
 
   pub sum-np-lt : a < b → sum f true a false b c ≡ round f false (b - a) c
   unfolding sum
-  sum-np-lt h = ap (λ (z : Bool). cond z (round f false (b - a) c) (round f (ltb b a) (a - b) c)) (ltb-yes a b h)
+  sum-np-lt h = ap (λ (z : Bool). cond z (round f false (b - a) c) (round f (ltb b a) (a - b) c)) (lt-ltb a b h)
 
   pub sum-np-gt : b < a → sum f true a false b c ≡ round f true (a - b) c
   unfolding sum
   sum-np-gt h =
-      ap (λ (z : Bool). cond z (round f false (b - a) c) (round f (ltb b a) (a - b) c)) (ltb-no a b (le-of-lt h)) ∙
-      ap (λ (z : Bool). round f z (a - b) c) (ltb-yes b a h)
+      ap (λ (z : Bool). cond z (round f false (b - a) c) (round f (ltb b a) (a - b) c)) (le-ltb a b (le-of-lt h)) ∙
+      ap (λ (z : Bool). round f z (a - b) c) (lt-ltb b a h)
 
   pub sum-np-eq : a ≡ b → sum f true a false b c ≡ round f false (a - b) c
   unfolding sum
   sum-np-eq h =
-      ap (λ (z : Bool). cond z (round f false (b - a) c) (round f (ltb b a) (a - b) c)) (ltb-no a b (le-of-eq (sym h)))
-      ∙ ap (λ (z : Bool). round f z (a - b) c) (ltb-no b a (le-of-eq h))
+      ap (λ (z : Bool). cond z (round f false (b - a) c) (round f (ltb b a) (a - b) c)) (le-ltb a b (le-of-eq (sym h)))
+      ∙ ap (λ (z : Bool). round f z (a - b) c) (le-ltb b a (le-of-eq h))
 
 -- ---- rounded results
 pub rounded : (f : Format) (x : Float) (s : Bool) (n : ℕ) → R f n < overflow f → x ≡ round f s n (2 ^ low f) → Val f x s (R f n)

@@ -2,30 +2,26 @@
 -- Assumes nothing.
 use mathlib.Core.Path.{_≡_, refl, sym, ap, _∙_, subst}
 use Prim.Native.Nat.{ℕ, zero, suc, _+_, _-_, _*_, _/_, _%_, _^_, _≤_, _<_}
-use native.Mathlib.Nat.{le-refl, le-trans, le-of-eq, lt-of-lt-of-le, lt-irrefl, lt-of-not-le, not-le-of-lt, le-antisymm, mul-one, zero-add, mul-le-mul-right}
-use native.Mathlib.Nat.{mul-div-cancel, mod-eq-of-lt}
+use native.Mathlib.Nat.{le-refl, le-trans, le-of-eq, lt-of-lt-of-le, lt-of-le-of-lt, lt-irrefl, lt-of-not-le, not-le-of-lt, le-antisymm, mul-one, zero-add}
+use native.Mathlib.Nat.{mul-le-mul-right, mul-div-cancel, mod-eq-of-lt}
 use native.Mathlib.Omega.{arith}
 use mathlib.Core.Bool.{Bool, true, false, not, cond}
-use lib.Dec.{T, leb, eqb, leb→le, eqb→eq, nltb→le}
-use lib.Pow.{pow-add, pow-pos, pow-mono, shl-lt}
+use lib.Dec.{T, ltb, leb, eqb, ltb→lt, leb→le, eqb→eq, nltb→le}
+use lib.Pow.{pow-add, pow-pos, pow-mono, pow-lt, shl-lt}
 use lib.Ieee.{Float, nan, inf, fin, Format, binary32, binary64, prec, low, up, down, size, odd, hid, ones, top, ofFields, ofBits, toBits, fits, nanBits}
-use lib.Ieee.{isNan, neg}
-use lib.Ieee.Fits.{down-pos, two, two-le-pos}
+use lib.Ieee.{isNan, neg, emax, units}
+use lib.Ieee.Fits.{down-pos, inf-fits, odd-fits, two, two-le-pos}
 use lib.Ieee.Digits.{size-lt, size-le}
 use lib.Ieee.Bits.{is-true, ofBits-toBits, nanBits-is, nanBits-above}
 use lib.Arith.{le→nltb}
 use lib.Ieee.Exact.{odd-sign}
-use Rattle.floats.specs.UnitLaws.{Val}
+use Rattle.floats.specs.UnitLaws.{Val, not-so}
 
 -- ---- reading
-bool-no : (b : Bool) → (T b → ⊥) → b ≡ false
-bool-no true h = absurd (h tt)
-bool-no false h = refl
-
 plain : (f : Format) (b : ℕ) → b < top f → ofBits f b ≡ ofFields f false (b / hid f) (b % hid f)
 unfolding ofBits
 plain f b h =
-    ap (λ (s : Bool). ofFields f s (b % top f / hid f) (b % hid f)) (bool-no (leb (top f) b) (λ t. not-le-of-lt h (leb→le (top f) b t)))
+    ap (λ (s : Bool). ofFields f s (b % top f / hid f) (b % hid f)) (not-so (leb (top f) b) (λ t. not-le-of-lt h (leb→le (top f) b t)))
     ∙ ap (λ (z : ℕ). ofFields f false (z / hid f) (b % hid f)) (mod-eq-of-lt h)
 
 fields-low : (f : Format) (x t : ℕ) → x ≡ 0 → Val f (ofFields f false x t) false t
@@ -38,7 +34,7 @@ fields-high : (f : Format) (x t : ℕ) → suc x < ones f → Val f (ofFields f 
 unfolding ofFields
 fields-high f x t h =
     subst (λ (b : Bool). Val f (cond b (cond (eqb t 0) (inf false) nan) (odd (prec f) false (hid f + t) x (low f))) false ((hid f + t) * 2 ^ x))
-    (sym (bool-no (eqb (suc x) (ones f)) (λ u. lt-irrefl (ones f) (subst (λ (z : ℕ). z < ones f) (eqb→eq (suc x) (ones f) u) h))))
+    (sym (not-so (eqb (suc x) (ones f)) (λ u. lt-irrefl (ones f) (subst (λ (z : ℕ). z < ones f) (eqb→eq (suc x) (ones f) u) h))))
     (odd-sign (prec f) false (hid f + t) x (low f))
 
 pub read-low : (f : Format) (b : ℕ) → b < top f → b / hid f ≡ 0 → Val f (ofBits f b) false (b % hid f)
@@ -150,3 +146,12 @@ pub unsigned-le : (f : Format) (x : Float) → T (fits f x) → T (not (isNan x)
 unsigned-le f x p n =
     nltb→le (ones f * hid f) (toBits f x % top f)
     (subst (λ (b : Bool). T (not b)) (sym (ap isNan (ofBits-toBits f x p)) ∙ sym (nanBits-is f (toBits f x)) ∙ nanBits-above f (toBits f x)) n)
+
+-- ---- a number of units of no more digits than the format has is held, or is the infinity
+pub units-fit : (f : Format) (q k : ℕ) → q ≤ 2 ^ prec f → T (fits f (units f false q k))
+unfolding units
+units-fit f q k h = go (ltb (q * 2 ^ k) (2 ^ (low f + suc (emax f)))) (ltb→lt (q * 2 ^ k) (2 ^ (low f + suc (emax f))))
+  where
+    go : (b : Bool) → (T b → q * 2 ^ k < 2 ^ (low f + suc (emax f))) → T (fits f (cond b (odd (suc (prec f)) false q k (low f)) (inf false)))
+    go true l = odd-fits f (suc (prec f)) false q k (lt-of-le-of-lt h (pow-lt (le-refl (suc (prec f))))) h (l tt)
+    go false l = inf-fits f false

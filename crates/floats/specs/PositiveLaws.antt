@@ -13,9 +13,9 @@ use lib.Ieee.Fits.{kept-lt, up-pos, and-l}
 use lib.Ieee.Bits.{ofBits-toBits}
 use lib.Ieee.Compare.{differs-from-itself}
 use lib.Ieee.Digits.{size-le}
+use borrow.Author.Tests.{lt-ltb}
 use Rattle.floats.specs.UnitLaws.{Val, lt-val, eq-val}
 use Rattle.floats.specs.RoundingLaws.{counted}
-use Rattle.floats.specs.NonNegLaws.{ltb-yes}
 use Rattle.floats.specs.FiniteLaws.{zero32, of-true}
 use Rattle.floats.specs.PatternLaws.{write-val}
 use Rattle.floats.specs.Library.{sqrt}
@@ -38,7 +38,7 @@ pattern-below x n v h =
 pub below-zero : (x : Float) (n : ℕ) → Val binary32 x true n → eq x z ≡ false → lt x z ≡ false → ⊥
 below-zero x n v e l = elim (eq-zero-or-pos n) [
   | inl w ↦ true≢false (sym (eq-val binary32 x z true n false 0 v (refl, refl) ∙ ap (λ (k : ℕ). eqb k 0 && (false || eqb k 0)) w) ∙ e)
-  | inr p ↦ true≢false (sym (lt-val binary32 x z true n false 0 v (refl, refl) ∙ ltb-yes 0 (n + 0) (plus n p)) ∙ l)
+  | inr p ↦ true≢false (sym (lt-val binary32 x z true n false 0 v (refl, refl) ∙ lt-ltb 0 (n + 0) (plus n p)) ∙ l)
 ]
   where
     plus : (n : ℕ) → 0 < n → 0 < n + 0

@@ -6,12 +6,12 @@ use Prim.Native.Nat.{ℕ, zero, suc, _*_, _^_, _<_}
 use native.Mathlib.Nat.{lt-irrefl, zero-mul, mul-comm, mul-assoc, mul-left-comm, mul-mul-mul-comm, mul-pos}
 use native.Mathlib.Nat.{eq-of-mul-eq-mul-right, zero-lt-suc}
 use mathlib.Core.Bool.{Bool, true, false, cond}
-use lib.Dec.{T, eqb, eqb→eq}
+use lib.Dec.{eqb}
 use lib.Pow.{pow-pos}
 use lib.Ieee.{Float, nan, inf, fin, Format, low, up, down, unlike, round, mul, div}
 use lib.Ieee.Fits.{up-pos, down-pos}
 use lib.Ieee.Scale.{round-same}
-use Rattle.floats.specs.UnitLaws.{Val}
+use Rattle.floats.specs.UnitLaws.{Val, no-eqb}
 use Rattle.floats.specs.RankLaws.{Sized}
 use Rattle.floats.specs.NarrowOrderLaws.{G, fraction-sized}
 
@@ -61,7 +61,7 @@ div-val f (fin s' m e) (fin t' n d) s a t b B v w =
     let X = m * up e in
     let Y = n * up d in
     let N : 0 < n = some n (w .1) in
-    ap (λ (z : Bool). cond z (cond (eqb m 0) nan (inf (unlike s' t'))) (round f (unlike s' t') (X * down d) (Y * down e))) (not-zero n N)
+    ap (λ (z : Bool). cond z (cond (eqb m 0) nan (inf (unlike s' t'))) (round f (unlike s' t') (X * down d) (Y * down e))) (no-eqb n N)
     ∙ round-same f (unlike s' t') (X * down d) (Y * down e) a b (mul-pos (mul-pos N (up-pos d)) (down-pos e)) B
     (eq-of-mul-eq-mul-right l (pow-pos (low f)) (X * down d * b) (a * (Y * down e)) (cross X (down d) b l a (down e) Y (v .1) (w .1)))
     ∙ ap (λ (z : Bool). round f (unlike z t') a b) (v .0) ∙ ap (λ (z : Bool). round f (unlike s z) a b) (w .0)
@@ -71,13 +71,6 @@ div-val f (fin s' m e) (fin t' n d) s a t b B v w =
         absurd (lt-irrefl 0 (subst (λ (z : ℕ). 0 < z) (sym h ∙ ap (λ (z : ℕ). z * 2 ^ low f) (zero-mul (up d)) ∙
         zero-mul (2 ^ low f)) (mul-pos B (down-pos d))))
     some (suc n) h = zero-lt-suc n
-
-    not-zero : (n : ℕ) → 0 < n → eqb n 0 ≡ false
-    not-zero n h = go (eqb n 0) (eqb→eq n 0)
-      where
-        go : (c : Bool) → (T c → n ≡ 0) → c ≡ false
-        go true k = absurd (lt-irrefl 0 (subst (λ (z : ℕ). 0 < z) (k tt) h))
-        go false k = refl
 
     -- X / E = a / l and Y / D = b / l
     cross : (X D b l a E Y : ℕ) → X * l ≡ a * E → Y * l ≡ b * D → X * D * b * l ≡ a * (Y * E) * l

@@ -14,9 +14,11 @@ use lib.Pow.{pow-pos}
 use lib.Ieee.{Float, nan, inf, fin, Format, emax, low, up, down, lt, le, eq, below, level, fits, isNan}
 use lib.Ieee.Fits.{down-pos, eq→eqb}
 use lib.Ieee.Scale.{overflow}
-use Rattle.floats.specs.UnitLaws.{Val, same-test, lt-val, eq-val}
+use borrow.Author.Tests.{le-ltb, lt-ltb}
+use lib.Ieee.Bits.{is-true}
+use Rattle.floats.specs.UnitLaws.{Val, same-test, lt-val, eq-val, not-so, pos-plus, plus-pos}
 use Rattle.floats.specs.RoundingLaws.{counted}
-use Rattle.floats.specs.NonNegLaws.{or-l, or-r, ltb-no, ltb-yes}
+use Rattle.floats.specs.NonNegLaws.{or-l, or-r}
 
 -- a sign and a size, as a distance from a middle O
 abbrev pub place : ℕ → Bool → ℕ → ℕ
@@ -57,14 +59,6 @@ rank-is f x s n (inl v) = go x (v .0)
         ap (λ (b : Bool). place (overflow f) b n) (w .0))
 
 -- ---- the three comparisons of two such values
-yes : (b : Bool) → T b → b ≡ true
-yes true t = refl
-yes false t = absurd t
-
-no : (b : Bool) → (T b → ⊥) → b ≡ false
-no true h = absurd (h tt)
-no false h = refl
-
 module _ (O : ℕ) (a b : ℕ) (A : a ≤ O) (B : b ≤ O) where
   below-place : (s t : Bool) → below s a t b ≡ ltb (place O s a) (place O t b)
   below-place false false =
@@ -75,7 +69,7 @@ module _ (O : ℕ) (a b : ℕ) (A : a ≤ O) (B : b ≤ O) where
 
       q : O + a < O + b → a < b
       q h = omega arith
-  below-place false true = sym (no (ltb (O + a) (O - b)) (λ u. q (ltb→lt (O + a) (O - b) u)))
+  below-place false true = sym (not-so (ltb (O + a) (O - b)) (λ u. q (ltb→lt (O + a) (O - b) u)))
     where
       q : O + a < O - b → ⊥
       q h = omega arith
@@ -146,42 +140,36 @@ module _ (O : ℕ) (a b : ℕ) (A : a ≤ O) (B : b ≤ O) where
 -- `lt` and `eq` where an infinity takes part
 module _ (O : ℕ) (P : 0 < O) where
   inf-right : (s : Bool) (a : ℕ) (t : Bool) → a < O → not t ≡ below s a t O
-  inf-right false a false h = sym (ltb-yes a O h)
+  inf-right false a false h = sym (lt-ltb a O h)
   inf-right false a true h = refl
-  inf-right true a false h = sym (ltb-yes 0 (a + O) (some a O P))
-    where
-      some : (a b : ℕ) → 0 < b → 0 < a + b
-      some a b h = omega arith
-  inf-right true a true h = sym (ltb-no O a (le-of-lt h))
+  inf-right true a false h = sym (lt-ltb 0 (a + O) (plus-pos a O P))
+  inf-right true a true h = sym (le-ltb O a (le-of-lt h))
 
   inf-left : (s : Bool) (t : Bool) (b : ℕ) → b < O → s ≡ below s O t b
-  inf-left false false b h = sym (ltb-no O b (le-of-lt h))
+  inf-left false false b h = sym (le-ltb O b (le-of-lt h))
   inf-left false true b h = refl
-  inf-left true false b h = sym (ltb-yes 0 (O + b) (some O b P))
-    where
-      some : (a b : ℕ) → 0 < a → 0 < a + b
-      some a b h = omega arith
-  inf-left true true b h = sym (ltb-yes b O h)
+  inf-left true false b h = sym (lt-ltb 0 (O + b) (pos-plus O b P))
+  inf-left true true b h = sym (lt-ltb b O h)
 
   inf-both : (s t : Bool) → (s && not t) ≡ below s O t O
-  inf-both false false = sym (ltb-no O O (le-refl O))
+  inf-both false false = sym (le-ltb O O (le-refl O))
   inf-both false true = refl
-  inf-both true false = sym (ltb-yes 0 (O + O) (some O P))
+  inf-both true false = sym (lt-ltb 0 (O + O) (some O P))
     where
       some : (a : ℕ) → 0 < a → 0 < a + a
       some a h = omega arith
-  inf-both true true = sym (ltb-no O O (le-refl O))
+  inf-both true true = sym (le-ltb O O (le-refl O))
 
   eq-right : (s : Bool) (a : ℕ) (t : Bool) → a < O → false ≡ level s a t O
-  eq-right s a t h = sym (ap (λ (z : Bool). z && (Bool·beq s t || eqb a 0)) (no (eqb a O) (λ u. lt-irrefl O (subst (λ (z : ℕ). z < O) (eqb→eq a O u) h))))
+  eq-right s a t h = sym (ap (λ (z : Bool). z && (Bool·beq s t || eqb a 0)) (not-so (eqb a O) (λ u. lt-irrefl O (subst (λ (z : ℕ). z < O) (eqb→eq a O u) h))))
 
   eq-left : (s : Bool) (t : Bool) (b : ℕ) → b < O → false ≡ level s O t b
-  eq-left s t b h = sym (ap (λ (z : Bool). z && (Bool·beq s t || eqb O 0)) (no (eqb O b) (λ u. lt-irrefl b (subst (λ (z : ℕ). b < z) (eqb→eq O b u) h))))
+  eq-left s t b h = sym (ap (λ (z : Bool). z && (Bool·beq s t || eqb O 0)) (not-so (eqb O b) (λ u. lt-irrefl b (subst (λ (z : ℕ). b < z) (eqb→eq O b u) h))))
 
   eq-both : (s t : Bool) → Bool·beq s t ≡ level s O t O
   eq-both s t =
-      sym (ap (λ (z : Bool). z && (Bool·beq s t || eqb O 0)) (yes (eqb O O) (lib.Dec.eqb-refl O)) ∙
-      ap (λ (z : Bool). Bool·beq s t || z) (no (eqb O 0) (λ u. lt-irrefl 0 (subst (λ (z : ℕ). 0 < z) (eqb→eq O 0 u) P))) ∙ drop-or (Bool·beq s t))
+      sym (ap (λ (z : Bool). z && (Bool·beq s t || eqb O 0)) (is-true (eqb O O) (lib.Dec.eqb-refl O)) ∙
+      ap (λ (z : Bool). Bool·beq s t || z) (not-so (eqb O 0) (λ u. lt-irrefl 0 (subst (λ (z : ℕ). 0 < z) (eqb→eq O 0 u) P))) ∙ drop-or (Bool·beq s t))
     where
       drop-or : (b : Bool) → (b || false) ≡ b
       drop-or true = refl

@@ -5,17 +5,17 @@ use mathlib.Core.Path.{_≡_, refl, sym, ap, _∙_, subst}
 use mathlib.Core.Logic.{inl, inr}
 use Prim.Native.Nat.{ℕ, _+_, _-_, _*_, _%_, _^_, _≤_, _<_, zero-le}
 use native.Mathlib.Nat.{le-of-eq, le-of-lt, zero-mul, zero-mod, mod-lt, eq-zero-or-pos, sub-le}
-use native.Mathlib.Omega.{arith}
 use mathlib.Core.Bool.{Bool, true, false, not, cond}
 use lib.IntN.{pos, negsuc}
 use lib.Dec.{T, lit<}
 use lib.Ieee.{Float, nan, inf, fin, Format, binary32, low, add, rem, lt, le, below, fits, ofBits}
 use lib.Ieee.Scale.{overflow, finite}
+use borrow.Author.Tests.{le-ltb, lt-ltb}
 use Rattle.floats.specs.Ops.{nought, pi, tau}
 use Rattle.floats.specs.Library.{remEuclid}
-use Rattle.floats.specs.UnitLaws.{Val, lt-val, add-val, rem-val}
+use Rattle.floats.specs.UnitLaws.{Val, lt-val, add-val, rem-val, pos-plus}
 use Rattle.floats.specs.RoundingLaws.{R, Rep, counted, R-exact, R-upper, rep-mod, rep-zero}
-use Rattle.floats.specs.NonNegLaws.{NonNeg, rounded, rounded-nn, plus-nn, zero-nn, ltb-yes, ltb-no, le-of, sum-np-lt}
+use Rattle.floats.specs.NonNegLaws.{NonNeg, rounded, rounded-nn, plus-nn, zero-nn, le-of, sum-np-lt}
 
 module _ (f : Format) (x d : Float) (a D : ℕ) (P : 0 < D) (w : Val f d false D) (r : Rep f D) where
   -- `%` is exact: the remainder of the whole numbers, with the dividend's sign
@@ -48,23 +48,20 @@ module _ (f : Format) (x d : Float) (a D : ℕ) (P : 0 < D) (w : Val f d false D
           (record { sign = s; val = rem-exact s v (h .rep); none = λ t. none-mod (n t); rep = rep-mod f a D P (h .rep) r })
 
       go : (s : Bool) → Val f x s a → (T s → a ≡ 0) → NonNeg f (remEuclid f x d) (a % D)
-      go false v n = out false v n (ltb-no (a % D) 0 zero-le)
-      go true v n = out true v n (ltb-no 0 (a % D + 0) (le-of-eq (ap (λ (z : ℕ). z + 0) (none-mod (n tt)))))
+      go false v n = out false v n (le-ltb (a % D) 0 zero-le)
+      go true v n = out true v n (le-ltb 0 (a % D + 0) (le-of-eq (ap (λ (z : ℕ). z + 0) (none-mod (n tt)))))
 
   pub remEuclid-zero : Val f x true a → Rep f a → a % D ≡ 0 → NonNeg f (remEuclid f x d) 0
   remEuclid-zero v q e =
-      subst (λ (z : Float). NonNeg f z 0) (sym (kept (sign-test true v q ∙ ltb-no 0 (a % D + 0) (le-of-eq (ap (λ (z : ℕ). z + 0) e)))))
+      subst (λ (z : Float). NonNeg f z 0) (sym (kept (sign-test true v q ∙ le-ltb 0 (a % D + 0) (le-of-eq (ap (λ (z : ℕ). z + 0) e)))))
       (record { sign = true; val = subst (λ (z : ℕ). Val f (rem f x d) true z) e (rem-exact true v q); none = λ t. refl; rep = rep-zero f })
 
   pub remEuclid-neg : Val f x true a → Rep f a → 0 < a % D → NonNeg f (remEuclid f x d) (R f (D - a % D))
   remEuclid-neg v q p =
       let u = R-upper f (D - a % D) D r (sub-le D (a % D)) in
-      subst (λ (z : Float). NonNeg f z (R f (D - a % D))) (sym (moved (sign-test true v q ∙ ltb-yes 0 (a % D + 0) (plus p))))
+      subst (λ (z : Float). NonNeg f z (R f (D - a % D))) (sym (moved (sign-test true v q ∙ lt-ltb 0 (a % D + 0) (pos-plus (a % D) 0 p))))
       (rounded-nn f (add f (rem f x d) d) (D - a % D) (u .0)
       (add-val f (rem f x d) d true (a % D) false D (rem-exact true v q) w ∙ sum-np-lt f (a % D) D (2 ^ low f) (mod-lt a P)))
-    where
-      plus : {n : ℕ} → 0 < n → 0 < n + 0
-      plus h = omega arith
 
   -- whatever the sign: from 0 up to the divisor
   pub remEuclid-range : (s : Bool) → Val f x s a → Rep f a → (c : ℕ) × NonNeg f (remEuclid f x d) c × (c ≤ D)

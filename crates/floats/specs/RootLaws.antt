@@ -5,7 +5,7 @@
 use mathlib.Core.Path.{_≡_, refl, sym, ap, _∙_, subst}
 use mathlib.Core.Logic.{_⊎_, inl, inr}
 use Prim.Native.Nat.{ℕ, zero, suc, _+_, _-_, _*_, _/_, _%_, _^_, _≤_, _<_, zero-le}
-use native.Mathlib.Nat.{le-refl, le-trans, le-of-eq, le-of-lt, lt-of-lt-of-le, lt-of-le-of-lt, lt-irrefl, lt-of-not-le, not-le-of-lt}
+use native.Mathlib.Nat.{le-trans, le-of-eq, le-of-lt, lt-of-lt-of-le, lt-of-le-of-lt, lt-irrefl, lt-of-not-le, not-le-of-lt}
 use native.Mathlib.Nat.{le-of-suc-le-suc, mul-assoc, mul-pos, mul-add, add-mul, mul-mul-mul-comm, mul-le-mul, mul-le-mul-right}
 use native.Mathlib.Nat.{mul-lt-mul-of-pos-right, lt-of-mul-lt-mul-right, mul-div-cancel, div-eq-of-lt-le, pow-succ', zero-mul}
 use native.Mathlib.Omega.{arith}
@@ -13,11 +13,11 @@ use mathlib.Core.Bool.{Bool, true, false, not, cond}
 use lib.Dec.{T, leb, ltb, leb→le, nleb→lt, ltb→lt, lt→ltb, lit≤, lit<}
 use lib.Pow.{pow-add, pow-pos, pow-mono}
 use lib.Ieee.{Float, nan, inf, fin, Format, binary32, prec, emax, low, up, down, size, units, ofBits, toBits, fits}
-use lib.Ieee.Fits.{down-pos, odd-fits, kept-lt}
+use lib.Ieee.Fits.{down-pos, kept-lt}
 use lib.Ieee.Exact.{units-val}
 use lib.Ieee.Bits.{ofBits-toBits}
 use Rattle.floats.specs.UnitLaws.{Val, same-test}
-use Rattle.floats.specs.PatternLaws.{size-is, write, write-carry, read-low, read-high}
+use Rattle.floats.specs.PatternLaws.{size-is, write, write-carry, read-low, read-high, units-fit}
 use Rattle.floats.specs.Library.{middle, rootUnits, sqrt, stepped, wholeRoot}
 
 -- q is the whole root of n
@@ -165,19 +165,11 @@ pub units-pattern : (q h : ℕ) → 2 ^ 23 ≤ q → q ≤ 2 ^ 24 → h < 250 �
 units-pattern q h lo hi l =
     let small : q * 2 ^ h < 2 ^ 277 = lt-of-le-of-lt (mul-le-mul hi (pow-mono (le-of-lt l))) (lit< tt) in
     let v : Val binary32 (units binary32 false q h) false (q * 2 ^ h) = units-val binary32 false q h small in
-    sym (ofBits-toBits binary32 (units binary32 false q h) (units-fit q h hi small)) ∙ ap (ofBits binary32) (go (native.Mathlib.Nat.eq-or-lt-of-le hi) v)
+    sym (ofBits-toBits binary32 (units binary32 false q h) (units-fit binary32 q h hi)) ∙ ap (ofBits binary32) (go (native.Mathlib.Nat.eq-or-lt-of-le hi) v)
   where
     go : (q ≡ 2 ^ 24) ⊎ (q < 2 ^ 24) → Val binary32 (units binary32 false q h) false (q * 2 ^ h) → toBits binary32 (units binary32 false q h) ≡ h * 8388608 + q
     go (inl e) v = write-carry binary32 (units binary32 false q h) q h e v
     go (inr u) v = write binary32 (units binary32 false q h) q h lo u v
-
-    pick : (b : Bool) (x : Float) → T (fits binary32 x) → T (fits binary32 (cond b x (inf false)))
-    pick true x t = t
-    pick false x t = lib.Ieee.Fits.inf-fits binary32 false
-
-    units-fit : (q h : ℕ) → q ≤ 2 ^ 24 → q * 2 ^ h < 2 ^ 277 → T (fits binary32 (units binary32 false q h))
-    units-fit q h hi s =
-        unfold units in pick (ltb (q * 2 ^ h) (2 ^ 277)) (lib.Ieee.odd 25 false q h 149) (odd-fits binary32 25 false q h (lt-of-le-of-lt hi (lit< tt)) hi s)
 
 -- ---- for the proofs of code
 pub root-below : (m q : ℕ) → q * q ≤ m → m < 2 ^ 48 → q < 16777216
@@ -293,14 +285,6 @@ root-shape f N =
     either : (b : Bool) (q p : ℕ) → q < p → cond b (suc q) q ≤ p
     either true q p h = h
     either false q p h = le-of-lt h
-
-units-fit : (f : Format) (q k : ℕ) → q ≤ 2 ^ prec f → T (fits f (units f false q k))
-unfolding units
-units-fit f q k h = go (ltb (q * 2 ^ k) (2 ^ (low f + suc (emax f)))) (ltb→lt (q * 2 ^ k) (2 ^ (low f + suc (emax f))))
-  where
-    go : (b : Bool) → (T b → q * 2 ^ k < 2 ^ (low f + suc (emax f))) → T (fits f (cond b (lib.Ieee.odd (suc (prec f)) false q k (low f)) (inf false)))
-    go true l = odd-fits f (suc (prec f)) false q k (lt-of-le-of-lt h (lib.Pow.pow-lt (le-refl (suc (prec f))))) h (l tt)
-    go false l = lib.Ieee.Fits.inf-fits f false
 
 pub root-fits : (f : Format) (N : ℕ) → T (fits f (rootUnits f N))
 root-fits f N = let s = root-shape f N in subst (λ (x : Float). T (fits f x)) (sym (s .2)) (units-fit f (s .0) (s .1) (s .3))

@@ -15,8 +15,8 @@ use lib.Ieee.{Float, nan, inf, fin, Format, prec, emax, low, up, down, size, odd
 use lib.Ieee.Digits.{size-lt, size-le, size-reaches}
 use lib.Ieee.Fits.{kept-lt, two, two-le-pos, up-pos, down-pos, and-r}
 use lib.Ieee.Exact.{units-val}
+use borrow.Author.Tests.{le-ltb}
 use Rattle.floats.specs.UnitLaws.{lt-val, zero-val}
-use Rattle.floats.specs.NonNegLaws.{ltb-no}
 use Rattle.floats.specs.FiniteLaws.{of-true}
 use Rattle.floats.specs.Library.{stepped, wholeRoot, middle, rootUnits, sqrt}
 
@@ -139,7 +139,7 @@ module _ (f : Format) (N M w v : ℕ) (h : N ≤ M) (g : w ≤ v) where
 -- ---- values not below zero, by their units
 over : (f : Format) (q k : ℕ) → 2 ^ (low f + suc (emax f)) ≤ q * 2 ^ k → units f false q k ≡ inf false
 unfolding units
-over f q k h = ap (λ (b : Bool). cond b (odd (suc (prec f)) false q k (low f)) (inf false)) (ltb-no (q * 2 ^ k) (2 ^ (low f + suc (emax f))) h)
+over f q k h = ap (λ (b : Bool). cond b (odd (suc (prec f)) false q k (low f)) (inf false)) (le-ltb (q * 2 ^ k) (2 ^ (low f + suc (emax f))) h)
 
 inf-above : (x : Float) → lt (inf false) x ≡ false
 unfolding lt
@@ -157,7 +157,7 @@ units-order f q j r k h = go (ltb (q * 2 ^ j) top) (ltb→lt (q * 2 ^ j) top) (n
     go true l g =
         lt-val f (units f false q j) (units f false r k) false (q * 2 ^ j) false (r * 2 ^ k)
         (units-val f false q j (l tt)) (units-val f false r k (lt-of-le-of-lt h (l tt)))
-        ∙ ltb-no (q * 2 ^ j) (r * 2 ^ k) h
+        ∙ le-ltb (q * 2 ^ j) (r * 2 ^ k) h
     go false l g = ap (λ (z : Float). lt z (units f false r k)) (over f q j (g tt)) ∙ inf-above (units f false r k)
 
 root-units-order : (f : Format) (N M : ℕ) → N ≤ M → lt (rootUnits f M) (rootUnits f N) ≡ false
@@ -173,7 +173,7 @@ root-units-above f N s e = go _ _
   where
     none : (s : Bool) (n : ℕ) → below false n s 0 ≡ false
     none true n = refl
-    none false n = ltb-no n 0 zero-le
+    none false n = le-ltb n 0 zero-le
 
     top : ℕ
     top = 2 ^ (low f + suc (emax f))

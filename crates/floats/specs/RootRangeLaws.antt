@@ -7,7 +7,7 @@ use mathlib.Core.Bool.{Bool, true, false, not, _&&_, _||_, cond}
 use lib.IntN.{ℤ, pos}
 use lib.Dec.{T, ltb, lt→ltb, eqb}
 use lib.Ieee.{Float, nan, inf, fin, Format, binary32, up, down, units, odd, lt, le, fits, isNan, below, level, low, prec, emax, ofBits}
-use lib.Ieee.Fits.{eq→eqb}
+use lib.Ieee.Fits.{eq→eqb, and-i}
 use Rattle.floats.specs.Ops.{nought, pi}
 use Rattle.floats.specs.Library.{sqrt, rootUnits, min}
 use Rattle.floats.specs.UnitLaws.{le-val}
@@ -24,14 +24,10 @@ zero0 = fin false 0 (pos 0)
 of-le : (a b : ℕ) → a ≤ b → T (ltb a b || (eqb a b && true))
 of-le a b h =
     elim (eq-or-lt-of-le h) [
-      | inl e ↦ or-r (ltb a b) (eqb a b && true) (and-one (eqb a b) (eq→eqb e))
+      | inl e ↦ or-r (ltb a b) (eqb a b && true) (and-i (eqb a b) true (eq→eqb e) tt)
       | inr l ↦ or-l (ltb a b) (eqb a b && true)
           (lt→ltb a b l)
     ]
-  where
-    and-one : (x : Bool) → T x → T (x && true)
-    and-one true t = tt
-    and-one false t = t
 
 clear-above : (m : ℕ) (e : ℤ) → T (le zero0 (fin false m e))
 unfolding le

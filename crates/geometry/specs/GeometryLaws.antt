@@ -9,7 +9,7 @@ use mathlib.Core.Bool.{Bool, true, false, not, _&&_, _||_}
 use lib.IntN.{negsuc}
 use lib.Dec.{T, leb, ltb, eqb, leb→le, nleb→lt, lt→ltb, lit≤, lit<}
 use lib.Ieee.{Float, nan, fin, binary32, add, sub, neg, le, below, level, fits, ofBits}
-use lib.Ieee.Fits.{add-fits, sub-fits, eq→eqb}
+use lib.Ieee.Fits.{add-fits, sub-fits, eq→eqb, and-i}
 use lib.Ieee.Scale.{finite}
 use Rattle.floats.specs.Ops.{_⊕_, _⊖_, nought, pi, halfPi}
 use Rattle.floats.specs.Library.{abs, remEuclid}
@@ -68,13 +68,9 @@ less-half y c h l = go (leb H c) (leb→le H c) (nleb→lt H c)
 inside : (h n : ℕ) (s : Bool) → 0 < h → n ≤ h → T (below true h s n || level true h s n) × T (below s n false h || level s n false h)
 inside h n s p l = go s
   where
-    both : (e : Bool) → T e → T (e && true)
-    both true t = tt
-    both false t = t
-
     up-to : (e : Bool) → (n ≡ h → T e) → T (ltb n h || (e && true))
     up-to e f = elim (eq-or-lt-of-le l) [
-      | inl q ↦ or-r (ltb n h) (e && true) (both e (f q))
+      | inl q ↦ or-r (ltb n h) (e && true) (and-i e true (f q) tt)
       | inr k ↦ or-l (ltb n h) (e && true) (lt→ltb n h k)
     ]
 

@@ -16,12 +16,12 @@ use lib.Ieee.Bits.{ofBits-toBits, toBits-ofBits}
 use lib.Ieee.Exact.{HasValue}
 use lib.Ieee.Back.{round-whole}
 use lib.Ieee.Scale.{round-same, overflow, finite}
-use borrow.Author.Tests.{ltb-true, ltb-false}
+use borrow.Author.Tests.{ltb-true, ltb-false, le-ltb, lt-ltb}
 use Rattle.floats.specs.Ops.{lit, nought}
-use Rattle.floats.specs.FiniteLaws.{zero32}
-use Rattle.floats.specs.UnitLaws.{Val, lt-val, neg-val, mod-scale}
+use Rattle.floats.specs.FiniteLaws.{zero32, finite-number}
+use Rattle.floats.specs.UnitLaws.{Val, lt-val, neg-val, mod-scale, neg-neg, pos-plus, plus-pos}
 use Rattle.floats.specs.RoundingLaws.{R, Rep, Counted, counted, rep-of, R-exact, val-unique, finite-of-val}
-use Rattle.floats.specs.NonNegLaws.{rounded, ltb-yes, ltb-no}
+use Rattle.floats.specs.NonNegLaws.{rounded}
 use Rattle.floats.specs.RemLaws.{rem-exact, pi-val, tau-val, pi-rep, tau-rep}
 use Rattle.floats.specs.PatternLaws.{same-clear, read-low, read-high, pattern-neg}
 use Rattle.floats.specs.PositiveLaws.{pattern-below}
@@ -43,26 +43,12 @@ mod-part n i j M h =
     ∙ ap (λ (z : ℕ). z % M) (mul-assoc n (2 ^ i) (2 ^ (j - i)) ∙ ap (λ (z : ℕ). n * z) (sym (pow-add 2 i (j - i)) ∙ ap (λ (z : ℕ). 2 ^ z) (add-sub-of-le h)))
 
 -- ---- one sign and number of units, one value
-neg-neg : (x : Float) → neg (neg x) ≡ x
-unfolding neg
-neg-neg nan = refl
-neg-neg (inf true) = refl
-neg-neg (inf false) = refl
-neg-neg (fin true m e) = refl
-neg-neg (fin false m e) = refl
-
 pub same-val : (f : Format) (x y : Float) (s : Bool) (n : ℕ) → T (fits f x) → T (fits f y) → Val f x s n → Val f y s n → x ≡ y
 same-val f x y false n p q v w = same-clear f x y n p q v w
 same-val f x y true n p q v w =
     sym (neg-neg x) ∙ ap neg (same-clear f (neg x) (neg y) n (neg-fits f x p) (neg-fits f y q) (neg-val f x true n v) (neg-val f y true n w)) ∙ neg-neg y
 
--- ---- what is finite is a number, and what is not has no remainder: x - x, as a program finds it
-pub finite-number : (x : Float) → T (finite x) → T (not (isNan x))
-unfolding isNan
-finite-number nan t = t
-finite-number (inf s) t = tt
-finite-number (fin s m e) t = tt
-
+-- ---- what is not finite has no remainder: x - x, as a program finds it
 pub rem-wild : (f : Format) (x d : Float) → finite x ≡ false → sub f x x ≡ rem f x d
 unfolding sub rem neg
 rem-wild f nan d t = refl
@@ -105,15 +91,9 @@ module _ (f : Format) (x d : Float) (s : Bool) (a D : ℕ) (P : 0 < D) (p : T (f
       ap (λ (z : Bool). z && lt x d) (lt-val f (neg d) x true D s a (neg-val f d false D w) v)
       ∙ ap (λ (z : Bool). below true D s a && z) (lt-val f x d s a false D v w) ∙ go s
     where
-      more : (m n : ℕ) → 0 < m → 0 < m + n
-      more m n h = omega arith
-
-      more' : (m n : ℕ) → 0 < n → 0 < m + n
-      more' m n h = omega arith
-
       go : (s : Bool) → (below true D s a && below s a false D) ≡ ltb a D
-      go false = ap (λ (z : Bool). z && ltb a D) (ltb-yes 0 (D + a) (more D a P))
-      go true = ap (λ (z : Bool). ltb a D && z) (ltb-yes 0 (a + D) (more' a D P)) ∙ and-true (ltb a D)
+      go false = ap (λ (z : Bool). z && ltb a D) (lt-ltb 0 (D + a) (pos-plus D a P))
+      go true = ap (λ (z : Bool). ltb a D && z) (lt-ltb 0 (a + D) (plus-pos a D P)) ∙ and-true (ltb a D)
 
   near : within d x ≡ true → x ≡ rem f x d
   near t = rem-is x p (subst (λ (z : ℕ). Val f x s z) (sym (mod-eq-of-lt (ltb-true a D (sym within-is ∙ t)))) v)
@@ -132,8 +112,8 @@ pub sign-is : (f : Format) (x : Float) (s : Bool) (a : ℕ) → 0 < a → Val f 
 sign-is f x s a h v = lt-val f x (fin false 0 (pos 0)) s a false 0 v (refl, zero-mul (2 ^ low f)) ∙ go s
   where
     go : (s : Bool) → below s a false 0 ≡ s
-    go false = ltb-no a 0 zero-le
-    go true = ltb-yes 0 (a + 0) (lt-of-lt-of-le h (le-of-eq (sym (add-zero a))))
+    go false = le-ltb a 0 zero-le
+    go true = lt-ltb 0 (a + 0) (lt-of-lt-of-le h (le-of-eq (sym (add-zero a))))
 
 -- ---- a whole number times a value, where the format holds the product
 whole-val : (f : Format) (x : Float) (s : Bool) (n : ℕ) → HasValue x s n 1 → Val f x s (n * 2 ^ low f)

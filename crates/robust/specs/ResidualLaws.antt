@@ -20,7 +20,7 @@ use Rattle.floats.specs.Rows.{Row, at, count}
 use Rattle.floats.specs.Library.{negative, before, max, sqrt}
 use Rattle.floats.specs.UnitLaws.{Val, eq-val}
 use Rattle.floats.specs.RoundingLaws.{Rep, counted, rep-of}
-use Rattle.floats.specs.NonNegLaws.{plus-nn, le-of, or-r}
+use Rattle.floats.specs.NonNegLaws.{plus-nn, le-of, or-r, or-l}
 use Rattle.floats.specs.RankLaws.{le-le}
 use Rattle.floats.specs.SquareSumLaws.{Number, Upright, Level, clear-upright, upright-number, level-upright, nought-level, round-number}
 use Rattle.floats.specs.SquareSumLaws.{add-number, sub-number, square-clear, add-upright, add-level, upright-above}
@@ -94,10 +94,6 @@ below-all : (m : ℕ) (e : ℤ) → T (le (fin true m e) (lit 8))
 unfolding le lt ofBits
 below-all m e = or-l (ltb 0 (m * up e * 2 ^ 146 + 1 * down e)) _ (lt→ltb 0 (m * up e * 2 ^ 146 + 1 * down e) (more (m * up e * 2 ^ 146) (down e) (down-pos e)))
   where
-    or-l : (a b : Bool) → T a → T (a || b)
-    or-l true b t = tt
-    or-l false b t = absurd t
-
     more : (a b : ℕ) → 0 < b → 0 < a + 1 * b
     more a b h = omega arith
 

@@ -9,6 +9,7 @@ use mathlib.Core.Logic.{_⊎_, inl, inr}
 use lib.Dec.{T, leb, eqb·suc-zero, leb→le, le→leb, lit≤, lit<}
 use lib.Ieee.{binary32, lt, le, eq, add, sub, mul, rem, neg, ofBits, ofInt, round, size}
 use lib.Ieee.Fits.{and-i, and-l, and-r}
+use borrow.Author.Tests.{le-leb, lt-leb}
 use Rattle.floats.specs.Ops.{lit, minus}
 use Rattle.floats.specs.Library.{abs, remEuclid, toRadians}
 use Rattle.floats.specs.UnitLaws.{same-test}
@@ -89,16 +90,6 @@ allowed a b h k =
     rw (e, g) at (same (validPair (gridAngle a) (gridAngle (a + 1 + d))) (leb 2 (1 + d) && leb (1 + d) 21) (unfold right in t))
 
 -- ---- of an angle a: the last that is allowed
-leb-no : (a b : ℕ) → b < a → leb a b ≡ false
-leb-no a b h = go (leb a b) (leb→le a b)
-  where
-    never : a ≤ b → ⊥
-    never l = omega arith
-
-    go : (c : Bool) → (T c → a ≤ b) → c ≡ false
-    go true l = absurd (never (l tt))
-    go false l = refl
-
 pub last-between : (a : ℕ) → a < 21 → (a + 2 ≤ lastOf a) × (lastOf a ≤ 22)
 last-between zero h = (lit≤ tt, lit≤ tt)
 last-between (suc a) h = rw (eqb·suc-zero a) (omega arith, lit≤ tt)
@@ -129,19 +120,15 @@ module _ (score : ℕ → ℕ → Seed) where
   pair-none : (a b : ℕ) → a < b → b < 23 → b < a + 2 → (top : Seed) → pairAt score a b top ≡ top
   unfolding pairAt
   pair-none a b h k l top =
-      ap (λ (t : Bool). cond t (inserted top (score a b)) top) (allowed a b h k ∙ ap (λ (t : Bool). t && leb (b - a) 21) (leb-no 2 (b - a) (omega arith)))
+      ap (λ (t : Bool). cond t (inserted top (score a b)) top) (allowed a b h k ∙ ap (λ (t : Bool). t && leb (b - a) 21) (lt-leb 2 (b - a) (omega arith)))
 
   pub step-none : (a b : ℕ) → lastOf a < b → (top : Seed) → stepAt score a b top ≡ top
   unfolding stepAt
-  step-none a b h top = ap (λ (t : Bool). cond t (inserted top (score a b)) top) (leb-no b (lastOf a) h)
+  step-none a b h top = ap (λ (t : Bool). cond t (inserted top (score a b)) top) (lt-leb b (lastOf a) h)
 
   pub step-some : (a b : ℕ) → b ≤ lastOf a → (top : Seed) → stepAt score a b top ≡ inserted top (score a b)
   unfolding stepAt
-  step-some a b h top = ap (λ (t : Bool). cond t (inserted top (score a b)) top) (yes (leb b (lastOf a)) (le→leb b (lastOf a) h))
-    where
-      yes : (t : Bool) → T t → t ≡ true
-      yes true u = refl
-      yes false u = absurd u
+  step-some a b h top = ap (λ (t : Bool). cond t (inserted top (score a b)) top) (le-leb b (lastOf a) h)
 
   pairs-steps : (a : ℕ) → a < 21 → (top : Seed) → pairsFrom score a top ≡ range (stepAt score a) top (a + 2) 23
   unfolding pairsFrom

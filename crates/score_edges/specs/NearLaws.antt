@@ -10,12 +10,12 @@ use lib.Ieee.{Float, nan, inf, fin, binary32, low, below, level, round, add, sub
 use lib.Ieee.Fits.{add-fits, sub-fits, neg-fits}
 use lib.Ieee.Bits.{is-true}
 use lib.Ieee.Scale.{overflow, finite}
-use borrow.Author.Tests.{ltb-true}
+use borrow.Author.Tests.{ltb-true, le-ltb, lt-ltb}
 use Rattle.floats.specs.Ops.{_⊕_, _⊖_, nought, pi, tau, halfPi}
 use Rattle.floats.specs.Library.{remEuclid}
 use Rattle.floats.specs.UnitLaws.{Val, same-test, lt-val, le-val, add-val, sub-val, neg-val}
 use Rattle.floats.specs.RoundingLaws.{R, Rep, counted, R-exact, rep-mod}
-use Rattle.floats.specs.NonNegLaws.{plus-nn, le-is, rounded, ltb-yes, ltb-no, sum-pn-ge, sum-np-gt}
+use Rattle.floats.specs.NonNegLaws.{plus-nn, le-is, rounded, sum-pn-ge, sum-np-gt}
 use Rattle.floats.specs.RemLaws.{P, W, pi-val, tau-val, pi-rep, pi-nn}
 use Rattle.remainders.specs.RemainderLaws.{same-val, rem-is}
 use Rattle.geometry.specs.Geometry.{signedLineDelta}
@@ -108,7 +108,7 @@ under-over D s a h =
     or-false (below false D s a) (level false D s a) (go s) (ap (λ (z : Bool). z && (Bool·beq false s || eqb D 0)) (not-level D a (less-no D a h)))
   where
     go : (s : Bool) → below false D s a ≡ false
-    go false = ltb-no D a (le-of-lt h)
+    go false = le-ltb D a (le-of-lt h)
     go true = refl
 
 under-under : (D : ℕ) (s : Bool) (a : ℕ) → a < D → (below s a true D || level s a true D) ≡ false
@@ -117,7 +117,7 @@ under-under D s a h =
   where
     go : (s : Bool) → below s a true D ≡ false
     go false = refl
-    go true = ltb-no D a (le-of-lt h)
+    go true = le-ltb D a (le-of-lt h)
 
 less-within : (x : Float) (s : Bool) (a : ℕ) → Val binary32 x s a → a < P → lessPi x ≡ x
 unfolding lessPi
@@ -130,7 +130,7 @@ unfolding lessPi
 less-below x a v h =
     ap (λ (z : Bool). cond z (x ⊖ pi) (cond (le x (neg pi)) (x ⊕ pi) x)) (le-val binary32 pi x false P true a pi-val v ∙ and-false (eqb P a))
     ∙ ap (λ (z : Bool). cond z (x ⊕ pi) x)
-    (le-val binary32 x (neg pi) true a true P v (neg-val binary32 pi false P pi-val) ∙ ap (λ (z : Bool). z || level true a true P) (ltb-yes P a h))
+    (le-val binary32 x (neg pi) true a true P v (neg-val binary32 pi false P pi-val) ∙ ap (λ (z : Bool). z || level true a true P) (lt-ltb P a h))
 
 -- ---- between D and 2 D the remainder is D less
 mod-once : (a D : ℕ) → D ≤ a → a < D + D → a % D ≡ a - D

@@ -12,11 +12,12 @@ use lib.Dec.{T, leb, leb→le, nleb→lt, lit≤, lit<}
 use lib.Ieee.{Float, nan, inf, fin, binary32, neg, lt, le, eq, fits, ofBits, isNan}
 use lib.Ieee.Fits.{add-fits}
 use lib.Ieee.Scale.{overflow, finite}
+use borrow.Author.Tests.{le-ltb, lt-ltb}
 use Rattle.floats.specs.Ops.{_⊕_, _⊖_, nought, pi, tau}
 use Rattle.floats.specs.Library.{remEuclid}
-use Rattle.floats.specs.UnitLaws.{Val, lt-val, neg-val}
+use Rattle.floats.specs.UnitLaws.{Val, lt-val, neg-val, pos-plus}
 use Rattle.floats.specs.RoundingLaws.{R, Rep, counted, R-exact, R-mono, R-upper, R-lower, R-zero, R-rep, rep-step, rep-mod}
-use Rattle.floats.specs.NonNegLaws.{NonNeg, or-r, ltb-no, ltb-yes, plus-nn, lt-is, le-is, lt-of, le-of, add-nn, sub-nn, sub-neg}
+use Rattle.floats.specs.NonNegLaws.{NonNeg, or-r, plus-nn, lt-is, le-is, lt-of, le-of, add-nn, sub-nn, sub-neg}
 use Rattle.floats.specs.RemLaws.{P, W, pi-val, tau-val, pi-rep, tau-rep, pi-nn, tau-nn, nought-val, nought-nn}
 use Rattle.floats.specs.RemLaws.{remEuclid-nn, remEuclid-neg, remEuclid-zero, remEuclid-range, remEuclid-wild}
 use Rattle.solver_axes.specs.declared.Axes.{Axes}
@@ -181,18 +182,15 @@ sized n a = cond n (neg a) a
 
 amp-kept : (a : Float) (n : ℕ) → NonNeg binary32 a n → AmpRange (sized (lt a nought) a)
 amp-kept a n h =
-    let e = lt-is binary32 a nought n 0 h nought-nn ∙ ltb-no n 0 zero-le in
+    let e = lt-is binary32 a nought n 0 h nought-nn ∙ le-ltb n 0 zero-le in
     subst (λ (b : Bool). AmpRange (sized b a)) (sym e) (or-r (isNan a) (le nought a) (le-of binary32 nought a 0 n nought-nn h zero-le))
 
 amp-turned : (a : Float) (n : ℕ) → Val binary32 a true n → Rep binary32 n → 0 < n → AmpRange (sized (lt a nought) a)
 amp-turned a n v r p =
-    let e = lt-val binary32 a nought true n false 0 v nought-val ∙ ltb-yes 0 (n + 0) (plus p) in
+    let e = lt-val binary32 a nought true n false 0 v nought-val ∙ lt-ltb 0 (n + 0) (pos-plus n 0 p) in
     let h = plus-nn binary32 (neg a) n (neg-val binary32 a true n v) r in
     subst (λ (b : Bool). AmpRange (sized b a)) (sym e)
     (or-r (isNan (neg a)) (le nought (neg a)) (le-of binary32 nought (neg a) 0 n nought-nn h zero-le))
-  where
-    plus : {n : ℕ} → 0 < n → 0 < n + 0
-    plus h = omega arith
 
 amp-counted : (a : Float) (s : Bool) (n : ℕ) → Val binary32 a s n → Rep binary32 n → AmpRange (sized (lt a nought) a)
 amp-counted a false n v r = amp-kept a n (plus-nn binary32 a n v r)

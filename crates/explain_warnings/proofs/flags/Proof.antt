@@ -1,5 +1,5 @@
 -- Each flag is its sentence's. Assumes nothing.
-use Rattle.explain_warnings.specs.WarningsLaws.{nan-test}
+use Rattle.floats.specs.MaxMinLaws.{ne-is-nan}
 use Rattle.explain_warnings.specs.Warnings as W
 use Rattle.explain_words.specs.Tell.{flagsOf}
 use mathlib.Core.Path.{refl}
@@ -16,7 +16,7 @@ returns c =
     let b24 = b20 .before .before .before .before in (
       rw (
         b20 .before .before .before .is-infinite .ensures,
-        nan-test (b24 .before .args .r .rms),
+        ne-is-nan (b24 .before .args .r .rms),
         b20 .before .is-large .ensures,
         b8 .before .before .is-wild .ensures,
         b8 .before .is-wild2 .ensures,

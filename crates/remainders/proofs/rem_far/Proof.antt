@@ -8,8 +8,8 @@ use lib.Dec.{T, le→leb, lit<, lit≤}
 use lib.IntN.{pos}
 use lib.Ieee.{Float, binary32, inFloat, ne, eq, sub}
 use lib.Ieee.Scale.{finite}
-use Rattle.floats.specs.FiniteLaws.{finite-test, of-true}
-use Rattle.remainders.specs.RemainderLaws.{finite-number, rem-wild, far-field, far-rem, modulus, M}
+use Rattle.floats.specs.FiniteLaws.{finite-test, of-true, finite-number}
+use Rattle.remainders.specs.RemainderLaws.{rem-wild, far-field, far-rem, modulus, M}
 use borrow.Author.Needs.{needs}
 use borrow.Author.Tests.{not-true, not-false}
 use Rattle.remainders.proofs.rem_far.Statement.{statement}
