@@ -12,6 +12,7 @@ use lib.Pow.{pow-pos}
 use lib.Ieee.{Float, nan, inf, fin, binary32, up, down, round, sum, add, sub, mul, div, neg, lt, fits, isNan}
 use lib.Ieee.Fits.{and-l, and-r, down-pos}
 use lib.Ieee.Scale.{overflow, finite, round-same}
+use borrow.Author.Tests.{ltb-false}
 use Rattle.floats.specs.UnitLaws.{Val, add-val, sub-val, neg-val, lt-val}
 use Rattle.floats.specs.RoundingLaws.{R, Rep, val-unique, counted, finite-of-val, round-R, R-upper, R-lower}
 use Rattle.floats.specs.RankLaws.{Sized, sized-no-nan}
@@ -217,12 +218,9 @@ pub tests-in : (n : ℕ) (bottom top x : Float) (a b : ℕ) → Val binary32 bot
 tests-in n bottom top x a b v w A B p q e g =
     let c = counted binary32 x p q in record { sign = c .sign; count = c .count; val = c .val; small = go (c .sign) (c .count) (c .val) }
   where
-    not-less : (i j : ℕ) → ltb i j ≡ false → j ≤ i
-    not-less i j e = nltb→le i j (subst (λ (z : Bool). T (not z)) (sym e) tt)
-
     go : (s : Bool) (c : ℕ) → Val binary32 x s c → c ≤ n
-    go true c u = le-trans (not-less a c (sym (lt-val binary32 x bottom true c true a u v) ∙ e)) A
-    go false c u = le-trans (not-less b c (sym (lt-val binary32 top x false b false c w u) ∙ g)) B
+    go true c u = le-trans (ltb-false a c (sym (lt-val binary32 x bottom true c true a u v) ∙ e)) A
+    go false c u = le-trans (ltb-false b c (sym (lt-val binary32 top x false b false c w u) ∙ g)) B
 
 -- ---- a last product may overflow: of two finite values no NaN comes
 pub mul-number : {a b : ℕ} {x y : Float} → Within a x → Within b y → T (not (isNan (mul binary32 x y)))

@@ -89,7 +89,9 @@ cast-high nan a b = absurd (false≢true a)
 cast-high (inf true) a b = absurd (false≢true a)
 cast-high (inf false) a b = refl
 cast-high (fin true m e) a b =
-    absurd (true≢false (sym (lt-ltb 0 (m * up e * 1 + 1 * 2 ^ 64 * down e) (plus-pos (m * up e * 1) (1 * 2 ^ 64 * down e) (mul-pos (pow-pos 64) (down-pos e)))) ∙ b))
+    let u = m * up e * 1 in
+    let v = 1 * 2 ^ 64 * down e in
+    absurd (true≢false (sym (lt-ltb 0 (u + v) (plus-pos u v (mul-pos (pow-pos 64) (down-pos e)))) ∙ b))
 cast-high (fin false m e) a b =
     let g : 2 ^ 64 * down e ≤ m * up e = le-trans (nltb→le (m * up e * 1) (2 ^ 64 * down e) (subst (λ (t : Bool). T (not t)) (sym b) tt))
     (le-of-eq (mul-one (m * up e))) in

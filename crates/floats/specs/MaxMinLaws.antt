@@ -211,7 +211,8 @@ max-nought f (fin s zero e) p = subst (λ (x : Float). max x nought ≡ cond (lt
     zeros : (s : Bool) → max (fin s 0 (pos 0)) nought ≡ cond (lt nought (fin s 0 (pos 0))) (fin s 0 (pos 0)) nought
     zeros true = refl
     zeros false = refl
-max-nought f (fin true (suc m) e) p = go (ltb 0 (a + 0 * down e)) (eqb a (0 * down e) && eqb a 0) (lt-ltb 0 (a + 0 * down e) (pos-plus a (0 * down e) (some m e)))
+max-nought f (fin true (suc m) e) p =
+    go (ltb 0 (a + 0 * down e)) (eqb a (0 * down e) && eqb a 0) (lt-ltb 0 (a + 0 * down e) (pos-plus a (0 * down e) (some m e)))
   where
     a : ℕ
     a = suc m * up e * 1

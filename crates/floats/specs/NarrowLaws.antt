@@ -335,12 +335,6 @@ power-in p s e h = (subst (λ (z : ℕ). 0 < z) (sym e) (pow-pos s), subst (λ (
 pub shifted-one : (s : ℕ) → s < 62 → 1 * 2 ^ s % 18446744073709551616 ≡ 2 ^ s
 shifted-one s h = ap (λ (z : ℕ). z % 18446744073709551616) (one-mul (2 ^ s)) ∙ mod-eq-of-lt (lt-of-lt-of-le (lib.Pow.pow-lt h) (lit≤ tt))
 
-pub rest-in : (m d : ℕ) → 0 < d → m % d < d
-rest-in m d h = native.Mathlib.Nat.mod-lt m h
-
-pub quotient-in : (m d : ℕ) → m / d ≤ m
-quotient-in m d = native.Mathlib.Nat.div-le-self m d
-
 pub not-more : (a b : ℕ) → a ≤ b → (a ≡ b → ⊥) → a < b
 not-more a b h n = omega arith
 

@@ -12,7 +12,7 @@ use mathlib.Core.Bool.{Bool, true, false, not, _&&_, _||_, Bool·beq, cond}
 use lib.Dec.{T, leb, ltb, eqb, leb→le, le→leb, ltb→lt, lt→ltb, nltb→le, eqb→eq}
 use lib.Pow.{pow-pos}
 use lib.Ieee.{Float, nan, inf, fin, Format, emax, low, up, down, lt, le, eq, below, level, fits, isNan}
-use lib.Ieee.Fits.{down-pos, eq→eqb}
+use lib.Ieee.Fits.{down-pos, eq→eqb, and-l, and-r, and-i}
 use lib.Ieee.Scale.{overflow}
 use borrow.Author.Tests.{le-ltb, lt-ltb}
 use lib.Ieee.Bits.{is-true}
@@ -95,18 +95,6 @@ module _ (O : ℕ) (a b : ℕ) (A : a ≤ O) (B : b ≤ O) where
   level-place : (s t : Bool) → level s a t b ≡ eqb (place O s a) (place O t b)
   level-place s t = same-test (level s a t b) (eqb (place O s a) (place O t b)) (there s t) (back s t)
     where
-      and-fst : (x y : Bool) → T (x && y) → T x
-      and-fst true y h = tt
-      and-fst false y h = h
-
-      and-snd : (x y : Bool) → T (x && y) → T y
-      and-snd true y h = h
-      and-snd false y h = absurd h
-
-      both : (x y : Bool) → T x → T y → T (x && y)
-      both true y h k = k
-      both false y h k = h
-
       zeros : a ≡ b → a ≡ 0 → O + a ≡ O - b
       zeros e z = omega arith
 
@@ -114,10 +102,10 @@ module _ (O : ℕ) (a b : ℕ) (A : a ≤ O) (B : b ≤ O) where
       zeros' e z = omega arith
 
       there : (s t : Bool) → T (level s a t b) → T (eqb (place O s a) (place O t b))
-      there false false h = eq→eqb (ap (λ (z : ℕ). O + z) (eqb→eq a b (and-fst (eqb a b) true h)))
-      there true true h = eq→eqb (ap (λ (z : ℕ). O - z) (eqb→eq a b (and-fst (eqb a b) true h)))
-      there false true h = eq→eqb (zeros (eqb→eq a b (and-fst (eqb a b) (eqb a 0) h)) (eqb→eq a 0 (and-snd (eqb a b) (eqb a 0) h)))
-      there true false h = eq→eqb (zeros' (eqb→eq a b (and-fst (eqb a b) (eqb a 0) h)) (eqb→eq a 0 (and-snd (eqb a b) (eqb a 0) h)))
+      there false false h = eq→eqb (ap (λ (z : ℕ). O + z) (eqb→eq a b (and-l (eqb a b) true h)))
+      there true true h = eq→eqb (ap (λ (z : ℕ). O - z) (eqb→eq a b (and-l (eqb a b) true h)))
+      there false true h = eq→eqb (zeros (eqb→eq a b (and-l (eqb a b) (eqb a 0) h)) (eqb→eq a 0 (and-r (eqb a b) (eqb a 0) h)))
+      there true false h = eq→eqb (zeros' (eqb→eq a b (and-l (eqb a b) (eqb a 0) h)) (eqb→eq a 0 (and-r (eqb a b) (eqb a 0) h)))
 
       ff : O + a ≡ O + b → a ≡ b
       ff e = omega arith
@@ -132,10 +120,10 @@ module _ (O : ℕ) (a b : ℕ) (A : a ≤ O) (B : b ≤ O) where
       tf e = (omega arith, omega arith)
 
       back : (s t : Bool) → T (eqb (place O s a) (place O t b)) → T (level s a t b)
-      back false false h = both (eqb a b) true (eq→eqb (ff (eqb→eq (O + a) (O + b) h))) tt
-      back true true h = both (eqb a b) true (eq→eqb (nn (eqb→eq (O - a) (O - b) h))) tt
-      back false true h = let e = ft (eqb→eq (O + a) (O - b) h) in both (eqb a b) (eqb a 0) (eq→eqb (e .0)) (eq→eqb (e .1))
-      back true false h = let e = tf (eqb→eq (O - a) (O + b) h) in both (eqb a b) (eqb a 0) (eq→eqb (e .0)) (eq→eqb (e .1))
+      back false false h = and-i (eqb a b) true (eq→eqb (ff (eqb→eq (O + a) (O + b) h))) tt
+      back true true h = and-i (eqb a b) true (eq→eqb (nn (eqb→eq (O - a) (O - b) h))) tt
+      back false true h = let e = ft (eqb→eq (O + a) (O - b) h) in and-i (eqb a b) (eqb a 0) (eq→eqb (e .0)) (eq→eqb (e .1))
+      back true false h = let e = tf (eqb→eq (O - a) (O + b) h) in and-i (eqb a b) (eqb a 0) (eq→eqb (e .0)) (eq→eqb (e .1))
 
 -- `lt` and `eq` where an infinity takes part
 module _ (O : ℕ) (P : 0 < O) where

@@ -3,7 +3,7 @@
 -- What fits the format has such a number of units. Remainders, and what lies just below a held number, are worked out on whole numbers. Assumes nothing.
 use mathlib.Core.Path.{_≡_, refl, sym, ap, _∙_, subst}
 use Prim.Native.Nat.{ℕ, zero, suc, _+_, _-_, _*_, _%_, _^_, _≤_, _<_}
-use native.Mathlib.Nat.{le-refl, le-trans, le-of-eq, le-of-lt, lt-of-lt-of-le, lt-of-le-of-lt, lt-irrefl, not-le-of-lt, lt-of-not-le, zero-lt-suc, add-comm}
+use native.Mathlib.Nat.{le-refl, le-trans, le-of-eq, le-of-lt, lt-of-lt-of-le, lt-of-le-of-lt, not-le-of-lt, lt-of-not-le, add-comm}
 use native.Mathlib.Nat.{zero-mul, mul-one, one-mul, mul-assoc, mul-right-comm, mul-pos, mul-le-mul-right, mul-lt-mul-of-pos-right, lt-of-mul-lt-mul-right}
 use native.Mathlib.Nat.{eq-of-mul-eq-mul-right, mod-lt, mod-le, sub-add-cancel}
 use native.Mathlib.Omega.{arith}
@@ -16,6 +16,7 @@ use lib.Ieee.Fits.{down-pos, and-l, and-r, round-fits, round-is}
 use lib.Ieee.Exact.{round-exact, units-val}
 use lib.Ieee.Scale.{round-under, grid, overflow, finite}
 use lib.Ieee.Order.{round-mono, drop, kept}
+use lib.Ieee.Positive.{first-pos}
 use Rattle.floats.specs.UnitLaws.{Val, le-val, mod-scale}
 
 -- n units rounded, in units. From `overflow f` units on the rounded value is an infinity.
@@ -208,10 +209,6 @@ rep-zero f = (0, 0, pow-pos (prec f), refl, pow-pos (low f + suc (emax f)))
 pub R-zero : (f : Format) → R f 0 ≡ 0
 R-zero f = R-exact f 0 (rep-zero f)
 
-pos-of-mul : (p k : ℕ) → 0 < p * k → 0 < p
-pos-of-mul zero k h = absurd (lt-irrefl 0 (subst (λ (z : ℕ). 0 < z) (zero-mul k) h))
-pos-of-mul (suc p) k h = zero-lt-suc p
-
 pub rep-mod : (f : Format) (a b : ℕ) → 0 < b → Rep f a → Rep f b → Rep f (a % b)
 rep-mod f a b B (q, j, qs, qe, qo) (p, k, ps, pe, po) = go (leb j k) (leb→le j k) (nleb→lt j k)
   where
@@ -219,7 +216,7 @@ rep-mod f a b B (q, j, qs, qe, qo) (p, k, ps, pe, po) = go (leb j k) (leb→le j
     small = lt-of-le-of-lt (mod-le a b) qo
 
     P : 0 < p
-    P = pos-of-mul p (2 ^ k) (subst (λ (z : ℕ). 0 < z) pe B)
+    P = first-pos p (2 ^ k) (subst (λ (z : ℕ). 0 < z) pe B)
 
     shift : (i d : ℕ) → 2 ^ (i - d + d) ≡ 2 ^ (i - d) * 2 ^ d
     shift i d = pow-add 2 (i - d) d

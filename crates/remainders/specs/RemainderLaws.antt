@@ -5,7 +5,7 @@ use mathlib.Core.Bool.{Bool, true, false, not, _&&_, false≢true}
 use Prim.Native.Nat.{ℕ, zero, suc, _+_, _-_, _*_, _/_, _%_, _^_, _≤_, _<_, zero-le}
 use native.Mathlib.Nat.{le-refl, le-trans, le-of-eq, le-of-lt, lt-of-lt-of-le, lt-of-le-of-lt, not-le-of-lt, lt-of-not-le, le-of-suc-le-suc, mod-lt}
 use native.Mathlib.Nat.{mod-eq-of-lt, add-mod-left, div-add-mod', mul-add-mod-self-right, add-mul, add-zero, zero-mul, mul-one, mul-assoc, mul-right-comm}
-use native.Mathlib.Nat.{mul-pos, mul-le-mul, mul-le-mul-right, pow-succ', mul-lt-mul-of-pos-right, add-sub-of-le, sub-add-cancel}
+use native.Mathlib.Nat.{mul-pos, mul-le-mul, mul-le-mul-right, pow-succ', mul-lt-mul-of-pos-right, add-sub-of-le, sub-add-cancel, suc-sub-suc}
 use native.Mathlib.Omega.{arith}
 use lib.IntN.{pos}
 use lib.Dec.{T, ltb, lit<, lit≤}
@@ -245,12 +245,10 @@ module _ (c n Q : ℕ) (lo : c < 0x7f800000) (v : Val binary32 (ofBits binary32 
           let g : Q ≤ x = le-of-suc-le-suc (lt-of-not-le (low-field x u)) in (
             subst (λ (z : ℕ). Q < z) (sym e) (raised x Q g),
             u ∙ ap (λ (z : ℕ). digits c * z) (ap (λ (z : ℕ). 2 ^ z) (sym (sub-add-cancel g)) ∙ pow-add 2 (x - Q) Q)
-                ∙ sym (mul-assoc (digits c) (2 ^ (x - Q)) (2 ^ Q)) ∙ ap (λ (z : ℕ). digits c * 2 ^ z * 2 ^ Q) (sym (ap (λ (z : ℕ). z - suc Q) e ∙ less x Q)),
+                ∙ sym (mul-assoc (digits c) (2 ^ (x - Q)) (2 ^ Q))
+                ∙ ap (λ (z : ℕ). digits c * 2 ^ z * 2 ^ Q) (sym (ap (λ (z : ℕ). z - suc Q) e ∙ suc-sub-suc x Q)),
           )
         where
-          less : (x Q : ℕ) → suc x - suc Q ≡ x - Q
-          less x Q = omega arith
-
           raised : (x Q : ℕ) → Q ≤ x → Q < suc x
           raised x Q g = omega arith
 

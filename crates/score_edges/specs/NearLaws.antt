@@ -5,15 +5,15 @@ use mathlib.Core.Bool.{Bool, true, false, not, _&&_, _||_, Bool·beq, cond, fals
 use Prim.Native.Nat.{ℕ, zero, suc, _+_, _-_, _%_, _^_, _≤_, _<_}
 use native.Mathlib.Nat.{le-of-lt, le-of-suc-le-suc, eq-or-lt-of-le, mod-eq-of-lt, add-mod-left, add-sub-of-le}
 use native.Mathlib.Omega.{arith}
-use lib.Dec.{T, leb, ltb, eqb, le→leb, ltb→lt, nltb→le, eqb→eq, lit<}
+use lib.Dec.{T, leb, ltb, eqb, le→leb, ltb→lt, nltb→le, lit<}
 use lib.Ieee.{Float, nan, inf, fin, binary32, low, below, level, round, add, sub, neg, rem, lt, le, eq, fits, ofBits}
 use lib.Ieee.Fits.{add-fits, sub-fits, neg-fits}
 use lib.Ieee.Bits.{is-true}
 use lib.Ieee.Scale.{overflow, finite}
-use borrow.Author.Tests.{ltb-true, le-ltb, lt-ltb}
+use borrow.Author.Tests.{ltb-true, le-ltb, lt-ltb, ne-eqb}
 use Rattle.floats.specs.Ops.{_⊕_, _⊖_, nought, pi, tau, halfPi}
 use Rattle.floats.specs.Library.{remEuclid}
-use Rattle.floats.specs.UnitLaws.{Val, same-test, lt-val, le-val, add-val, sub-val, neg-val}
+use Rattle.floats.specs.UnitLaws.{Val, lt-val, le-val, add-val, sub-val, neg-val}
 use Rattle.floats.specs.RoundingLaws.{R, Rep, counted, R-exact, rep-mod}
 use Rattle.floats.specs.NonNegLaws.{plus-nn, le-is, rounded, sum-pn-ge, sum-np-gt}
 use Rattle.floats.specs.RemLaws.{P, W, pi-val, tau-val, pi-rep, pi-nn}
@@ -86,9 +86,6 @@ less-above x a v r h =
     ap (λ (z : Bool). cond z (x ⊖ pi) (cond (le x (neg pi)) (x ⊕ pi) x))
     (le-is binary32 pi x P a pi-nn (plus-nn binary32 x a v r) ∙ is-true (leb P a) (le→leb P a h))
 
-not-level : (a b : ℕ) → (a ≡ b → ⊥) → eqb a b ≡ false
-not-level a b h = same-test (eqb a b) false (λ t. h (eqb→eq a b t)) (λ t. absurd t)
-
 and-false : (b : Bool) → (b && false) ≡ false
 and-false true = refl
 and-false false = refl
@@ -105,7 +102,7 @@ less-no' D a h e = omega arith
 -- below D in size: neither test passes
 under-over : (D : ℕ) (s : Bool) (a : ℕ) → a < D → (below false D s a || level false D s a) ≡ false
 under-over D s a h =
-    or-false (below false D s a) (level false D s a) (go s) (ap (λ (z : Bool). z && (Bool·beq false s || eqb D 0)) (not-level D a (less-no D a h)))
+    or-false (below false D s a) (level false D s a) (go s) (ap (λ (z : Bool). z && (Bool·beq false s || eqb D 0)) (ne-eqb D a (less-no D a h)))
   where
     go : (s : Bool) → below false D s a ≡ false
     go false = le-ltb D a (le-of-lt h)
@@ -113,7 +110,7 @@ under-over D s a h =
 
 under-under : (D : ℕ) (s : Bool) (a : ℕ) → a < D → (below s a true D || level s a true D) ≡ false
 under-under D s a h =
-    or-false (below s a true D) (level s a true D) (go s) (ap (λ (z : Bool). z && (Bool·beq s true || eqb a 0)) (not-level a D (less-no' D a h)))
+    or-false (below s a true D) (level s a true D) (go s) (ap (λ (z : Bool). z && (Bool·beq s true || eqb a 0)) (ne-eqb a D (less-no' D a h)))
   where
     go : (s : Bool) → below s a true D ≡ false
     go false = refl
