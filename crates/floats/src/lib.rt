@@ -78,11 +78,8 @@ pub fn max(x: f32, y: f32) -> f32
     if x < y {
         return y;
     }
-    if x == y {
-        if x == 0.0 {
-            return x + y;
-        }
-        return x;
+    if x == y && x == 0.0 {
+        return x + y;
     }
     x
 }
@@ -99,11 +96,8 @@ pub fn max_f64(x: f64, y: f64) -> f64
     if x < y {
         return y;
     }
-    if x == y {
-        if x == 0.0 {
-            return x + y;
-        }
-        return x;
+    if x == y && x == 0.0 {
+        return x + y;
     }
     x
 }
@@ -120,11 +114,8 @@ pub fn min(x: f32, y: f32) -> f32
     if y < x {
         return y;
     }
-    if y == x {
-        if y == 0.0 {
-            return -(-x + -y);
-        }
-        return x;
+    if y == x && y == 0.0 {
+        return -(-x + -y);
     }
     x
 }

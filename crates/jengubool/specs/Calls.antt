@@ -13,9 +13,9 @@ use Rattle.checked.specs.declared.RingAnswer.{RingAnswer}
 use Rattle.checked.specs.declared.RingAnswer.the-variants.{Fitted, Refused}
 
 -- values from a place on, one behind the other; whatever stands elsewhere stays
-abbrev pub stored : {A : Type 0} → List A → ℕ → List A → List A
-stored [] at l = l
-stored (x ∷ xs) at l = stored xs (at + 1) (set l at x)
+abbrev pub putFrom : {A : Type 0} → List A → ℕ → List A → List A
+putFrom [] at l = l
+putFrom (x ∷ xs) at l = putFrom xs (at + 1) (set l at x)
 
 -- a count as a word of 32 bits
 abbrev pub wide : ℕ → ℕ
@@ -29,7 +29,7 @@ pub record Stored : Type 0 where
 
 -- 0 for a fit, whose values and counts stand in front; of a refusal number * 65536 + place, with both buffers as they were
 unfoldable pub ringStored : RingAnswer → List Float → List ℕ → Stored
-ringStored (Fitted r known) fit counts = record { code = 0; fit = stored (fitValues (r .fit)) 0 fit; counts = stored (map wide (fitCounts r known)) 0 counts }
+ringStored (Fitted r known) fit counts = record { code = 0; fit = putFrom (fitValues (r .fit)) 0 fit; counts = putFrom (map wide (fitCounts r known)) 0 counts }
 ringStored (Refused number place) fit counts = record { code = number * 65536 + place; fit = fit; counts = counts }
 
 -- a buffer that is too short gives number 1
@@ -41,7 +41,7 @@ ringCall samples angles fit counts =
 
 unfoldable pub diskStored : DiskAnswer → List Float → List ℕ → Stored
 diskStored (Disks.Fitted m known) fit counts =
-    record { code = 0; fit = stored (measuredValues m) 0 fit; counts = stored (map wide (measuredCounts m known)) 0 counts }
+    record { code = 0; fit = putFrom (measuredValues m) 0 fit; counts = putFrom (map wide (measuredCounts m known)) 0 counts }
 diskStored (Disks.Refused number place) fit counts = record { code = number * 65536 + place; fit = fit; counts = counts }
 
 unfoldable pub diskCall : DiskData → Float → Float → List Float → List ℕ → Stored

@@ -19,7 +19,7 @@ use Rattle.checked.specs.declared.DiskAnswer.{DiskAnswer}
 use Rattle.checked.specs.declared.DiskAnswer.the-variants as Disks
 use Rattle.checked.specs.declared.RingAnswer.{RingAnswer}
 use Rattle.checked.specs.declared.RingAnswer.the-variants.{Fitted, Refused}
-use Rattle.jengubool.specs.Calls.{Stored, stored, wide, ringStored, ringCall, diskStored, diskCall}
+use Rattle.jengubool.specs.Calls.{Stored, putFrom, wide, ringStored, ringCall, diskStored, diskCall}
 
 module _ (fit : List Float) (counts : List ℕ) where
   -- the code c, and every float and every count as it was
@@ -86,7 +86,7 @@ module _ (fit : List Float) (counts : List ℕ) where
   module _ (samples angles : List Float) (zero-number : ringNumber (checkedRing samples angles) ≡ 0) where
     pub ring-written : 6 ≤ length fit → 4 ≤ length counts →
         ringCall samples angles fit counts ≡
-        record { code = 0; fit = stored (ringValues (checkedRing samples angles)) 0 fit; counts = stored (ringCounts (checkedRing samples angles)) 0 counts }
+        record { code = 0; fit = putFrom (ringValues (checkedRing samples angles)) 0 fit; counts = putFrom (ringCounts (checkedRing samples angles)) 0 counts }
     unfolding ringCall ringStored ringFitted
     ring-written f c =
         let r = fitRing 16 samples angles in
@@ -113,7 +113,7 @@ module _ (fit : List Float) (counts : List ℕ) where
     -- the same of a disk: eleven values, the trials and known
     pub disk-written : 11 ≤ length fit → 2 ≤ length counts →
         diskCall D base0 base1 fit counts ≡
-        record { code = 0; fit = stored (diskValues (checkedDisk D base0 base1)) 0 fit; counts = stored (diskCounts (checkedDisk D base0 base1)) 0 counts }
+        record { code = 0; fit = putFrom (diskValues (checkedDisk D base0 base1)) 0 fit; counts = putFrom (diskCounts (checkedDisk D base0 base1)) 0 counts }
     unfolding diskCall diskStored measuredOf
     disk-written f c =
         let a = disk-answered-is-the-fit D base0 base1 zero-number in

@@ -77,7 +77,7 @@ pub extern "C" fn jb_answer_line(line: &[u8], out: &mut [u8]) -> u32
 // The six values of a fit, in front of whatever the buffer holds behind them.
 fn put_fit(f: TwoAxisFit, fit: &mut [f32])
     requires { ⌜ 6 ≤ length (now fit) ⌝ }
-    ensures { λ _. ⌜ now (fit .exit) ≡ J.stored (fitValues f) 0 (now (fit .entry)) ⌝ }
+    ensures { λ _. ⌜ now (fit .exit) ≡ J.putFrom (fitValues f) 0 (now (fit .entry)) ⌝ }
 {
     fit[0] = f.amp;
     fit[1] = f.theta1;
@@ -98,7 +98,7 @@ fn as_number(b: bool) -> u32
 
 fn put_counts(r: RingFit, known: bool, counts: &mut [u32])
     requires { ⌜ 4 ≤ length (now counts) ⌝ }
-    ensures { λ _. ⌜ now (counts .exit) ≡ J.stored (map J.wide (fitCounts r known)) 0 (now (counts .entry)) ⌝ }
+    ensures { λ _. ⌜ now (counts .exit) ≡ J.putFrom (map J.wide (fitCounts r known)) 0 (now (counts .entry)) ⌝ }
 {
     let k = as_number(known);
     counts[0] = (r.starts % 4294967296) as u32;
@@ -145,7 +145,7 @@ pub extern "C" fn jb_fit_ring(
 // The eleven values of a disk's fit.
 fn put_disk(m: Measured, fit: &mut [f32])
     requires { ⌜ 11 ≤ length (now fit) ⌝ }
-    ensures { λ _. ⌜ now (fit .exit) ≡ J.stored (measuredValues m) 0 (now (fit .entry)) ⌝ }
+    ensures { λ _. ⌜ now (fit .exit) ≡ J.putFrom (measuredValues m) 0 (now (fit .entry)) ⌝ }
 {
     let f = m.fit;
     fit[0] = f.theta1;
@@ -163,7 +163,7 @@ fn put_disk(m: Measured, fit: &mut [f32])
 
 fn put_trials(m: Measured, known: bool, counts: &mut [u32])
     requires { ⌜ 2 ≤ length (now counts) ⌝ }
-    ensures { λ _. ⌜ now (counts .exit) ≡ J.stored (map J.wide (measuredCounts m known)) 0 (now (counts .entry)) ⌝ }
+    ensures { λ _. ⌜ now (counts .exit) ≡ J.putFrom (map J.wide (measuredCounts m known)) 0 (now (counts .entry)) ⌝ }
 {
     let k = as_number(known);
     counts[0] = (m.trials % 4294967296) as u32;

@@ -75,11 +75,8 @@ fn near_delta(x: f32) -> f32
 fn far(x: f32) -> usize
     ensures { λ r. ⌜ r ≡ N.farCount x ⌝ }
 {
-    if -floats::TAU < x {
-        if x < floats::TAU {
-            return 0;
-        }
-        return 1;
+    if -floats::TAU < x && x < floats::TAU {
+        return 0;
     }
     1
 }

@@ -365,13 +365,7 @@ pub fn degenerate_fit(centered_var: f32) -> TwoAxisFit
 pub fn is_degenerate(amp: f32, centered_var: f32) -> bool
     ensures { λ r. ⌜ r ≡ S.degenerate amp «centered_var» ⌝ }
 {
-    if floats::is_finite(amp) {
-        if floats::abs(amp) < MIN_AMP_SEED {
-            return true;
-        }
-        return centered_var < MIN_CENTERED_VAR;
-    }
-    true
+    !floats::is_finite(amp) || floats::abs(amp) < MIN_AMP_SEED || centered_var < MIN_CENTERED_VAR
 }
 
 // The errors follow their axes where these were exchanged.
