@@ -184,7 +184,7 @@ pub fn nothing() -> Above
 }
 
 // The first of n words that is no finite value; n where each is.
-fn first_wild(line: &[u8], at: usize, n: usize) -> usize
+fn wild_word(line: &[u8], at: usize, n: usize) -> usize
     requires { ⌜ (n < 65536) × (at < 65536) × (at + 8 * n ≤ length (now line)) ⌝ }
     ensures { λ r. ⌜ (r ≤ n) × (r ≡ S.wildWord (now (line .entry)) at n 0) ⌝ }
 {
@@ -202,7 +202,7 @@ fn valued(line: &[u8], number: u64, kind: u32, pixels: u32, at: usize, n: usize)
     requires { ⌜ (n < 65536) × (at < 65536) × (at + 8 * n ≤ length (now line)) ⌝ }
     ensures { λ r. ⌜ r ≡ S.valued (now (line .entry)) number kind pixels at n ⌝ }
 {
-    let k = first_wild(line, at, n);
+    let k = wild_word(line, at, n);
     if k < n {
         let p = at + 8 * k;
         let bits = hex::word_at(line, p);

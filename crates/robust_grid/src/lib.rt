@@ -11,8 +11,6 @@ ghost use Rattle.robust_grid.specs.Grid as G;
 ghost use Rattle.robust_grid.specs.Places as P;
 ghost use Rattle.robust_lanes.specs.Lanes as L;
 
-const TANH_BETA: f32 = 4.0;
-
 // ROBUST_GRID_STEP_DEG.to_radians(): 8 degrees.
 const GRID_STEP: f32 = 0.139626339;
 
@@ -42,7 +40,7 @@ fn grid_row(s: f32, c: f32, sines: &[f32], cosines: &[f32], row: &mut [f32])
     ensures { λ _. ⌜ now (row .exit) ≡ P.rowFrom s c (now (sines .entry)) (now (cosines .entry)) ⌝ }
 {
     for a in 0..robust_lanes::GRID_PLACES {
-        row[a] = elementary::tanh(TANH_BETA * (s * cosines[a] - c * sines[a]));
+        row[a] = elementary::tanh(solver::TANH_BETA * (s * cosines[a] - c * sines[a]));
     }
 }
 

@@ -37,7 +37,7 @@ fn squared(y: [f32; 4]) -> [f32; 4]
 }
 
 // A sample v more, which has the factor x at the angle a and the factors y at the other four.
-fn added(s: Lanes, v: f32, x: f32, y: [f32; 4]) -> Lanes
+fn lanes_added(s: Lanes, v: f32, x: f32, y: [f32; 4]) -> Lanes
     ensures { λ r. ⌜ r ≡ L.lanesAdded s v x y ⌝ }
 {
     let q = times(x, y);
@@ -66,7 +66,7 @@ pub fn lane_sums(h: &[f32], centered: &[f32], a: usize, b: usize) -> Lanes
     for i in 0..n {
         let k = i * GRID_PLACES + b;
         let y = [h[k], h[k + 1], h[k + 2], h[k + 3]];
-        let next = added(s, centered[i], h[i * GRID_PLACES + a], y);
+        let next = lanes_added(s, centered[i], h[i * GRID_PLACES + a], y);
         s = next;
     }
     s

@@ -74,7 +74,7 @@ pub fn axis_row(xs: &[f32], ys: &[f32], theta: f32, width: f32, row: &mut [f32])
     }
 }
 
-fn pair_sums(vals_centered: &[f32], h0: &[f32], h1: &[f32]) -> Sums
+fn cached_sums(vals_centered: &[f32], h0: &[f32], h1: &[f32]) -> Sums
     requires { ⌜ (length (now h0) ≡ length (now «vals_centered»)) × (length (now h1) ≡ length (now «vals_centered»)) ⌝ }
     ensures { λ r. ⌜ r
         ≡ S.cachedSums (length (now («vals_centered» .entry))) (now («vals_centered» .entry)) (now (h0 .entry)) (now (h1 .entry)) ⌝ }
@@ -176,7 +176,7 @@ pub fn score_pair_cached(
     if val_energy <= 1e-9 {
         return Scored::Nothing;
     }
-    let s = pair_sums(vals_centered, h0, h1);
+    let s = cached_sums(vals_centered, h0, h1);
     let n_inv = 1.0 / floats::count_f32(vals_centered.len());
     scored_sums(val_energy, n_inv, s, theta0, theta1, width, edge_score)
 }

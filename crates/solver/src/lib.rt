@@ -11,7 +11,7 @@ ghost use Rattle.solver.specs.Solver as S;
 ghost use Rattle.elementary.specs.Elementary.{turn};
 ghost use Rattle.solver.specs.Buffers as B;
 
-const TANH_BETA: f32 = 4.0;
+pub const TANH_BETA: f32 = 4.0;
 
 const GN_MAX_ITERS: usize = 6;
 

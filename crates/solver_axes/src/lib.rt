@@ -41,7 +41,7 @@ fn placed(t: f32, d: f32, a: f32, w: bool) -> Axes
 }
 
 // Exchanging the axes is the one way to the short arc that leaves the model as it is.
-fn settled(t1: f32, t2: f32, a: f32) -> Axes
+fn axes_settled(t1: f32, t2: f32, a: f32) -> Axes
     ensures { λ r. ⌜ r ≡ C.axesSettled t1 t2 a ⌝ }
 {
     let diff = arc(t1, t2);
@@ -59,7 +59,7 @@ pub fn canonicalize_tracking_swap(theta1: f32, theta2: f32, amp: f32) -> Axes
     let t1 = wrap_to_tau(theta1);
     let t2 = wrap_to_tau(theta2);
     if amp < 0.0 {
-        return settled(wrap_to_tau(t1 + floats::PI), t2, -amp);
+        return axes_settled(wrap_to_tau(t1 + floats::PI), t2, -amp);
     }
-    settled(t1, t2, amp)
+    axes_settled(t1, t2, amp)
 }

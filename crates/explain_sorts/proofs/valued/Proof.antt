@@ -7,11 +7,11 @@ use Rattle.explain_sorts.proofs.valued.Tie as tie
 
 returns : tie.Need-returns
 unfolding S.valued
-returns c = rw (← c .before .before .first-wild .ensures .1, lt-ltb _ _ (c .before .if1 .taken), c .word-at .ensures)
+returns c = rw (← c .before .before .wild-word .ensures .1, lt-ltb _ _ (c .before .if1 .taken), c .word-at .ensures)
 
 returns-2 : tie.Need-returns-2
 unfolding S.valued
-returns-2 c = rw (← c .before .first-wild .ensures .1, le-ltb _ _ (c .if1 .left))
+returns-2 c = rw (← c .before .wild-word .ensures .1, le-ltb _ _ (c .if1 .left))
 
 pub valued-spec : {M : Type 1} → statement M
 valued-spec =

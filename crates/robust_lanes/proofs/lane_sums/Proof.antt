@@ -23,7 +23,7 @@ loop-again c =
     let c8 = c .before .before .before .before .before .before .before .before in
     let c11 = c8 .before .before .before in
     let places = lane-places (c11 .args .h .now) (c8 .loop .i * 24 + c11 .args .b) in
-    (search needs, lanes-more _ _ _ _ _ _ _ _ (c8 .loop .inv .1) places (c .added .ensures))
+    (search needs, lanes-more _ _ _ _ _ _ _ _ (c8 .loop .inv .1) places (c .lanes-added .ensures))
 
 returns : tie.Need-returns Inv-loop μ-loop
 returns c =

@@ -28,7 +28,7 @@ returns-3 c =
       not-false (v .result) (c4 .if1 .left),
       c3 .if2 .left,
       l,
-      ← c .before .before .pair-sums .ensures,
+      ← c .before .before .cached-sums .ensures,
       ← c .before .count-f32 .ensures,
     ) (c .scored-sums .ensures)
 

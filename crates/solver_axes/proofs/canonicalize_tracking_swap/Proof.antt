@@ -20,7 +20,7 @@ returns c =
     let one = b .before .before .wrap-to-tau .ensures .0 in
     let two = b .before .wrap-to-tau2 .ensures .0 in
     let turned = c .before .wrap-to-tau3 .ensures .0 in
-    ranged _ _ _ _ (search needs) (search needs) (search needs) (rw (b .if1 .taken, ← one, ← two, ← turned) (c .settled .ensures))
+    ranged _ _ _ _ (search needs) (search needs) (search needs) (rw (b .if1 .taken, ← one, ← two, ← turned) (c .axes-settled .ensures))
 
 returns-2 : tie.Need-returns-2
 unfolding C.canonicalizeTrackingSwap
@@ -28,7 +28,7 @@ returns-2 c =
     let b = c .before in
     let one = b .before .before .wrap-to-tau .ensures .0 in
     let two = b .before .wrap-to-tau2 .ensures .0 in
-    ranged _ _ _ _ (search needs) (search needs) (search needs) (rw (b .if1 .left, ← one, ← two) (c .settled2 .ensures))
+    ranged _ _ _ _ (search needs) (search needs) (search needs) (rw (b .if1 .left, ← one, ← two) (c .axes-settled2 .ensures))
 
 pub canonicalize-tracking-swap-spec : {M : Type 1} → statement M
 canonicalize-tracking-swap-spec =

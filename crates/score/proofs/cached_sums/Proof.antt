@@ -6,8 +6,8 @@ use lib.ListN.{length}
 use Rattle.loops.specs.IterLaws.{iter-zero, iter-next}
 use Rattle.score.specs.Score as S
 use borrow.Author.Needs.{needs}
-use Rattle.score.proofs.pair_sums.Statement.{statement}
-use Rattle.score.proofs.pair_sums.Tie as tie
+use Rattle.score.proofs.cached_sums.Statement.{statement}
+use Rattle.score.proofs.cached_sums.Tie as tie
 
 abbrev Inv-loop : tie.InvT-loop
 Inv-loop vals h0 h1 n s₀ p₀ s p = (p ≤ n) × (s ≡ S.cachedSums p vals h0 h1)
@@ -26,8 +26,8 @@ loop-again c = (search needs, rw iter-next (cc))
 returns : tie.Need-returns Inv-loop μ-loop
 returns c = let h : c .before .loop .p ≡ length (c .before .before .args .vals-centered .now) = omega arith in rw h at (c .before .loop .inv .1)
 
-pub pair-sums-spec : {M : Type 1} → statement M
-pair-sums-spec =
+pub cached-sums-spec : {M : Type 1} → statement M
+cached-sums-spec =
     tie.close
     (tie.spec
     Inv-loop μ-loop loop-holds (λ c. search needs) (λ c. search needs) (λ c. search needs) (λ c. search needs)

@@ -6,8 +6,8 @@ use Rattle.explain_sorts.specs.Sorts.{wildWord}
 use mathlib.Core.Path.{_≡_}
 use Prim.Native.Nat.{_≤_, _-_}
 use borrow.Author.Needs.{needs}
-use Rattle.explain_sorts.proofs.first_wild.Statement.{statement}
-use Rattle.explain_sorts.proofs.first_wild.Tie as tie
+use Rattle.explain_sorts.proofs.wild_word.Statement.{statement}
+use Rattle.explain_sorts.proofs.wild_word.Tie as tie
 
 abbrev Inv-loop : tie.InvT-loop
 Inv-loop line at n k₀ k = (k ≤ n) × (wildWord line at (n - k) k ≡ wildWord line at n 0)
@@ -35,8 +35,8 @@ loop-again c =
 returns-2 : tie.Need-returns-2 Inv-loop μ-loop
 returns-2 c = (search needs, wild-word-none _ _ _ _ (omega arith) ∙ c .before .loop .inv .1)
 
-pub first-wild-spec : {M : Type 1} → statement M
-first-wild-spec =
+pub wild-word-spec : {M : Type 1} → statement M
+wild-word-spec =
     tie.close
     (tie.spec
     Inv-loop μ-loop loop-holds (λ c. search needs) (λ c. search needs) (λ c κs. search needs) (λ c κs. search needs)
