@@ -80,7 +80,9 @@ cast-low (inf true) h = refl
 cast-low (inf false) h = absurd (true≢false h)
 cast-low (fin true m e) h = refl
 cast-low (fin false m e) h =
-    absurd (true≢false (sym (lt-ltb 0 (1 * 1 * down e + m * up e * 1) (pos-plus (1 * 1 * down e) (m * up e * 1) (mul-pos (zero-lt-suc 0) (down-pos e)))) ∙ h))
+    let u = 1 * 1 * down e in
+    let v = m * up e * 1 in
+    absurd (true≢false (sym (lt-ltb 0 (u + v) (pos-plus u v (mul-pos (zero-lt-suc 0) (down-pos e)))) ∙ h))
 
 -- above -1 and not below 2 ^ 64
 pub cast-high : (x : Float) → lt (fin true 1 (pos 0)) x ≡ true → lt x (fin false 1 (pos 64)) ≡ false → toIndex x ≡ 2 ^ 64 - 1

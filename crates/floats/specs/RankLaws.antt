@@ -14,9 +14,9 @@ use lib.Pow.{pow-pos}
 use lib.Ieee.{Float, nan, inf, fin, Format, emax, low, up, down, lt, le, eq, below, level, fits, isNan}
 use lib.Ieee.Fits.{down-pos, eq→eqb, and-l, and-r, and-i}
 use lib.Ieee.Scale.{overflow}
-use borrow.Author.Tests.{le-ltb, lt-ltb}
+use borrow.Author.Tests.{le-ltb, lt-ltb, ne-eqb}
 use lib.Ieee.Bits.{is-true}
-use Rattle.floats.specs.UnitLaws.{Val, same-test, lt-val, eq-val, not-so, pos-plus, plus-pos}
+use Rattle.floats.specs.UnitLaws.{Val, same-test, lt-val, eq-val, not-so, pos-plus, plus-pos, no-eqb}
 use Rattle.floats.specs.RoundingLaws.{counted}
 use Rattle.floats.specs.NonNegLaws.{or-l, or-r}
 
@@ -149,15 +149,15 @@ module _ (O : ℕ) (P : 0 < O) where
   inf-both true true = sym (le-ltb O O (le-refl O))
 
   eq-right : (s : Bool) (a : ℕ) (t : Bool) → a < O → false ≡ level s a t O
-  eq-right s a t h = sym (ap (λ (z : Bool). z && (Bool·beq s t || eqb a 0)) (not-so (eqb a O) (λ u. lt-irrefl O (subst (λ (z : ℕ). z < O) (eqb→eq a O u) h))))
+  eq-right s a t h = sym (ap (λ (z : Bool). z && (Bool·beq s t || eqb a 0)) (ne-eqb a O (λ e. lt-irrefl O (subst (λ (z : ℕ). z < O) e h))))
 
   eq-left : (s : Bool) (t : Bool) (b : ℕ) → b < O → false ≡ level s O t b
-  eq-left s t b h = sym (ap (λ (z : Bool). z && (Bool·beq s t || eqb O 0)) (not-so (eqb O b) (λ u. lt-irrefl b (subst (λ (z : ℕ). b < z) (eqb→eq O b u) h))))
+  eq-left s t b h = sym (ap (λ (z : Bool). z && (Bool·beq s t || eqb O 0)) (ne-eqb O b (λ e. lt-irrefl b (subst (λ (z : ℕ). b < z) e h))))
 
   eq-both : (s t : Bool) → Bool·beq s t ≡ level s O t O
   eq-both s t =
       sym (ap (λ (z : Bool). z && (Bool·beq s t || eqb O 0)) (is-true (eqb O O) (lib.Dec.eqb-refl O)) ∙
-      ap (λ (z : Bool). Bool·beq s t || z) (not-so (eqb O 0) (λ u. lt-irrefl 0 (subst (λ (z : ℕ). 0 < z) (eqb→eq O 0 u) P))) ∙ drop-or (Bool·beq s t))
+      ap (λ (z : Bool). Bool·beq s t || z) (no-eqb O P) ∙ drop-or (Bool·beq s t))
     where
       drop-or : (b : Bool) → (b || false) ≡ b
       drop-or true = refl

@@ -200,7 +200,8 @@ pub extern "C" fn jb_fit_disk(
     counts: &mut [u32],
 ) -> u32
     ensures { λ r. ⌜ _≡_ {A = J.Stored} (record { code = r; fit = now (fit .exit); counts = now (counts .exit) })
-        (J.diskCall (lentDisk «val_energy» xs ys «vals_centered» «grad_angles» «grad_weights») base0 base1 (now (fit .entry)) (now (counts .entry))) ⌝ }
+        (J.diskCall (lentDisk «val_energy» xs ys «vals_centered» «grad_angles» «grad_weights») base0 base1
+        (now (fit .entry)) (now (counts .entry))) ⌝ }
 {
     if fit.len() < 11 {
         return 65536;

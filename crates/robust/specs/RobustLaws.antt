@@ -153,7 +153,8 @@ module _ (primary : Started) (s : Second) where
   pub chosen-alone : (r : RingFit) → s ≡ Missing → Alone primary r → Chosen primary s r
   chosen-alone r e a = record { is = go e a }
     where
-      go : s ≡ Missing → Alone primary r → (f : R.Start) (o : Option R.Start) → primary ≡ startedOf f → s ≡ secondOf o → r ≡ R.ringFitOf (R.chosen f o)
+      go : s ≡ Missing → Alone primary r → (f : R.Start) (o : Option R.Start) → primary ≡ startedOf f → s ≡ secondOf o
+          → r ≡ R.ringFitOf (R.chosen f o)
       go e a f none p q = unfold R.chosen in a .is f p
       go e a f (some g) p q = absurd (never (sym q ∙ e))
         where

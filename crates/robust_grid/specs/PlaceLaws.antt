@@ -73,7 +73,8 @@ module _ {sphi cphi : Row} where
     unfolding sumsAt pairSums gridRow
     sums-same a b x y = iter-same _ _ zeros n (λ i l s. rw (at-row a x i l, at-row b y i l))
       where
-        at-row : (a : ℕ) → a < 23 → (i : ℕ) → i < n → at h (i * gridPlaces + a) ≡ at (tab (λ i. factor (at sphi i) (at cphi i) (sinCos (gridAngle a))) n) i
+        at-row : (a : ℕ) → a < 23 → (i : ℕ) → i < n
+            → at h (i * gridPlaces + a) ≡ at (tab (λ i. factor (at sphi i) (at cphi i) (sinCos (gridAngle a))) n) i
         at-row a x i l = place g i l a (omega arith) ∙ sym (tab-at (λ i. factor (at sphi i) (at cphi i) (sinCos (gridAngle a))) nan n i l)
 
     pub grid-best : (centeredSs mean : Float) → bestOf (scoreAt n h centered centeredSs mean) ≡ bestSeed n sphi cphi centered centeredSs mean

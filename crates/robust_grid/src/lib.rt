@@ -46,7 +46,8 @@ fn grid_row(s: f32, c: f32, sines: &[f32], cosines: &[f32], row: &mut [f32])
 
 // All samples.
 pub fn fill_grid(sphi: &[f32], cphi: &[f32], h: &mut [f32])
-    requires { ⌜ (length (now cphi) ≡ length (now sphi)) × (length (now sphi) ≤ maxSamples) × (length (now h) ≡ L.gridPlaces * length (now sphi) + 2) ⌝ }
+    requires { ⌜ (length (now cphi) ≡ length (now sphi)) × (length (now sphi) ≤ maxSamples)
+        × (length (now h) ≡ L.gridPlaces * length (now sphi) + 2) ⌝ }
     ensures { λ _. ⌜ P.Grid (now (sphi .entry)) (now (cphi .entry)) (now (h .exit)) (length (now (sphi .entry))) ⌝ }
 {
     let n = sphi.len();

@@ -55,7 +55,8 @@ behind-filled (Found w) f = go (fitIsBetter f w)
     go true = refl
     go false = refl
 
-insert-placed : (a b : Scored) (f : Fit) (c : ℕ) → fitCount a + fitCount b ≡ min topFits c → fitCount b ≤ fitCount a → Placed (insertAt a b f) (c + 1)
+insert-placed : (a b : Scored) (f : Fit) (c : ℕ) → fitCount a + fitCount b ≡ min topFits c → fitCount b ≤ fitCount a
+    → Placed (insertAt a b f) (c + 1)
 unfolding insertAt
 insert-placed Nothing b f c e o = record { places = omega arith; order = omega arith }
 insert-placed (Found v) b f c e o = go (fitIsBetter f v) (behind-filled b f)

@@ -288,7 +288,8 @@ fn lead(
     grad_weights: &[f32],
 ) -> Refined
     requires { ⌜ (s .trials < 1000) × DiskSized (now xs) (now ys) (now «vals_centered») (now «grad_angles») (now «grad_weights») ⌝ }
-    ensures { λ r. ⌜ (r .trials ≡ s .trials + 24) × (r ≡ S.lead (lentDisk «val_energy» xs ys «vals_centered» «grad_angles» «grad_weights») seed s) ⌝ }
+    ensures { λ r. ⌜ (r .trials ≡ s .trials + 24)
+        × (r ≡ S.lead (lentDisk «val_energy» xs ys «vals_centered» «grad_angles» «grad_weights») seed s) ⌝ }
 {
     let best = s.best;
     let mut rows = [0.0f32; search_rows::ROWS];
