@@ -36,22 +36,26 @@ firstWild l = wildFrom l (length l) 0
 unfoldable pub errorsKnown : Float → Float → Bool
 errorsKnown e1 e2 = not (eq e1 pi && eq e2 pi)
 
--- ---- the ring: 1 for a length that is not 16, then 3 for the first value that is not finite
+-- ---- the ring of n samples: 1 for a length that is not n, then 3 for the first value that is not finite
 -- the values in the order of their places: the samples, then the angles
 abbrev pub ringInputs : List Float → List Float → List Float
 ringInputs samples angles = samples ++ angles
 
-unfoldable pub ringFitted : List Float → List Float → RingAnswer
-ringFitted samples angles = let r = fitRing 16 samples angles in Fitted r (errorsKnown (r .fit .«fit_std_error_theta1») (r .fit .«fit_std_error_theta2»))
+unfoldable pub ringFitted : RingFit → RingAnswer
+ringFitted r = Fitted r (errorsKnown (r .fit .«fit_std_error_theta1») (r .fit .«fit_std_error_theta2»))
 
-unfoldable pub ringLooked : List Float → List Float → Wild → RingAnswer
-ringLooked samples angles Clean = ringFitted samples angles
-ringLooked samples angles (At i) = Refused 3 i
+unfoldable pub ringLooked : ℕ → List Float → List Float → Wild → RingAnswer
+ringLooked n samples angles Clean = ringFitted (fitRing n samples angles)
+ringLooked n samples angles (At i) = Refused 3 i
 
-unfoldable pub checkedRing : List Float → List Float → RingAnswer
-checkedRing samples angles =
-    cond (eqb (length samples) 16 && eqb (length angles) 16)
-    (ringLooked samples angles (firstWild (ringInputs samples angles)))
+-- the two slices are as long as the ring has samples
+abbrev pub ringSized : ℕ → List Float → List Float → Bool
+ringSized n samples angles = eqb (length samples) n && eqb (length angles) n
+
+unfoldable pub checkedRing : ℕ → List Float → List Float → RingAnswer
+checkedRing n samples angles =
+    cond (ringSized n samples angles)
+    (ringLooked n samples angles (firstWild (ringInputs samples angles)))
     (Refused 1 0)
 
 -- ---- number, place and values of each case (docs/RULES.md, Refusals)

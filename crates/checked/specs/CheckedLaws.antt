@@ -9,13 +9,16 @@ use native.Mathlib.Omega.{arith}
 use native.Mathlib.Nat.{eq-or-lt-of-le, le-of-suc-le-suc}
 use lib.ListN.{length, getD, length-append, List·getD-append}
 use lib.Seq.{getD-append-add}
+use borrow.Author.Tests.{eq-eqb}
+use lib.Dec.{eqb}
 use lib.Ieee.{Float, nan}
 use lib.Ieee.Scale.{finite}
 use Rattle.loops.specs.Loops.{iter}
 use Rattle.checked.specs.declared.Wild.{Wild}
 use Rattle.checked.specs.declared.Wild.the-variants.{At, Clean}
 use Rattle.checked.specs.declared.DiskAnswer.the-variants as Disks
-use Rattle.checked.specs.Checked.{wildFrom, firstWild}
+use Rattle.checked.specs.declared.RingAnswer.the-variants.{Refused}
+use Rattle.checked.specs.Checked.{wildFrom, firstWild, ringInputs, ringSized, ringLooked, checkedRing}
 use Rattle.checked.specs.Parts.{stillFine, allFinite, Below, shiftedBy, loneAt}
 
 module _ (l : List Float) (n i : ℕ) (h : i < n) where
@@ -146,6 +149,17 @@ moved-step from to a b e = rw e at (moved-append from a b)
 -- a ring's two lists, the first of n
 pub ring-places : (n : ℕ) (a b : List Float) → length a ≡ n → shiftedBy (firstWild a) 0 (shiftedBy (firstWild b) n Clean) ≡ firstWild (a ++ b)
 ring-places n a b e = sym (unmoved _ ∙ moved-step 0 n a b (omega (arith, e)))
+
+-- the three ways of a ring of n samples: a length is another, a value is not finite, or all of them are
+module _ (n : ℕ) (samples angles : List Float) where
+  pub ring-unsized : ringSized n samples angles ≡ false → Refused 1 0 ≡ checkedRing n samples angles
+  unfolding checkedRing
+  ring-unsized e = rw e
+
+  pub ring-looked : (w : Wild) → length samples ≡ n → eqb (length angles) n ≡ true → w ≡ firstWild (ringInputs samples angles)
+      → ringLooked n samples angles w ≡ checkedRing n samples angles
+  unfolding checkedRing
+  ring-looked w s a f = rw (eq-eqb _ _ s, a, ← f)
 
 -- a disk's three lone values and five lists, each of n
 module _ (n : ℕ) (e b0 b1 : Float) (xs ys vs gs ws : List Float) where

@@ -10,10 +10,11 @@ use lib.ListN.{length, getD, length-append, List·getD-append}
 use lib.Dec.{T, eqb, ltb, eqb→eq}
 use lib.Ieee.{Float, nan, lt, le, eq, isNan}
 use lib.Ieee.Scale.{finite}
-use Rattle.floats.specs.Ops.{lit, nought, pi, tau}
+use Rattle.floats.specs.Ops.{nought, pi, tau}
 use Rattle.robust.specs.Robust.{fitRing, ringSum}
 use Rattle.robust.specs.SoundLaws.{SoundRing, ring-sound}
-use Rattle.robust.specs.ResidualLaws.{ring-tiny}
+use Rattle.robust.specs.Residual.{half, Share}
+use Rattle.robust.specs.ResidualLaws.{ring-tiny, share-16, share-24}
 use Rattle.robust.specs.declared.RingFit.{RingFit}
 use Rattle.score.specs.Score.{fitStdErrors, widthsPx}
 use Rattle.score.specs.ScoreLaws.{SoundFit, errors-sound}
@@ -42,34 +43,34 @@ use Rattle.floats.specs.FiniteLaws.{of-true}
 abbrev pub AllFinite : List Float → Type 0
 AllFinite l = (i : ℕ) → i < length l → finite (getD l i nan) ≡ true
 
--- ---- the ring
-module _ (samples angles : List Float) where
+-- ---- the ring of n samples: 16 and 24 are the rings that have an entry
+module _ (n : ℕ) (samples angles : List Float) where
   abbrev inputs : List Float
   inputs = ringInputs samples angles
 
   abbrev answer : RingAnswer
-  answer = checkedRing samples angles
+  answer = checkedRing n samples angles
 
-  -- exactly when each answer is given: 1 for a length that is not 16; 3, with both lengths 16, for a value that is not finite, at the first such
-  -- place; a fit where all 32 values are finite
+  -- exactly when each answer is given: 1 for a length that is not n; 3, with both lengths n, for a value that is not finite, at the first such
+  -- place; a fit where all 2 n values are finite
   pub data RingCase (a : RingAnswer) : Type 0 where
-    wrong-length : (eqb (length samples) 16 && eqb (length angles) 16) ≡ false → a ≡ Refused 1 0 → RingCase a
-    wrong-value : (p : ℕ) → p < 32 → IsFirstWild inputs p → a ≡ Refused 3 p → RingCase a
-    answered : length samples ≡ 16 → length inputs ≡ 32 → AllFinite inputs → a ≡ C.ringFitted samples angles → RingCase a
+    wrong-length : C.ringSized n samples angles ≡ false → a ≡ Refused 1 0 → RingCase a
+    wrong-value : (p : ℕ) → p < 2 * n → IsFirstWild inputs p → a ≡ Refused 3 p → RingCase a
+    answered : length samples ≡ n → length inputs ≡ 2 * n → AllFinite inputs → a ≡ C.ringFitted (fitRing n samples angles) → RingCase a
 
   pub ring-cases : RingCase answer
   unfolding checkedRing C.ringLooked
-  ring-cases = go (eqb (length samples) 16) (eqb (length angles) 16) refl refl (firstWild inputs) refl
+  ring-cases = go (eqb (length samples) n) (eqb (length angles) n) refl refl (firstWild inputs) refl
     where
-      sixteen : (l : List Float) → eqb (length l) 16 ≡ true → length l ≡ 16
-      sixteen l p = eqb→eq (length l) 16 (of-true p)
+      sized : (l : List Float) → eqb (length l) n ≡ true → length l ≡ n
+      sized l p = eqb→eq (length l) n (of-true p)
 
-      total : eqb (length samples) 16 ≡ true → eqb (length angles) 16 ≡ true → length inputs ≡ 32
-      total p q = length-append samples angles ∙ omega (arith, sixteen samples p, sixteen angles q)
+      total : eqb (length samples) n ≡ true → eqb (length angles) n ≡ true → length inputs ≡ 2 * n
+      total p q = length-append samples angles ∙ omega (arith, sized samples p, sized angles q)
 
-      go : (x y : Bool) → eqb (length samples) 16 ≡ x → eqb (length angles) 16 ≡ y → (w : Wild) → firstWild inputs ≡ w →
-          RingCase (cond (x && y) (C.ringLooked samples angles w) (Refused 1 0))
-      go true true p q Clean e = answered (sixteen samples p) (total p q) (clean-finite inputs e) refl
+      go : (x y : Bool) → eqb (length samples) n ≡ x → eqb (length angles) n ≡ y → (w : Wild) → firstWild inputs ≡ w →
+          RingCase (cond (x && y) (C.ringLooked n samples angles w) (Refused 1 0))
+      go true true p q Clean e = answered (sized samples p) (total p q) (clean-finite inputs e) refl
       go true true p q (At i) e = let f = wild-first inputs i e in wrong-value i (omega (arith, f .inside, total p q)) f refl
       go true false p q w e = wrong-length (rw (p, q) refl) refl
       go false y p q w e = wrong-length (rw p refl) refl
@@ -84,54 +85,58 @@ module _ (samples angles : List Float) where
       go (wrong-value p b f e) = rw e tt
       go (answered s l c e) = rw e tt
 
-  -- what number 1 means: a length is not 16, and the place is 0
-  pub ring-wrong-length : ringNumber answer ≡ 1 → ((eqb (length samples) 16 && eqb (length angles) 16) ≡ false) × (ringPlace answer ≡ 0)
+  -- what number 1 means: a length is not n, and the place is 0
+  pub ring-wrong-length : ringNumber answer ≡ 1 → (C.ringSized n samples angles ≡ false) × (ringPlace answer ≡ 0)
   unfolding ringNumber ringPlace C.ringFitted
-  ring-wrong-length n = go ring-cases
+  ring-wrong-length one = go ring-cases
     where
       no : {A : Type 0} (m : ℕ) → ringNumber answer ≡ m → (m ≡ 1 → ⊥) → A
-      no m e f = absurd (f (sym e ∙ n))
+      no m e f = absurd (f (sym e ∙ one))
 
-      go : RingCase answer → ((eqb (length samples) 16 && eqb (length angles) 16) ≡ false) × (ringPlace answer ≡ 0)
+      go : RingCase answer → (C.ringSized n samples angles ≡ false) × (ringPlace answer ≡ 0)
       go (wrong-length l e) = rw e (l, refl)
       go (wrong-value p b f e) = no 3 (ap ringNumber e) (λ z. omega arith)
       go (answered s l c e) = no 0 (ap ringNumber e) (λ z. omega arith)
 
-  -- what number 3 means: the value at the place is not finite, all before it are, and the place is one of the 32
-  pub ring-wrong-value : ringNumber answer ≡ 3 → IsFirstWild inputs (ringPlace answer) × (ringPlace answer < 32)
+  -- what number 3 means: the value at the place is not finite, all before it are, and the place is one of the 2 n
+  pub ring-wrong-value : ringNumber answer ≡ 3 → IsFirstWild inputs (ringPlace answer) × (ringPlace answer < 2 * n)
   unfolding ringNumber ringPlace C.ringFitted
-  ring-wrong-value n = go ring-cases
+  ring-wrong-value three = go ring-cases
     where
       no : {A : Type 0} (m : ℕ) → ringNumber answer ≡ m → (m ≡ 3 → ⊥) → A
-      no m e f = absurd (f (sym e ∙ n))
+      no m e f = absurd (f (sym e ∙ three))
 
-      go : RingCase answer → IsFirstWild inputs (ringPlace answer) × (ringPlace answer < 32)
+      go : RingCase answer → IsFirstWild inputs (ringPlace answer) × (ringPlace answer < 2 * n)
       go (wrong-length l e) = no 1 (ap ringNumber e) (λ z. omega arith)
       go (wrong-value p b f e) = rw e (f, b)
       go (answered s l c e) = no 0 (ap ringNumber e) (λ z. omega arith)
 
-  -- what number 0 means: 32 finite values, and the fit of the Rust with its own counts, value by value
+  -- what a residual of 0 says
+  abbrev pub SumTiny : Type 0
+  SumTiny = let sum = ringSum n samples angles in T (not (isNan sum)) × T (le nought sum) × T (le sum (half n))
+
+  -- what number 0 means: 2 n finite values, and the fit of the definition with its own counts, value by value
   pub record RingFitted : Type 0 where
-    pub sixteen : length samples ≡ 16
-    pub length : length inputs ≡ 32
+    pub sized : length samples ≡ n
+    pub length : length inputs ≡ 2 * n
     pub finite : AllFinite inputs
-    pub answer : checkedRing samples angles ≡ C.ringFitted samples angles
+    pub answer : checkedRing n samples angles ≡ C.ringFitted (fitRing n samples angles)
 
   module _ (zero-number : ringNumber answer ≡ 0) where
     pub answered-is-the-fit : RingFitted
     unfolding ringNumber C.ringFitted
     answered-is-the-fit = go ring-cases
       where
-        no : (n : ℕ) → ringNumber answer ≡ n → (n ≡ 0 → ⊥) → ⊥
-        no n e f = f (sym e ∙ zero-number)
+        no : (m : ℕ) → ringNumber answer ≡ m → (m ≡ 0 → ⊥) → ⊥
+        no m e f = f (sym e ∙ zero-number)
 
         go : RingCase answer → RingFitted
         go (wrong-length l e) = absurd (no 1 (ap ringNumber e) (λ z. omega arith))
         go (wrong-value p b f e) = absurd (no 3 (ap ringNumber e) (λ z. omega arith))
-        go (answered s l c e) = record { sixteen = s; length = l; finite = c; answer = e }
+        go (answered s l c e) = record { sized = s; length = l; finite = c; answer = e }
 
     abbrev theFit : RingFit
-    theFit = fitRing 16 samples angles
+    theFit = fitRing n samples angles
 
     values-are : ringValues answer ≡ C.fitValues (theFit .fit)
     unfolding ringValues C.ringFitted
@@ -148,8 +153,8 @@ module _ (samples angles : List Float) where
     abbrev counted : ℕ → ℕ
     counted k = getD (ringCounts answer) k 0
 
-    -- the founding demand: an answered ring has 32 values, and all of them are finite
-    pub answered-finite : (length (ringInputs samples angles) ≡ 32) × AllFinite (ringInputs samples angles)
+    -- the founding demand: an answered ring has 2 n values, and all of them are finite
+    pub answered-finite : (length (ringInputs samples angles) ≡ 2 * n) × AllFinite (ringInputs samples angles)
     answered-finite = (answered-is-the-fit .length, answered-is-the-fit .finite)
 
     -- demand 2: the six values and the counts are those of the definition that follows the Rust
@@ -158,7 +163,7 @@ module _ (samples angles : List Float) where
     answered-values = (values-are, counts-are)
 
     sound : SoundRing theFit
-    sound = ring-sound 16 samples angles
+    sound = ring-sound n samples angles
 
     -- demand 3, the bill: one or two starts, each of at most six updates; a second start's updates are 0 where there is none
     pub ring-bill : (1 ≤ counted 0) × (counted 0 ≤ 2) × (counted 1 ≤ 6) × (counted 2 ≤ 6) × (counted 0 ≡ 1 → counted 2 ≡ 0)
@@ -176,18 +181,25 @@ module _ (samples angles : List Float) where
     pub ring-amplitude : T (isNan (value 0) || le nought (value 0))
     ring-amplitude = rw values-are (sound .fit .size)
 
-    -- A residual of 0 is never a non-number in disguise: the sum of squares that the rms was made of is a number, not below 0, and at most 2 ^ -146, the
-    -- largest whose sixteenth rounds to 0. `ringSum` is the sum of the answered start, and `ring-made` of robust's ResidualLaws says of every ring that
-    -- the rms is the root of its sixteenth, or, for a start that is refused, of the greater of that and 0.
-    pub ring-zero : eq (value 5) nought ≡ true
-        → T (not (isNan (ringSum 16 samples angles))) × T (le nought (ringSum 16 samples angles)) × T (le (ringSum 16 samples angles) (lit 0x0000_0008))
-    ring-zero z =
-        let n = answered-is-the-fit .sixteen in
-        let each : (i : ℕ) → i < 16 → T (finite (getD samples i nan)) =
-        λ i h. of-true (sym (ap finite (List·getD-append samples angles nan i (omega (arith, n)))) ∙
+    -- A residual of 0 is never a non-number in disguise: the sum of squares that the rms was made of is a number, not below 0, and at most half of n
+    -- units of 2 ^ -149, the largest whose n-th part rounds to 0 (`Share n`). `ringSum` is the sum of the answered start, and `ring-made` of robust's
+    -- ResidualLaws says of every ring that the rms is the root of its n-th part, or, for a start that is refused, of the greater of that and 0.
+    pub ring-zero : Share n → eq (value 5) nought ≡ true → SumTiny
+    ring-zero share z =
+        let sized = answered-is-the-fit .sized in
+        let each : (i : ℕ) → i < n → T (finite (getD samples i nan)) =
+        λ i h. of-true (sym (ap finite (List·getD-append samples angles nan i (omega (arith, sized)))) ∙
         answered-finite .1 i (omega (arith, answered-finite .0))) in
-        let t = ring-tiny samples angles each (rw values-are at z) in
+        let t = ring-tiny n share samples angles each (rw values-are at z) in
         (t .number, t .above, t .small)
+
+-- of the two rings: the sum is at most 8 units of 16 samples, and 12 of 24
+module _ (samples angles : List Float) where
+  pub ring-16-zero : (z : ringNumber (checkedRing 16 samples angles) ≡ 0) → eq (value 16 samples angles z 5) nought ≡ true → SumTiny 16 samples angles
+  ring-16-zero z = ring-zero 16 samples angles z share-16
+
+  pub ring-24-zero : (z : ringNumber (checkedRing 24 samples angles) ≡ 0) → eq (value 24 samples angles z 5) nought ≡ true → SumTiny 24 samples angles
+  ring-24-zero z = ring-zero 24 samples angles z share-24
 
 -- ---- the disk
 module _ (D : DiskData) (base0 base1 : Float) where
@@ -383,8 +395,8 @@ pub disk-leaders : (D : DiskData) (base0 base1 : Float) → leadersKept D base0 
 disk-leaders D base0 base1 = leaders-are D base0 base1
 
 -- any two answers that a contract permits are equal, of each entry
-pub ring-answers-equal : (samples angles : List Float) (a b : RingAnswer) → a ≡ checkedRing samples angles → b ≡ checkedRing samples angles → a ≡ b
-ring-answers-equal samples angles a b e g = e ∙ sym g
+pub ring-answers-equal : (n : ℕ) (samples angles : List Float) (a b : RingAnswer) → a ≡ checkedRing n samples angles → b ≡ checkedRing n samples angles → a ≡ b
+ring-answers-equal n samples angles a b e g = e ∙ sym g
 
 pub disk-answers-equal : (D : DiskData) (base0 base1 : Float) (a b : DiskAnswer) → a ≡ checkedDisk D base0 base1 → b ≡ checkedDisk D base0 base1 → a ≡ b
 disk-answers-equal D base0 base1 a b e g = e ∙ sym g

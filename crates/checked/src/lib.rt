@@ -9,6 +9,7 @@ ghost use mathlib.Core.Path.{_≡_};
 ghost use Prim.Native.Nat.{_<_, _≤_};
 ghost use lib.ListN.{length};
 ghost use lib.Ieee.{Float};
+ghost use Rattle.solver.specs.Buffers.{maxSamples};
 ghost use Rattle.data.specs.Data.{lentDisk, OfPixels, DiskSized, maxTanhPixels};
 ghost use Rattle.checked.specs.Checked as C;
 ghost use Rattle.checked.specs.Parts as P;
@@ -100,43 +101,48 @@ fn errors_known(e1: f32, e2: f32) -> bool
     true
 }
 
-fn ring_fitted(samples: &[f32], angles: &[f32]) -> RingAnswer
-    requires { ⌜ (length (now samples) ≡ 16) × (length (now angles) ≡ 16) ⌝ }
-    ensures { λ r. ⌜ r ≡ C.ringFitted (now (samples .entry)) (now (angles .entry)) ⌝ }
+fn ring_fitted(r: RingFit) -> RingAnswer
+    ensures { λ a. ⌜ a ≡ C.ringFitted r ⌝ }
 {
-    let r = robust::fit_ring(samples, angles);
     let f = r.fit;
     let known = errors_known(f.fit_std_error_theta1, f.fit_std_error_theta2);
     RingAnswer::Fitted(r, known)
 }
 
+// The angles' places count on from the number of samples.
 fn ring_wild(samples: &[f32], angles: &[f32]) -> Wild
-    requires { ⌜ (length (now samples) ≡ 16) × (length (now angles) ≡ 16) ⌝ }
+    requires { ⌜ (length (now samples) ≤ maxSamples) × (length (now angles) ≤ maxSamples) ⌝ }
     ensures { λ r. ⌜ r ≡ C.firstWild (C.ringInputs (now (samples .entry)) (now (angles .entry))) ⌝ }
 {
-    let b = shifted(first_wild(angles), 16, Wild::Clean);
+    let n = samples.len() as u16;
+    let b = shifted(first_wild(angles), n, Wild::Clean);
     shifted(first_wild(samples), 0, b)
-}
-
-fn ring_looked(samples: &[f32], angles: &[f32]) -> RingAnswer
-    requires { ⌜ (length (now samples) ≡ 16) × (length (now angles) ≡ 16) ⌝ }
-    ensures { λ r. ⌜ r ≡ C.ringLooked (now (samples .entry)) (now (angles .entry)) (C.firstWild (C.ringInputs (now (samples .entry)) (now (angles .entry)))) ⌝ }
-{
-    let wild = ring_wild(samples, angles);
-    let Wild::At(i) = wild else {
-        return ring_fitted(samples, angles);
-    };
-    RingAnswer::Refused(3, i)
 }
 
 // The ring entry: any two slices.
 pub fn fit_ring(samples: &[f32], angles: &[f32]) -> RingAnswer
-    ensures { λ r. ⌜ r ≡ C.checkedRing (now (samples .entry)) (now (angles .entry)) ⌝ }
+    ensures { λ r. ⌜ r ≡ C.checkedRing 16 (now (samples .entry)) (now (angles .entry)) ⌝ }
 {
     if samples.len() != 16 || angles.len() != 16 {
         return RingAnswer::Refused(1, 0);
     }
-    ring_looked(samples, angles)
+    let Wild::At(i) = ring_wild(samples, angles) else {
+        return ring_fitted(robust::fit_ring(samples, angles));
+    };
+    RingAnswer::Refused(3, i)
+}
+
+// The same of 24 samples.
+pub fn fit_ring24(samples: &[f32], angles: &[f32]) -> RingAnswer
+    ensures { λ r. ⌜ r ≡ C.checkedRing 24 (now (samples .entry)) (now (angles .entry)) ⌝ }
+{
+    if samples.len() != 24 || angles.len() != 24 {
+        return RingAnswer::Refused(1, 0);
+    }
+    let Wild::At(i) = ring_wild(samples, angles) else {
+        return ring_fitted(robust::fit_ring24(samples, angles));
+    };
+    RingAnswer::Refused(3, i)
 }
 
 // A disk's fit with the errors of its axes, and the number of trials.

@@ -6,7 +6,7 @@ use lib.ListN.{length}
 use lib.Dec.{ltb}
 use lib.Ieee.{Float, binary32, toBits}
 use Rattle.hex.specs.Hex.{valueOf, valuesOf, byteText, countText, wordsText, put}
-use Rattle.shapes.specs.Shapes.{shapeOf}
+use Rattle.shapes.specs.Shapes.{shapeOf, samplesOf}
 use Rattle.shapes.specs.declared.Shape.{Shape}
 use Rattle.shapes.specs.declared.Shape.the-variants as Shapes
 use Rattle.robust.specs.declared.RingFit.{RingFit}
@@ -25,14 +25,17 @@ use Rattle.frames.specs.declared.Answer.the-variants.{Ring, Sector, Refu
 abbrev pub malformed : Answer
 malformed = Refused 0xff 5 0
 
--- a refusal's type is the frame's plus 80
-abbrev pub ringAnswered : RingAnswer → Answer
-ringAnswered (Rings.Fitted r known) = Ring r known
-ringAnswered (Rings.Refused number place) = Refused 0x81 number place
+-- an answer's type is the frame's plus 80
+abbrev pub ringAnswered : ℕ → RingAnswer → Answer
+ringAnswered kind (Rings.Fitted r known) = Ring kind r known
+ringAnswered kind (Rings.Refused number place) = Refused kind number place
 
--- a ring's line has 16 words of samples behind the type, and 16 of angles
-abbrev pub ringAnswer : List ℕ → Answer
-ringAnswer l = ringAnswered (checkedRing (valuesOf l 2 16) (valuesOf l 130 16))
+-- a ring's line has a word for each sample behind the type, and then one for each angle
+abbrev pub ringOfLine : List ℕ → ℕ → RingAnswer
+ringOfLine l n = checkedRing n (valuesOf l 2 n) (valuesOf l (2 + 8 * n) n)
+
+abbrev pub ringAnswer : List ℕ → ℕ → Answer
+ringAnswer l kind = ringAnswered (0x80 + kind) (ringOfLine l (samplesOf kind))
 
 abbrev pub diskAnswered : DiskAnswer → Answer
 diskAnswered (Disks.Fitted m known) = Sector m known
@@ -56,7 +59,7 @@ diskAnswer l n = diskAnswered (checkedDisk (diskOfLine l n) (valueOf l 14) (valu
 
 -- by the line's shape, which says what comes before the values: number 5, number 2, number 5 again
 abbrev pub shapedAnswer : List ℕ → Shape → Answer
-shapedAnswer l Shapes.Ring = ringAnswer l
+shapedAnswer l (Shapes.Ring kind) = ringAnswer l kind
 shapedAnswer l (Shapes.Disk n) = diskAnswer l n
 shapedAnswer l (Shapes.BadCount n) = Refused 0x82 2 0
 shapedAnswer l (Shapes.OtherType kind) = malformed
@@ -78,9 +81,9 @@ valueWords = map (toBits binary32)
 abbrev pub ringWords : RingFit → Bool → List ℕ
 ringWords r known = valueWords (fitValues (r .fit)) ++ (countsWord (fitCounts r known) ∷ [])
 
--- 8100, then seven words: 60 characters
-unfoldable pub ringText : RingFit → Bool → List ℕ
-ringText r known = countText 0x8100 ++ wordsText (ringWords r known) 7
+-- 8100 or 8300, then seven words: 60 characters
+unfoldable pub ringText : ℕ → RingFit → Bool → List ℕ
+ringText kind r known = countText (kind * 256) ++ wordsText (ringWords r known) 7
 
 abbrev pub diskWords : Measured → List ℕ
 diskWords m = valueWords (measuredValues m)
@@ -93,12 +96,12 @@ unfoldable pub refusalText : ℕ → ℕ → ℕ → List ℕ
 refusalText kind number place = byteText kind ++ (byteText number ++ countText place)
 
 abbrev pub textOf : Answer → List ℕ
-textOf (Ring r known) = ringText r known
+textOf (Ring kind r known) = ringText kind r known
 textOf (Sector m known) = diskText m known
 textOf (Refused kind number place) = refusalText kind number place
 
 abbrev pub numberOf : Answer → ℕ
-numberOf (Ring r known) = 0
+numberOf (Ring kind r known) = 0
 numberOf (Sector m known) = 0
 numberOf (Refused kind number place) = number
 

@@ -11,9 +11,9 @@ use Rattle.robust.specs.declared.RingFit.{RingFit}
 use Rattle.checked.specs.declared.Measured.{Measured}
 use Rattle.frames.specs.Frames.{ringWords, ringText, diskWords, diskText, refusalText}
 
-pub ring-length : (r : RingFit) (k : Bool) → 60 ≡ length (ringText r k)
+pub ring-length : (kind : ℕ) (r : RingFit) (k : Bool) → 60 ≡ length (ringText kind r k)
 unfolding ringText countText byteText
-ring-length r k = simp length-append (omega (arith, words-length (ringWords r k) 7))
+ring-length kind r k = simp length-append (omega (arith, words-length (ringWords r k) 7))
 
 pub disk-length : (m : Measured) (k : Bool) → 98 ≡ length (diskText m k)
 unfolding diskText countText byteText

@@ -7,12 +7,12 @@ use Prim.Native.Nat.{ℕ, _+_, _*_, _%_, _^_, _≤_, _<_}
 use native.Mathlib.Omega.{arith}
 use lib.ListN.{length, getD}
 use Rattle.hex.specs.Hex.{valueOf, valuesOf, byteText, countText, wordsText}
-use Rattle.shapes.specs.Shapes.{shapeOf}
+use Rattle.shapes.specs.Shapes.{shapeOf, samplesOf}
 use Rattle.shapes.specs.declared.Fault.{Fault}
 use Rattle.shapes.specs.declared.Shape.{Shape}
 use Rattle.shapes.specs.declared.Shape.the-variants as Shapes
 use Rattle.checked.specs.Checked as C
-use Rattle.checked.specs.Checked.{checkedRing, ringNumber, ringPlace, ringValues, ringCounts, checkedDisk, diskNumber, diskPlace, diskValues, diskCounts}
+use Rattle.checked.specs.Checked.{ringNumber, ringPlace, ringValues, ringCounts, checkedDisk, diskNumber, diskPlace, diskValues, diskCounts}
 use Rattle.checked.specs.Promises.{RingCase, wrong-length, wrong-value, answered, ring-cases, ring-bill}
 use Rattle.checked.specs.Promises.{DiskCase, wrong-count, wrong-lengths, wrong-disk-value, no-fit, disk-answered, disk-cases, disk-numbers, disk-trials}
 use Rattle.checked.specs.declared.Measured.{Measured}
@@ -22,7 +22,7 @@ use Rattle.checked.specs.declared.RingAnswer.the-variants as Rings
 use Rattle.checked.specs.declared.DiskAnswer.{DiskAnswer}
 use Rattle.checked.specs.declared.DiskAnswer.the-variants as Disks
 use Rattle.frames.specs.declared.Answer.{Answer}
-use Rattle.frames.specs.Frames.{answerOf, shapedAnswer, ringAnswered, diskAnswered, diskOfLine, valueWords, ringText, diskText, refusalText, textOf}
+use Rattle.frames.specs.Frames.{answerOf, shapedAnswer, ringAnswered, ringOfLine, diskAnswered, diskOfLine, valueWords, ringText, diskText, refusalText, textOf}
 use Rattle.frames.specs.Frames.{numberOf}
 
 -- counts side by side, a byte each, as they are
@@ -39,15 +39,16 @@ flagged false = omega arith
 
 module _ (line : List ℕ) where
   -- the checked entries' answers to the values that the line has
-  abbrev pub ringAt : RingAnswer
-  ringAt = checkedRing (valuesOf line 2 16) (valuesOf line 130 16)
+  abbrev pub ringAt : ℕ → RingAnswer
+  ringAt kind = ringOfLine line (samplesOf kind)
 
   abbrev pub diskAt : ℕ → DiskAnswer
   diskAt n = checkedDisk (diskOfLine line n) (valueOf line 14) (valueOf line 22)
 
   -- the text of an answered ring and of an answered disk
-  abbrev pub ringLine : List ℕ
-  ringLine = countText 0x8100 ++ wordsText (valueWords (ringValues ringAt) ++ (plainWord (ringCounts ringAt) ∷ [])) 7
+  abbrev pub ringLine : ℕ → List ℕ
+  ringLine kind =
+      countText ((0x80 + kind) * 256) ++ wordsText (valueWords (ringValues (ringAt kind)) ++ (plainWord (ringCounts (ringAt kind)) ∷ [])) 7
 
   abbrev pub diskLine : ℕ → List ℕ
   diskLine n =
@@ -56,10 +57,10 @@ module _ (line : List ℕ) where
 
   -- 0 with the fit's text and no other number with it; else a refusal's text of type, number and place
   pub data LineCase (a : Answer) : Type 0 where
-    ring-fit : shapeOf line ≡ Shapes.Ring → ringNumber ringAt ≡ 0 → numberOf a ≡ 0 → textOf a ≡ ringLine → LineCase a
+    ring-fit : (kind : ℕ) → shapeOf line ≡ Shapes.Ring kind → ringNumber (ringAt kind) ≡ 0 → numberOf a ≡ 0 → textOf a ≡ ringLine kind → LineCase a
     ring-refused :
-        shapeOf line ≡ Shapes.Ring → 0 < ringNumber ringAt → numberOf a ≡ ringNumber ringAt →
-        textOf a ≡ refusalText 0x81 (ringNumber ringAt) (ringPlace ringAt) → LineCase a
+        (kind : ℕ) → shapeOf line ≡ Shapes.Ring kind → 0 < ringNumber (ringAt kind) → numberOf a ≡ ringNumber (ringAt kind) →
+        textOf a ≡ refusalText (0x80 + kind) (ringNumber (ringAt kind)) (ringPlace (ringAt kind)) → LineCase a
     disk-fit : (n : ℕ) → shapeOf line ≡ Shapes.Disk n → diskNumber (diskAt n) ≡ 0 → numberOf a ≡ 0 → textOf a ≡ diskLine n → LineCase a
     disk-refused :
         (n : ℕ) → shapeOf line ≡ Shapes.Disk n → 0 < diskNumber (diskAt n) → numberOf a ≡ diskNumber (diskAt n) →
@@ -70,11 +71,13 @@ module _ (line : List ℕ) where
 
   -- the counts of an answer are below 256, and its trials below 65536
   ring-text :
-      (r : RingFit) (k : Bool) → ringAt ≡ Rings.Fitted r k → ringNumber ringAt ≡ 0 → ringText r k ≡ ringLine
+      (kind : ℕ) (r : RingFit) (k : Bool) → ringAt kind ≡ Rings.Fitted r k → ringNumber (ringAt kind) ≡ 0 →
+      ringText (0x80 + kind) r k ≡ ringLine kind
   unfolding ringText ringValues ringCounts
-  ring-text r k e z =
-      let c : ringCounts ringAt ≡ C.fitCounts r k = rw e in
-      let b = rw c at (ring-bill (valuesOf line 2 16) (valuesOf line 130 16) z) in
+  ring-text kind r k e z =
+      let n = samplesOf kind in
+      let c : ringCounts (ringAt kind) ≡ C.fitCounts r k = rw e in
+      let b = rw c at (ring-bill n (valuesOf line 2 n) (valuesOf line (2 + 8 * n) n) z) in
       let starts = byte (r .starts) (omega (arith, b .1)) in
       let first = byte (r .first) (omega (arith, b .2)) in
       let second = byte (r .second) (omega (arith, b .3)) in
@@ -89,13 +92,20 @@ module _ (line : List ℕ) where
       let trials : m .trials % 65536 ≡ m .trials = omega (arith, b .1) in
       rw (e, trials)
 
-  ring-line : shapeOf line ≡ Shapes.Ring → RingCase (valuesOf line 2 16) (valuesOf line 130 16) ringAt → LineCase (ringAnswered ringAt)
+  -- the cases of a ring's values
+  abbrev AtRing : ℕ → Type 0
+  AtRing kind = let n = samplesOf kind in RingCase n (valuesOf line 2 n) (valuesOf line (2 + 8 * n) n) (ringAt kind)
+
+  at-ring : (kind : ℕ) → AtRing kind
+  at-ring kind = let n = samplesOf kind in ring-cases n (valuesOf line 2 n) (valuesOf line (2 + 8 * n) n)
+
+  ring-line : (kind : ℕ) → shapeOf line ≡ Shapes.Ring kind → AtRing kind → LineCase (ringAnswered (0x80 + kind) (ringAt kind))
   unfolding ringNumber ringPlace C.ringFitted
-  ring-line s (wrong-length l e) = rw e (ring-refused s (rw e (omega arith)) (rw e refl) (rw e refl))
-  ring-line s (wrong-value p b f e) = rw e (ring-refused s (rw e (omega arith)) (rw e refl) (rw e refl))
-  ring-line s (answered n t f e) =
-      let z : ringNumber ringAt ≡ 0 = rw e refl in
-      rw e (ring-fit s z refl (ring-text _ _ e z))
+  ring-line kind s (wrong-length l e) = rw e (ring-refused kind s (rw e (omega arith)) (rw e refl) (rw e refl))
+  ring-line kind s (wrong-value p b f e) = rw e (ring-refused kind s (rw e (omega arith)) (rw e refl) (rw e refl))
+  ring-line kind s (answered n t f e) =
+      let z : ringNumber (ringAt kind) ≡ 0 = rw e refl in
+      rw e (ring-fit kind s z refl (ring-text kind _ _ e z))
 
   disk-line :
       (n : ℕ) → shapeOf line ≡ Shapes.Disk n → DiskCase (diskOfLine line n) (valueOf line 14) (valueOf line 22) (diskAt n) →
@@ -114,25 +124,25 @@ module _ (line : List ℕ) where
   line-cases = go (shapeOf line) refl
     where
       go : (s : Shape) → shapeOf line ≡ s → LineCase (shapedAnswer line s)
-      go Shapes.Ring e = ring-line e (ring-cases (valuesOf line 2 16) (valuesOf line 130 16))
+      go (Shapes.Ring kind) e = ring-line kind e (at-ring kind)
       go (Shapes.Disk n) e = disk-line n e (disk-cases (diskOfLine line n) (valueOf line 14) (valueOf line 22))
       go (Shapes.BadCount n) e = count-refused n e refl refl
       go (Shapes.OtherType kind) e = other-type kind e refl refl
       go (Shapes.Malformed f) e = malformed-line f e refl refl
 
-  ring-most : RingCase (valuesOf line 2 16) (valuesOf line 130 16) ringAt → ringNumber ringAt ≤ 3
+  ring-most : (kind : ℕ) → AtRing kind → ringNumber (ringAt kind) ≤ 3
   unfolding ringNumber C.ringFitted
-  ring-most (wrong-length l e) = rw e (omega arith)
-  ring-most (wrong-value p b f e) = rw e (omega arith)
-  ring-most (answered n t f e) = rw e (omega arith)
+  ring-most kind (wrong-length l e) = rw e (omega arith)
+  ring-most kind (wrong-value p b f e) = rw e (omega arith)
+  ring-most kind (answered n t f e) = rw e (omega arith)
 
   -- the numbers are 0 to 5
   pub line-numbers : numberOf (answerOf line) ≤ 5
   line-numbers = go line-cases
     where
       go : LineCase (answerOf line) → numberOf (answerOf line) ≤ 5
-      go (ring-fit s z n t) = omega (arith, n)
-      go (ring-refused s z n t) = omega (arith, n, ring-most (ring-cases (valuesOf line 2 16) (valuesOf line 130 16)))
+      go (ring-fit k s z n t) = omega (arith, n)
+      go (ring-refused k s z n t) = omega (arith, n, ring-most k (at-ring k))
       go (disk-fit k s z n t) = omega (arith, n)
       go (disk-refused k s z n t) = omega (arith, n, disk-numbers (diskOfLine line k) (valueOf line 14) (valueOf line 22))
       go (count-refused k s n t) = omega (arith, n)

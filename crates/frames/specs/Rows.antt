@@ -2,7 +2,7 @@
 use mathlib.Core.Path.{_≡_, refl}
 use mathlib.Core.Bool.{Bool, false, cond}
 use mathlib.Core.List.{List, [], _∷_, _++_, map}
-use Prim.Native.Nat.{ℕ}
+use Prim.Native.Nat.{ℕ, _*_}
 use lib.ListN.{replicate}
 use lib.Ieee.{Float, nan, inf, binary32, add, sub, mul, div, rem, neg, lt, le, eq, isNan, ofBits, toBits, ofInt, toUnsigned, round, size}
 use Rattle.floats.specs.Ops.{lit, nought, one, pi, halfPi, quarterPi}
@@ -59,11 +59,11 @@ spoilt =
 abbrev two : Float
 two = lit 0x4000_0000
 
--- the characters 01 and 256 zeros
-abbrev zeroLine : List ℕ
-zeroLine = bytes "01" ++ replicate 256 48
+-- the characters 01 and 256 zeros, 03 and 384
+abbrev zeroLine : List ℕ → ℕ → List ℕ
+zeroLine type n = type ++ replicate (16 * n) 48
 
--- the twelve rows in their order; row 5 has two parts, and rows 6, 9, 10 and 11 have theirs side by side
+-- the thirteen rows in their order; row 5 has two parts, and rows 6, 9, 10 and 11 have theirs side by side
 pub rows-to-prove : (
     axesBits (canonicalizeTrackingSwap nought pi one)
     ∷ axesBits (canonicalizeTrackingSwap nought halfPi (lit 0xbf80_0000))
@@ -77,7 +77,8 @@ pub rows-to-prove : (
     ∷ (bin pi ∷ bin (lit 0xbf80_0000) ∷ bin nan ∷ bin (inf false) ∷ [])
     ∷ (flag (validPair nought nought) ∷ flag (validPair nought halfPi) ∷ flag (validPair nought quarterPi) ∷ [])
     ∷ (bits (combineEdgePair one one two) ∷ bits (combineEdgePair nought two two) ∷ [])
-    ∷ textOf (answerOf zeroLine)
+    ∷ textOf (answerOf (zeroLine (bytes "01") 16))
+    ∷ textOf (answerOf (zeroLine (bytes "03") 24))
     ∷ []
     )
     ≡ (
@@ -94,6 +95,7 @@ pub rows-to-prove : (
     ∷ (0 ∷ 0 ∷ 1 ∷ [])
     ∷ (0x3f80_0000 ∷ 0 ∷ [])
     ∷ bytes "810000000000000000003fc90fdb40490fdb40490fdb0000000001000000"
+    ∷ bytes "830000000000000000003fc90fdb40490fdb40490fdb0000000001000000"
     ∷ []
     )
 unfolding combineEdgePair canonicalizeTrackingSwap axesSettled placed wrapToTau arc remEuclid validPair lineSeparation lineDelta signedLineDelta abs

@@ -9,14 +9,15 @@ ghost use Prim.Native.Nat.{_+_, _*_, _≤_};
 ghost use lib.ListN.{length};
 ghost use Rattle.data.specs.Data.{maxTanhPixels};
 ghost use Rattle.hex.specs.Hex.{put, Written};
+ghost use Rattle.shapes.specs.Shapes.{ringLength, samplesOf, RingType};
 ghost use Rattle.checked.specs.Checked.{checkedDisk, fitCounts, flag};
 ghost use Rattle.frames.specs.Frames as F;
 ghost use Rattle.frames.specs.RunsLaws.{diskOfRuns};
 
-// What a line is answered: a ring's or a disk's fit with whether its errors are known, or a refusal
-// with its type, its number and its place.
+// What a line is answered: a ring's fit, with its type, or a disk's, each with whether its errors are
+// known, or a refusal with its type, its number and its place.
 pub enum Answer {
-    Ring(RingFit, bool),
+    Ring(u8, RingFit, bool),
     Sector(Measured, bool),
     Refused(u8, u8, u16),
 }
@@ -27,25 +28,47 @@ pub fn malformed() -> Answer
     Answer::Refused(255, 5, 0)
 }
 
-fn ring_answered(a: RingAnswer) -> Answer
-    ensures { λ r. ⌜ r ≡ F.ringAnswered a ⌝ }
+fn ring_answered(kind: u8, a: RingAnswer) -> Answer
+    ensures { λ r. ⌜ r ≡ F.ringAnswered kind a ⌝ }
 {
     match a {
-        RingAnswer::Fitted(r, known) => Answer::Ring(r, known),
-        RingAnswer::Refused(number, place) => Answer::Refused(129, number, place),
+        RingAnswer::Fitted(r, known) => Answer::Ring(kind, r, known),
+        RingAnswer::Refused(number, place) => Answer::Refused(kind, number, place),
     }
 }
 
-// The samples and the angles of a ring, behind the type.
+// The samples and the angles of a ring of type 01, behind the type.
 fn ring_line(line: &[u8]) -> Answer
-    requires { ⌜ length (now line) ≡ 258 ⌝ }
-    ensures { λ r. ⌜ r ≡ F.ringAnswer (now (line .entry)) ⌝ }
+    requires { ⌜ length (now line) ≡ ringLength 16 ⌝ }
+    ensures { λ r. ⌜ r ≡ F.ringAnswer (now (line .entry)) 1 ⌝ }
 {
     let mut samples = [0.0f32; 16];
     let mut angles = [0.0f32; 16];
     hex::values(line, 2, &mut samples);
     hex::values(line, 130, &mut angles);
-    ring_answered(checked::fit_ring(&samples, &angles))
+    ring_answered(129, checked::fit_ring(&samples, &angles))
+}
+
+// The same of type 03.
+fn ring24_line(line: &[u8]) -> Answer
+    requires { ⌜ length (now line) ≡ ringLength 24 ⌝ }
+    ensures { λ r. ⌜ r ≡ F.ringAnswer (now (line .entry)) 3 ⌝ }
+{
+    let mut samples = [0.0f32; 24];
+    let mut angles = [0.0f32; 24];
+    hex::values(line, 2, &mut samples);
+    hex::values(line, 194, &mut angles);
+    ring_answered(131, checked::fit_ring24(&samples, &angles))
+}
+
+fn typed_ring(line: &[u8], kind: u32) -> Answer
+    requires { ⌜ RingType kind × (length (now line) ≡ ringLength (samplesOf kind)) ⌝ }
+    ensures { λ r. ⌜ r ≡ F.ringAnswer (now (line .entry)) kind ⌝ }
+{
+    if kind == 3 {
+        return ring24_line(line);
+    }
+    ring_line(line)
 }
 
 fn disk_answered(a: DiskAnswer) -> Answer
@@ -108,7 +131,7 @@ pub fn answer_to(line: &[u8]) -> Answer
 {
     let shape = shapes::shape_of(line);
     match shape {
-        Shape::Ring => ring_line(line),
+        Shape::Ring(kind) => typed_ring(line, kind),
         Shape::Disk(n) => disk_line(line, n as usize),
         Shape::BadCount(_) => Answer::Refused(130, 2, 0),
         Shape::OtherType(_) => malformed(),
@@ -149,12 +172,12 @@ fn ring_words(r: RingFit, known: bool) -> [u32; 7]
     [a, b, c, d, e, g, w]
 }
 
-fn write_ring(r: RingFit, known: bool, out: &mut [u8], at: usize) -> u32
+fn write_ring(kind: u8, r: RingFit, known: bool, out: &mut [u8], at: usize) -> u32
     requires { ⌜ at + 98 ≤ length (now out) ⌝ }
-    ensures { λ n. ⌜ (n ≡ 0) × (now (out .exit) ≡ put (now (out .entry)) at (F.ringText r known)) ⌝ }
+    ensures { λ n. ⌜ (n ≡ 0) × (now (out .exit) ≡ put (now (out .entry)) at (F.ringText kind r known)) ⌝ }
 {
     let ws = ring_words(r, known);
-    hex::put_count(out, at, 0x8100);
+    hex::put_count(out, at, kind as u32 * 256);
     hex::put_words(out, at + 4, &ws);
     0
 }
@@ -207,7 +230,7 @@ pub fn write_answer(a: Answer, out: &mut [u8], at: usize) -> u32
     ensures { λ r. ⌜ (r ≡ F.numberOf a) × (now (out .exit) ≡ put (now (out .entry)) at (F.textOf a)) ⌝ }
 {
     match a {
-        Answer::Ring(r, known) => write_ring(r, known, out, at),
+        Answer::Ring(kind, r, known) => write_ring(kind, r, known, out, at),
         Answer::Sector(m, known) => write_disk(m, known, out, at),
         Answer::Refused(kind, number, place) => write_refusal(kind, number, place, out, at),
     }
@@ -236,7 +259,7 @@ fn text_len(a: Answer) -> usize
     ensures { λ r. ⌜ (r ≤ 98) × (r ≡ length (F.textOf a)) ⌝ }
 {
     match a {
-        Answer::Ring(_, _) => 60,
+        Answer::Ring(_, _, _) => 60,
         Answer::Sector(_, _) => 98,
         Answer::Refused(_, _, _) => 8,
     }

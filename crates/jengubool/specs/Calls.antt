@@ -32,12 +32,12 @@ unfoldable pub ringStored : RingAnswer → List Float → List ℕ → Stored
 ringStored (Fitted r known) fit counts = record { code = 0; fit = putFrom (fitValues (r .fit)) 0 fit; counts = putFrom (map wide (fitCounts r known)) 0 counts }
 ringStored (Refused number place) fit counts = record { code = number * 65536 + place; fit = fit; counts = counts }
 
--- a buffer that is too short gives number 1
-unfoldable pub ringCall : List Float → List Float → List Float → List ℕ → Stored
-ringCall samples angles fit counts =
+-- the call for a ring of n samples; a buffer that is too short gives number 1
+unfoldable pub ringCall : ℕ → List Float → List Float → List Float → List ℕ → Stored
+ringCall n samples angles fit counts =
     cond (ltb (length fit) 6) (record { code = 65536; fit = fit; counts = counts })
     (cond (ltb (length counts) 4) (record { code = 65536; fit = fit; counts = counts })
-    (ringStored (checkedRing samples angles) fit counts))
+    (ringStored (checkedRing n samples angles) fit counts))
 
 unfoldable pub diskStored : DiskAnswer → List Float → List ℕ → Stored
 diskStored (Disks.Fitted m known) fit counts =

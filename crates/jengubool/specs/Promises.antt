@@ -38,9 +38,10 @@ module _ (fit : List Float) (counts : List ℕ) where
   short-keeps false false r f h = f h
 
   -- a call that returns anything but 0 leaves every byte of the fit and of the counts
-  pub refused-keeps : (samples angles : List Float) → let s = ringCall samples angles fit counts in (s .code ≡ 0 → ⊥) → s ≡ refusal (s .code)
+  pub refused-keeps : (n : ℕ) (samples angles : List Float) →
+      let s = ringCall n samples angles fit counts in (s .code ≡ 0 → ⊥) → s ≡ refusal (s .code)
   unfolding ringCall
-  refused-keeps samples angles = short-keeps (ltb (length fit) 6) (ltb (length counts) 4) _ (stored-keeps (checkedRing samples angles))
+  refused-keeps n samples angles = short-keeps (ltb (length fit) 6) (ltb (length counts) 4) _ (stored-keeps (checkedRing n samples angles))
 
   disk-stored-keeps : (a : DiskAnswer) → (diskStored a fit counts .code ≡ 0 → ⊥) → diskStored a fit counts ≡ refusal (diskStored a fit counts .code)
   unfolding diskStored
@@ -64,10 +65,10 @@ module _ (fit : List Float) (counts : List ℕ) where
   disk-stored-code (Disks.Refused number place) = refl
 
   -- with buffers that are long enough the code is the answer's number and place
-  pub ring-code : (samples angles : List Float) → 6 ≤ length fit → 4 ≤ length counts →
-      ringCall samples angles fit counts .code ≡ ringNumber (checkedRing samples angles) * 65536 + ringPlace (checkedRing samples angles)
+  pub ring-code : (n : ℕ) (samples angles : List Float) → 6 ≤ length fit → 4 ≤ length counts →
+      ringCall n samples angles fit counts .code ≡ ringNumber (checkedRing n samples angles) * 65536 + ringPlace (checkedRing n samples angles)
   unfolding ringCall
-  ring-code samples angles f c = rw (le-ltb _ _ f, le-ltb _ _ c) (ring-stored-code (checkedRing samples angles))
+  ring-code n samples angles f c = rw (le-ltb _ _ f, le-ltb _ _ c) (ring-stored-code (checkedRing n samples angles))
 
   pub disk-code : (D : DiskData) (base0 base1 : Float) → 11 ≤ length fit → 2 ≤ length counts →
       diskCall D base0 base1 fit counts .code ≡ diskNumber (checkedDisk D base0 base1) * 65536 + diskPlace (checkedDisk D base0 base1)
@@ -83,15 +84,18 @@ module _ (fit : List Float) (counts : List ℕ) where
   flagged false = omega arith
 
   -- with number 0 the six values and the true counts stand in front, and all behind them is as it was
-  module _ (samples angles : List Float) (zero-number : ringNumber (checkedRing samples angles) ≡ 0) where
+  module _ (n : ℕ) (samples angles : List Float) (zero-number : ringNumber (checkedRing n samples angles) ≡ 0) where
+    abbrev fitted : RingAnswer
+    fitted = checkedRing n samples angles
+
     pub ring-written : 6 ≤ length fit → 4 ≤ length counts →
-        ringCall samples angles fit counts ≡
-        record { code = 0; fit = putFrom (ringValues (checkedRing samples angles)) 0 fit; counts = putFrom (ringCounts (checkedRing samples angles)) 0 counts }
+        ringCall n samples angles fit counts ≡
+        record { code = 0; fit = putFrom (ringValues fitted) 0 fit; counts = putFrom (ringCounts fitted) 0 counts }
     unfolding ringCall ringStored ringFitted
     ring-written f c =
-        let r = fitRing 16 samples angles in
-        let v = answered-values samples angles zero-number in
-        let b = rw (v .1) at (ring-bill samples angles zero-number) in
+        let r = fitRing n samples angles in
+        let v = answered-values n samples angles zero-number in
+        let b = rw (v .1) at (ring-bill n samples angles zero-number) in
         let k = errorsKnown (r .fit .«fit_std_error_theta1») (r .fit .«fit_std_error_theta2») in
         let known : flag k ≤ 1000 = omega (arith, flagged k) in
         let starts : r .starts ≤ 1000 = omega (arith, b .1) in
@@ -102,7 +106,7 @@ module _ (fit : List Float) (counts : List ℕ) where
           le-ltb _ _ c,
           v .0,
           v .1,
-          answered-is-the-fit samples angles zero-number .answer,
+          answered-is-the-fit n samples angles zero-number .answer,
           small (r .starts) starts,
           small (r .first) first,
           small (r .second) second,

@@ -131,7 +131,7 @@ pub extern "C" fn jb_fit_ring(
     counts: &mut [u32],
 ) -> u32
     ensures { λ r. ⌜ _≡_ {A = J.Stored} (record { code = r; fit = now (fit .exit); counts = now (counts .exit) })
-        (J.ringCall (now (samples .entry)) (now (angles .entry)) (now (fit .entry)) (now (counts .entry))) ⌝ }
+        (J.ringCall 16 (now (samples .entry)) (now (angles .entry)) (now (fit .entry)) (now (counts .entry))) ⌝ }
 {
     if fit.len() < 6 {
         return 65536;
@@ -140,6 +140,26 @@ pub extern "C" fn jb_fit_ring(
         return 65536;
     }
     ring_stored(checked::fit_ring(samples, angles), fit, counts)
+}
+
+// The same of the ring of 24 samples.
+#[no_mangle]
+pub extern "C" fn jb_fit_ring24(
+    samples: &[f32],
+    angles: &[f32],
+    fit: &mut [f32],
+    counts: &mut [u32],
+) -> u32
+    ensures { λ r. ⌜ _≡_ {A = J.Stored} (record { code = r; fit = now (fit .exit); counts = now (counts .exit) })
+        (J.ringCall 24 (now (samples .entry)) (now (angles .entry)) (now (fit .entry)) (now (counts .entry))) ⌝ }
+{
+    if fit.len() < 6 {
+        return 65536;
+    }
+    if counts.len() < 4 {
+        return 65536;
+    }
+    ring_stored(checked::fit_ring24(samples, angles), fit, counts)
 }
 
 // The eleven values of a disk's fit.

@@ -1,24 +1,24 @@
--- A residual of 0 is made of a sum that is a number, not below 0 and at most 2 ^ -146: only a zero has the root 0, a sixteenth rounds to 0, or below,
--- only from 8 units down, and a sum of squares is a NaN or not below 0. Of finite samples the deviations are no NaN: what is added is never below
--- zero, so no infinity meets one of the other sign. Assumes nothing.
-use mathlib.Core.Path.{_≡_, refl, sym, _∙_, subst}
+-- A residual of 0 of n samples is made of a sum that is a number, not below 0 and at most half of n units of 2 ^ -149: only a zero has the root 0, an
+-- n-th part rounds to 0, or below, only from half of n units down, and a sum of squares is a NaN or not below 0. Of finite samples the deviations are
+-- no NaN: what is added is never below zero, so no infinity meets one of the other sign. Assumes nothing.
+use mathlib.Core.Path.{_≡_, refl, sym, ap, _∙_, subst}
 use mathlib.Core.Bool.{Bool, true, false, cond, not, _&&_, _||_, false≢true}
-use Prim.Native.Nat.{ℕ, zero, suc, _+_, _-_, _*_, _^_, _≤_, _<_}
+use Prim.Native.Nat.{ℕ, zero, suc, _+_, _-_, _*_, _/_, _^_, _≤_, _<_}
 use native.Mathlib.Nat.{lt-of-lt-of-le, lt-irrefl, mul-pos, mul-le-mul-right, zero-lt-suc, zero-mul}
 use native.Mathlib.Omega.{arith}
-use lib.IntN.{ℤ, negsuc}
 use lib.Dec.{T, leb, ltb, eqb, leb→le, nleb→lt, eqb→eq, lt→ltb, lit<}
 use lib.Pow.{pow-pos}
-use lib.Ieee.{Float, nan, inf, fin, binary32, up, down, unlike, round, div, neg, lt, le, eq, fits}
+use lib.Ieee.{Float, nan, inf, fin, binary32, up, down, unlike, below, level, round, div, neg, lt, le, eq, fits}
 use lib.Ieee.{isNan, ofInt, ofBits}
 use lib.Ieee.Scale.{finite}
 use lib.Ieee.Order.{round-mono}
-use lib.Ieee.Fits.{and-l, down-pos, up-pos, add-fits, div-fits, neg-fits, cond-fits, round-fits}
+use lib.Ieee.Exact.{HasValue}
+use lib.Ieee.Fits.{and-l, up-pos, add-fits, div-fits, neg-fits, cond-fits, round-fits}
 use lib.Ieee.Bits.{ofBits-fits}
 use Rattle.floats.specs.Ops.{_⊕_, _⊖_, _⊗_, _⊘_, lit, nought}
 use Rattle.floats.specs.Rows.{Row, at, count}
 use Rattle.floats.specs.Library.{negative, before, max, sqrt}
-use Rattle.floats.specs.UnitLaws.{Val, eq-val}
+use Rattle.floats.specs.UnitLaws.{Val, eq-val, le-val}
 use Rattle.floats.specs.RoundingLaws.{Rep, counted, rep-of}
 use Rattle.floats.specs.NonNegLaws.{plus-nn, le-of, or-r, or-l}
 use Rattle.floats.specs.RankLaws.{le-le}
@@ -35,7 +35,7 @@ use Rattle.solver.specs.Solver.{degenerate, degenerateFit, finished, assembled,
 use Rattle.solver.specs.declared.Params.{Params}
 use Rattle.robust.specs.Robust.{negativeZero, total, deviations, meanOf, varianceOf, Squares, ofPass, ofMean, start, ring, fitRing, sumOf, ringSum}
 use Rattle.robust.specs.SoundLaws.{ring-each}
-use Rattle.robust.specs.Residual.{MadeOf, Tiny}
+use Rattle.robust.specs.Residual.{MadeOf, half, Tiny, unit, Share}
 
 -- ---- a root is 0 only of a zero
 nought-val : Val binary32 nought false 0
@@ -70,74 +70,91 @@ zero-root (fin false (suc m) k) p e = let c = counted binary32 (fin false (suc m
         let t = root-nearest n r (some n (v .1)) (fin false (suc m) k) v in
         some-not-zero (sqrt binary32 (fin false (suc m) k)) _ (mul-pos (lt-of-lt-of-le (lit< tt) (t .2 .digits .0)) (pow-pos _)) (t .1) e
 
--- ---- a sixteenth is 0 or below only of 8 units or fewer
-abbrev unit : Float
-unit = fin false 1 (negsuc 148)
+-- ---- an n-th part is 0 or below only of half of n units or fewer
+pub share-16 : Share 16
+unfolding ofInt ofBits round sqrt eq div
+share-16 = record { some = omega arith; whole = (refl, refl); halves = (refl, refl); met = refl; over = refl }
 
-sixteen-val : Val binary32 (count 16) false (2 ^ 153)
-unfolding ofInt round
-sixteen-val = (refl, refl)
-
-eight-val : Val binary32 (lit 8) false 8
-unfolding ofBits
-eight-val = (refl, refl)
-
-nine : round binary32 false 9 (2 ^ 153) ≡ unit
-unfolding round
-nine = refl
+pub share-24 : Share 24
+unfolding ofInt ofBits round sqrt eq div
+share-24 = record { some = omega arith; whole = (refl, refl); halves = (refl, refl); met = refl; over = refl }
 
 unit-above : T (le unit nought) → ⊥
 unfolding le lt eq ofBits
 unit-above t = t
 
-below-all : (m : ℕ) (e : ℤ) → T (le (fin true m e) (lit 8))
-unfolding le lt ofBits
-below-all m e = or-l (ltb 0 (m * up e * 2 ^ 146 + 1 * down e)) _ (lt→ltb 0 (m * up e * 2 ^ 146 + 1 * down e) (more (m * up e * 2 ^ 146) (down e) (down-pos e)))
-  where
-    more : (a b : ℕ) → 0 < b → 0 < a + 1 * b
-    more a b h = omega arith
+-- an infinity beside a finite number, and over it
+inf-below : (t : Bool) (y : Float) (b c : ℕ) → HasValue y t b c → T (le (inf true) y)
+unfolding le lt
+inf-below t nan b c v = absurd v
+inf-below t (inf u) b c v = absurd v
+inf-below t (fin u m e) b c v = tt
 
-record Low (s : Float) : Type 0 where
+inf-over : (s t : Bool) (y : Float) (b c : ℕ) → HasValue y t b c → div binary32 (inf s) y ≡ inf (unlike s t)
+unfolding div
+inf-over s t nan b c v = absurd v
+inf-over s t (inf u) b c v = absurd v
+inf-over s t (fin u m e) b c v = ap (λ (z : Bool). inf (unlike s z)) (v .0)
+
+-- what is below zero is below what is not
+signs : (a b : ℕ) → T (below true a false b || level true a false b)
+signs zero zero = tt
+signs zero (suc b) = or-l (ltb 0 (0 + suc b)) _ (lt→ltb 0 (0 + suc b) (omega arith))
+signs (suc a) b = or-l (ltb 0 (suc a + b)) _ (lt→ltb 0 (suc a + b) (omega arith))
+
+record Low (n : ℕ) (s : Float) : Type 0 where
   number : T (not (isNan s))
-  small : T (le s (lit 0x0000_0008))
+  small : T (le s (half n))
 
-sixteenth : (x : Float) → T (fits binary32 x) → T (le (x ⊘ count 16) nought) → Low x
-sixteenth nan p h = absurd (unfold div le lt eq in h)
-sixteenth (inf true) p h = record { number = unfold isNan in tt; small = unfold le lt ofBits in tt }
-sixteenth (inf false) p h = absurd (unfold div ofInt round le lt eq ofBits in h)
-sixteenth (fin true m e) p h = record { number = unfold isNan in tt; small = below-all m e }
-sixteenth (fin false m e) p h =
-    let c = counted binary32 (fin false m e) p tt in record { number = unfold isNan in tt; small = go (c .sign) (c .count) (c .val) (c .rep) }
-  where
-    x : Float
-    x = fin false m e
+module _ (n : ℕ) (share : Share n) where
+  abbrev parts : ℕ
+  parts = n * 2 ^ 149
 
-    go : (s : Bool) (a : ℕ) → Val binary32 x s a → Rep binary32 a → T (le x (lit 8))
-    go true a v r = absurd (false≢true (v .0))
-    go false a v r = pick (leb a 8) (leb→le a 8) (nleb→lt a 8)
-      where
-        quotient : x ⊘ count 16 ≡ round binary32 false a (2 ^ 153)
-        quotient = div-val binary32 x (count 16) false a false (2 ^ 153) (pow-pos 153) v sixteen-val
+  positive : 0 < parts
+  positive = mul-pos (share .some) (pow-pos 149)
 
-        large : 9 ≤ a → T (le unit (x ⊘ count 16))
-        large l =
-            subst (λ (z : Float). T (le z (x ⊘ count 16))) nine
-            (subst (λ (z : Float). T (le (round binary32 false 9 (2 ^ 153)) z)) (sym quotient)
-            (round-mono binary32 9 (2 ^ 153) a (2 ^ 153) (pow-pos 153) (pow-pos 153) (mul-le-mul-right (2 ^ 153) l)))
+  nth-low : (x : Float) → T (fits binary32 x) → T (le (x ⊘ count n) nought) → Low n x
+  nth-low nan p h = absurd (unfold div le lt eq in h)
+  nth-low (inf true) p h = record { number = unfold isNan in tt; small = inf-below false (half n) (n / 2) (2 ^ 149) (share .halves) }
+  nth-low (inf false) p h =
+      absurd (unfold le lt eq ofBits in subst (λ (z : Float). T (le z nought)) (inf-over false false (count n) parts (2 ^ 149) (share .whole)) h)
+  nth-low (fin s m e) p h =
+      let c = counted binary32 (fin s m e) p tt in record { number = unfold isNan in tt; small = go (c .sign) (c .count) (c .val) (c .rep) }
+    where
+      x : Float
+      x = fin s m e
 
-        pick : (b : Bool) → (T b → a ≤ 8) → (T (not b) → 8 < a) → T (le x (lit 8))
-        pick true u w =
-            le-of binary32 x (lit 8) a 8 (plus-nn binary32 x a v r)
-            (plus-nn binary32 (lit 8) 8 eight-val (rep-of binary32 (lit 8) false 8 (ofBits-fits binary32 8) eight-val)) (u tt)
-        pick false u w =
-            absurd (unit-above (le-le binary32 unit (x ⊘ count 16) nought
-            (subst (λ (z : Float). T (fits binary32 z)) nine (round-fits binary32 false 9 (2 ^ 153))) (div-fits binary32 x (count 16))
-            (ofBits-fits binary32 0) (large (w tt)) h))
+      go : (t : Bool) (a : ℕ) → Val binary32 x t a → Rep binary32 a → T (le x (half n))
+      go true a v r = subst T (sym (le-val binary32 x (half n) true a false (n / 2) v (share .halves))) (signs a (n / 2))
+      go false a v r = pick (leb a (n / 2)) (leb→le a (n / 2)) (nleb→lt a (n / 2))
+        where
+          quotient : x ⊘ count n ≡ round binary32 false a parts
+          quotient = div-val binary32 x (count n) false a false parts positive v (share .whole)
 
--- the bound is met: a sum of 8 units has the residual 0
-pub eight-gives-zero : eq (sqrt binary32 (lit 8 ⊘ count 16)) nought ≡ true
-unfolding sqrt eq div ofInt round ofBits
-eight-gives-zero = refl
+          large : n / 2 + 1 ≤ a → T (le unit (x ⊘ count n))
+          large l =
+              subst (λ (z : Float). T (le z (x ⊘ count n))) (share .over)
+              (subst (λ (z : Float). T (le (round binary32 false (n / 2 + 1) parts) z)) (sym quotient)
+              (round-mono binary32 (n / 2 + 1) parts a parts positive positive (mul-le-mul-right parts l)))
+
+          pick : (b : Bool) → (T b → a ≤ n / 2) → (T (not b) → n / 2 < a) → T (le x (half n))
+          pick true u w =
+              le-of binary32 x (half n) a (n / 2) (plus-nn binary32 x a v r)
+              (plus-nn binary32 (half n) (n / 2) (share .halves)
+              (rep-of binary32 (half n) false (n / 2) (ofBits-fits binary32 (n / 2)) (share .halves))) (u tt)
+          pick false u w =
+              absurd (unit-above (le-le binary32 unit (x ⊘ count n) nought
+              (subst (λ (z : Float). T (fits binary32 z)) (share .over) (round-fits binary32 false (n / 2 + 1) parts)) (div-fits binary32 x (count n))
+              (ofBits-fits binary32 0) (large (omega (arith, w tt))) h))
+
+  nth-number : (x : Float) → T (fits binary32 x) → Number x → Number (x ⊘ count n)
+  nth-number nan p h = absurd (unfold isNan in h)
+  nth-number (inf s) p h = subst Number (sym (inf-over s false (count n) parts (2 ^ 149) (share .whole))) (unfold isNan in tt)
+  nth-number (fin s m e) p h =
+      let x = fin s m e in
+      let c = counted binary32 x p tt in
+      subst Number (sym (div-val binary32 x (count n) (c .sign) (c .count) false parts positive (c .val) (share .whole)))
+      (round-number binary32 (unlike (c .sign) false) (c .count) parts)
 
 -- ---- the greater of a number and 0
 max-low : (x : Float) → T (not (isNan x)) → T (le (max x nought) nought) → T (le x nought)
@@ -165,12 +182,6 @@ max-fits x p =
     cond-fits binary32 (isNan x) nought _ z (cond-fits binary32 (isNan nought) x _ p (cond-fits binary32 (before x nought) nought x z p))
 
 -- ---- the sums over finite samples
-sixteenth-number : (x : Float) → Number x → Number (x ⊘ count 16)
-unfolding div ofInt round
-sixteenth-number nan h = absurd (unfold isNan in h)
-sixteenth-number (inf s) h = unfold isNan in tt
-sixteenth-number (fin s m e) h = round-number binary32 (unlike s false) (m * up e * 1) (1 * 2 ^ 4 * down e)
-
 -- what every turn below n keeps, n turns keep
 turns-keep : (P : Float → Type 0) (f : ℕ → Float → Float) (s : Float) (n : ℕ) → P s → ((i : ℕ) → i < n → (x : Float) → P x → P (f i x)) → P (iter f s n)
 unfolding iter
@@ -187,6 +198,12 @@ Finite n vs = (i : ℕ) → i < n → T (finite (at vs i))
 total-number : (n : ℕ) (vs : Row) → Finite n vs → Number (total n vs)
 unfolding total
 total-number n vs h = turns-keep Number (λ i s. s ⊕ at vs i) negativeZero n (minus-zero .0) (λ i l x k. add-number binary32 x (at vs i) k (h i l))
+
+total-fits : (n : ℕ) (vs : Row) → T (fits binary32 (total n vs))
+unfolding total
+total-fits n vs =
+    iter-keeps (λ (s : Float). T (fits binary32 s)) (λ i s. s ⊕ at vs i) negativeZero n (neg-fits binary32 nought (ofBits-fits binary32 0))
+    (λ i s h. add-fits binary32 s _)
 
 deviations-upright : (n : ℕ) (vs : Row) (mean : Float) → Finite n vs → Number mean → Upright (deviations n vs mean)
 unfolding deviations
@@ -271,22 +288,25 @@ ring-made n samples ringPhi =
     let centeredVar = varianceOf n samples (meanOf n samples) in
     ring-each (λ s. MadeOf n centeredVar (s .fit .rms) (s .squares)) n samples ringPhi (λ seed h. start-made n samples ringPhi seed centeredVar)
 
--- ---- 16 finite samples: an rms of 0
-made-tiny : (dev rms : Float) (s : Squares) → Fit dev → Upright dev → Summed s → MadeOf 16 (dev ⊘ count 16) rms s → eq rms nought ≡ true → Tiny (sumOf dev s)
-made-tiny dev rms (ofPass ssr) p u q e z =
-    let low = sixteenth ssr (q .0) (zero-root (ssr ⊘ count 16) (div-fits binary32 ssr (count 16)) (subst (λ (r : Float). eq r nought ≡ true) e z)) in
-    record { number = low .number; above = upright-above binary32 ssr (q .0) (level-upright ssr (low .number) (q .1)); small = low .small }
-made-tiny dev rms ofMean p u q e z =
-    let v = dev ⊘ count 16 in
-    let root = zero-root (max v nought) (max-fits v (div-fits binary32 dev (count 16))) (subst (λ (r : Float). eq r nought ≡ true) e z) in
-    let low = sixteenth dev p (max-low v (sixteenth-number dev (upright-number dev u)) root) in
-    record { number = low .number; above = upright-above binary32 dev p u; small = low .small }
+-- ---- n finite samples: an rms of 0
+module _ (n : ℕ) (share : Share n) where
+  made-tiny : (dev rms : Float) (s : Squares) → Fit dev → Upright dev → Summed s → MadeOf n (dev ⊘ count n) rms s → eq rms nought ≡ true
+      → Tiny n (sumOf dev s)
+  made-tiny dev rms (ofPass ssr) p u q e z =
+      let root = zero-root (ssr ⊘ count n) (div-fits binary32 ssr (count n)) (subst (λ (r : Float). eq r nought ≡ true) e z) in
+      let low = nth-low n share ssr (q .0) root in
+      record { number = low .number; above = upright-above binary32 ssr (q .0) (level-upright ssr (low .number) (q .1)); small = low .small }
+  made-tiny dev rms ofMean p u q e z =
+      let v = dev ⊘ count n in
+      let root = zero-root (max v nought) (max-fits v (div-fits binary32 dev (count n))) (subst (λ (r : Float). eq r nought ≡ true) e z) in
+      let low = nth-low n share dev p (max-low v (nth-number n share dev p (upright-number dev u)) root) in
+      record { number = low .number; above = upright-above binary32 dev p u; small = low .small }
 
-pub ring-tiny : (samples ringPhi : Row) → Finite 16 samples → eq (fitRing 16 samples ringPhi .fit .rms) nought ≡ true → Tiny (ringSum 16 samples ringPhi)
-unfolding ringSum
-ring-tiny samples ringPhi h z =
-    let mean = meanOf 16 samples in
-    let upright = deviations-upright 16 samples mean h (sixteenth-number (total 16 samples) (total-number 16 samples h)) in
-    let summed = ring-each (λ s. Summed (s .squares)) 16 samples ringPhi (λ seed k. start-summed 16 samples ringPhi seed (varianceOf 16 samples mean)) in
-    made-tiny (deviations 16 samples mean) _ (ring 16 samples ringPhi .answered .squares) (deviations-fit 16 samples mean) upright summed
-    (ring-made 16 samples ringPhi) z
+  pub ring-tiny : (samples ringPhi : Row) → Finite n samples → eq (fitRing n samples ringPhi .fit .rms) nought ≡ true → Tiny n (ringSum n samples ringPhi)
+  unfolding ringSum
+  ring-tiny samples ringPhi h z =
+      let mean = meanOf n samples in
+      let upright = deviations-upright n samples mean h (nth-number n share (total n samples) (total-fits n samples) (total-number n samples h)) in
+      let summed = ring-each (λ s. Summed (s .squares)) n samples ringPhi (λ seed k. start-summed n samples ringPhi seed (varianceOf n samples mean)) in
+      made-tiny (deviations n samples mean) _ (ring n samples ringPhi .answered .squares) (deviations-fit n samples mean) upright summed
+      (ring-made n samples ringPhi) z

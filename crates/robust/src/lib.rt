@@ -22,8 +22,10 @@ const ROBUST_SEP_TRIGGER_MIN_RAD: f32 = 1.13446403;
 
 const ROBUST_SEP_TRIGGER_MAX_RAD: f32 = 2.00712872;
 
-// The grid's rows for 16 samples, and the two places that the last lanes look at.
+// The grid's rows for 16 and for 24 samples, and the two places that the last lanes look at.
 const GRID_16: usize = robust_lanes::GRID_PLACES * 16 + 2;
+
+const GRID_24: usize = robust_lanes::GRID_PLACES * 24 + 2;
 
 // The second start's fit, or that there was none.
 pub enum Second {
@@ -369,7 +371,34 @@ fn with_grid_16(
     chosen(f.primary, s)
 }
 
-// The fit of 16 samples, with its working buffers on this call's stack.
+fn with_grid_24(
+    samples: &[f32],
+    ring_phi: &[f32],
+    f: First,
+    sphi: &[f32],
+    cphi: &[f32],
+    js: &mut [f32],
+) -> RingFit
+    requires { ⌜ (length (now samples) ≡ 24) × P.Ready (now samples) (now «ring_phi») (now sphi) (now cphi) (now js) ⌝ }
+    ensures { λ r. ⌜ P.Chosen (f .primary) (P.secondOf (R.robustGridFit 24 (now (samples .entry)) (now («ring_phi» .entry))
+        (f .mean) (f .«centered_var»))) r ⌝ }
+{
+    let mut h = [0.0f32; GRID_24];
+    let s = grid_fit(
+        samples,
+        ring_phi,
+        f.mean,
+        f.centered_var,
+        sphi,
+        cphi,
+        js,
+        &mut h,
+    );
+    chosen(f.primary, s)
+}
+
+// The fit of 16 samples, with its working buffers on this call's stack. What a call has there follows from the number of
+// samples, so each number has its own two functions, and all that they call serves both.
 pub fn fit_ring(samples: &[f32], ring_phi: &[f32]) -> RingFit
     requires { ⌜ (length (now samples) ≡ 16) × (length (now «ring_phi») ≡ 16) ⌝ }
     ensures { λ r. ⌜ r ≡ R.fitRing 16 (now (samples .entry)) (now («ring_phi» .entry)) ⌝ }
@@ -381,6 +410,22 @@ pub fn fit_ring(samples: &[f32], ring_phi: &[f32]) -> RingFit
     let primary = f.primary;
     if fit_is_suspicious(primary.fit) {
         return with_grid_16(samples, ring_phi, f, &sphi, &cphi, &mut js);
+    }
+    alone(primary)
+}
+
+// The fit of 24 samples: ours, without a counterpart in the Rust.
+pub fn fit_ring24(samples: &[f32], ring_phi: &[f32]) -> RingFit
+    requires { ⌜ (length (now samples) ≡ 24) × (length (now «ring_phi») ≡ 24) ⌝ }
+    ensures { λ r. ⌜ r ≡ R.fitRing 24 (now (samples .entry)) (now («ring_phi» .entry)) ⌝ }
+{
+    let mut sphi = [0.0f32; 24];
+    let mut cphi = [0.0f32; 24];
+    let mut js = [0.0f32; 96];
+    let f = first_start(samples, ring_phi, &mut sphi, &mut cphi, &mut js);
+    let primary = f.primary;
+    if fit_is_suspicious(primary.fit) {
+        return with_grid_24(samples, ring_phi, f, &sphi, &cphi, &mut js);
     }
     alone(primary)
 }

@@ -4,7 +4,7 @@ use mathlib.Core.List.{List}
 use mathlib.Core.Path.{_≡_}
 use Prim.Native.Nat.{ℕ, _+_, _*_, _≤_}
 use lib.ListN.{length}
-use lib.Dec.{ltb, eqb}
+use lib.Dec.{T, ltb, eqb}
 use Rattle.data.specs.Data.{maxTanhPixels}
 use Rattle.hex.specs.Hex.{allHex, byteOf}
 use Rattle.shapes.specs.declared.Fault.the-variants.{TooLong, Foreign, Short, RingLength, DiskShort, DiskLength}
@@ -26,8 +26,15 @@ limit = diskLength maxTanhPixels
 abbrev pub fitLength : Bool → ℕ
 fitLength disk = cond disk 98 60
 
-unfoldable pub ringShape : List ℕ → Shape
-ringShape l = cond (eqb (length l) (ringLength 16)) Ring (Malformed RingLength)
+-- the samples of a ring: 16 of type 01, 24 of type 03
+abbrev pub samplesOf : ℕ → ℕ
+samplesOf kind = cond (eqb kind 3) 24 16
+
+abbrev pub RingType : ℕ → Type 0
+RingType kind = T (eqb kind 1 || eqb kind 3)
+
+unfoldable pub ringShape : List ℕ → ℕ → Shape
+ringShape l kind = cond (eqb (length l) (ringLength (samplesOf kind))) (Ring kind) (Malformed (RingLength kind))
 
 -- a count of 0 or of too many is refused before the length is looked at
 unfoldable pub countedShape : ℕ → ℕ → Shape
@@ -38,7 +45,9 @@ unfoldable pub diskShape : List ℕ → Shape
 diskShape l = cond (ltb (length l) 30) (Malformed DiskShort) (countedShape (length l) (byteOf l 2 * 256 + byteOf l 4))
 
 unfoldable pub typedShape : List ℕ → Shape
-typedShape l = cond (eqb (byteOf l 0) 1) (ringShape l) (cond (eqb (byteOf l 0) 2) (diskShape l) (OtherType (byteOf l 0)))
+typedShape l =
+    let kind = byteOf l 0 in
+    cond (eqb kind 1 || eqb kind 3) (ringShape l kind) (cond (eqb kind 2) (diskShape l) (OtherType kind))
 
 -- too long; a foreign character; under 2 characters; another type; and then by the type
 unfoldable pub shapeOf : List ℕ → Shape
@@ -49,7 +58,7 @@ shapeOf l =
 
 -- what a reader of the values relies on
 abbrev pub ShapeSized : ℕ → Shape → Type 0
-ShapeSized size Ring = size ≡ ringLength 16
+ShapeSized size (Ring kind) = RingType kind × (size ≡ ringLength (samplesOf kind))
 ShapeSized size (Disk n) = (n ≤ maxTanhPixels) × (size ≡ diskLength n)
 ShapeSized size (BadCount n) = 0 ≤ size
 ShapeSized size (OtherType kind) = 0 ≤ size

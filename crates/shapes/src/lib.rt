@@ -5,8 +5,10 @@ ghost use Prim.Native.Nat.{_≤_, _<_};
 ghost use lib.ListN.{length};
 ghost use Rattle.shapes.specs.Shapes as S;
 
-// Samples of a ring.
-pub const SAMPLES: usize = 16;
+// A ring's line has its type, and two words for each sample, in characters.
+const RING_HEAD: usize = 2;
+
+const SAMPLE: usize = 16;
 
 // A disk's line before its pixels, and for each pixel, in characters.
 pub const DISK_HEAD: usize = 30;
@@ -22,28 +24,40 @@ pub enum Fault {
     TooLong,
     Foreign,
     Short,
-    RingLength,
+    RingLength(u32),
     DiskShort,
     DiskLength(u32),
 }
 
-// A ring, a disk of so many pixels, a disk whose count is refused; a line of another type, which is
-// malformed too; or one that is malformed for a fault.
+// A ring of its type, a disk of so many pixels, a disk whose count is refused; a line of another type, which
+// is malformed too; or one that is malformed for a fault.
 pub enum Shape {
-    Ring,
+    Ring(u32),
     Disk(u32),
     BadCount(u32),
     OtherType(u32),
     Malformed(Fault),
 }
 
-fn ring_shape(line: &[u8]) -> Shape
-    ensures { λ r. ⌜ (r ≡ S.ringShape (now (line .entry))) × S.ShapeSized (length (now (line .entry))) r ⌝ }
+// The samples of a ring: 16 of type 01, 24 of type 03.
+pub fn samples_of(kind: u32) -> usize
+    ensures { λ r. ⌜ (r ≤ 24) × (r ≡ S.samplesOf kind) ⌝ }
 {
-    if line.len() == 2 + 16 * SAMPLES {
-        return Shape::Ring;
+    if kind == 3 {
+        return 24;
     }
-    Shape::Malformed(Fault::RingLength)
+    16
+}
+
+fn ring_shape(line: &[u8], kind: u32) -> Shape
+    requires { ⌜ S.RingType kind ⌝ }
+    ensures { λ r. ⌜ (r ≡ S.ringShape (now (line .entry)) kind) × S.ShapeSized (length (now (line .entry))) r ⌝ }
+{
+    let n = samples_of(kind);
+    if line.len() == RING_HEAD + SAMPLE * n {
+        return Shape::Ring(kind);
+    }
+    Shape::Malformed(Fault::RingLength(kind))
 }
 
 fn counted_shape(line: &[u8], n: u32) -> Shape
@@ -78,8 +92,8 @@ fn typed_shape(line: &[u8]) -> Shape
     ensures { λ r. ⌜ (r ≡ S.typedShape (now (line .entry))) × S.ShapeSized (length (now (line .entry))) r ⌝ }
 {
     let kind = hex::byte_at(line, 0);
-    if kind == 1 {
-        return ring_shape(line);
+    if kind == 1 || kind == 3 {
+        return ring_shape(line, kind);
     }
     if kind == 2 {
         return disk_shape(line);

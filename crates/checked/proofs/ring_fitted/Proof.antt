@@ -1,4 +1,4 @@
--- The fit, and then whether its errors are known. Assumes nothing.
+-- The fit with whether its errors are known. Assumes nothing.
 use Rattle.checked.specs.Checked as C
 use borrow.Author.Needs.{needs}
 use Rattle.checked.proofs.ring_fitted.Statement.{statement}
@@ -6,7 +6,7 @@ use Rattle.checked.proofs.ring_fitted.Tie as tie
 
 returns : tie.Need-returns
 unfolding C.ringFitted
-returns c = rw (c .errors-known .ensures, c .before .before .fit-ring .ensures)
+returns c = rw (c .errors-known .ensures)
 
 pub ring-fitted-spec : {M : Type 1} → statement M
-ring-fitted-spec = tie.close (tie.spec (λ c κs. search needs) (λ c κs. search needs) returns)
+ring-fitted-spec = tie.close (tie.spec (λ c κs. search needs) returns)
