@@ -2,9 +2,9 @@
  * the static library libjengubool.a.
  *
  * Common to all of them:
- *   - No global state, no heap, no errno: any number of threads may call them. jb_answer_line, jb_fit_ring and
- *     jb_fit_disk read and write the arrays that they are given and no other memory; the others take and return values
- *     alone.
+ *   - No global state, no heap, no errno: any number of threads may call them. jb_answer_line, jb_fit_ring,
+ *     jb_fit_ring24 and jb_fit_disk read and write the arrays that they are given and no other memory; the others take
+ *     and return values alone.
  *   - They accept every bit pattern and always return.
  *   - They expect the rounding mode that a C program starts with (to nearest, ties to even), and subnormal numbers
  *     switched on (no flush to zero). Floating-point exception flags may be raised.
@@ -83,6 +83,11 @@ uint32_t jb_answer_line(const uint8_t *line, size_t line_len, uint8_t *out, size
  * The four arrays must not overlap. */
 uint32_t jb_fit_ring(const float *samples, size_t samples_len, const float *angles, size_t angles_len,
                      float *fit, size_t fit_len, uint32_t *counts, size_t counts_len);
+
+/* The ring fit of 24 samples at 24 angles: as jb_fit_ring in every word, with 24 in the place of 16. A slice of another
+ * length than 24 returns 65536; of a value that is not finite the place is 0 to 23 for a sample, 24 to 47 for an angle. */
+uint32_t jb_fit_ring24(const float *samples, size_t samples_len, const float *angles, size_t angles_len,
+                       float *fit, size_t fit_len, uint32_t *counts, size_t counts_len);
 
 /* The disk fit of n pixels, 1 to 320, around a corner at (0, 0): element i of the five slices belongs to pixel i.
  * In: xs and ys, the place of a pixel; vals_centered, its brightness less the mean of all; grad_angles, the direction

@@ -1,7 +1,8 @@
 // The test instrument's half below the disk: libfunclines.a, one export for each function that a
-// function line 10 to 64 calls. The program around it, tests/funclines.c, reads the lines and is not
+// function line 10 to 65 calls. The program around it, tests/funclines.c, reads the lines and is not
 // proved. No part of the product: an export may ask for something by `requires`, which that program
 // tests before it calls, and promises nothing but that it is safe and ends.
+use robust::RingFit;
 use robust::Second;
 use seed::Seed;
 use seed::SeedCandidate;
@@ -338,16 +339,24 @@ pub extern "C" fn fl_insert_seed_candidate(top: Seed5, candidate: &[f32; 5]) -> 
     seed_of(seed::insert_seed_candidate(top_of(top), candidate_of(*candidate)))
 }
 
-// ---- 60 to 64: the whole ring
+// ---- 60 to 65: the whole ring
 
-#[no_mangle]
-pub extern "C" fn fl_fit_ring(samples: &[f32; 16], ring_phi: &[f32; 16]) -> Ring {
-    let r = robust::fit_ring(samples, ring_phi);
+fn ring_of(r: RingFit) -> Ring {
     let values = values_of(r.fit);
     Ring {
         values,
         counts: [r.starts, r.first, r.second],
     }
+}
+
+#[no_mangle]
+pub extern "C" fn fl_fit_ring(samples: &[f32; 16], ring_phi: &[f32; 16]) -> Ring {
+    ring_of(robust::fit_ring(samples, ring_phi))
+}
+
+#[no_mangle]
+pub extern "C" fn fl_fit_ring24(samples: &[f32; 24], ring_phi: &[f32; 24]) -> Ring {
+    ring_of(robust::fit_ring24(samples, ring_phi))
 }
 
 #[no_mangle]

@@ -89,7 +89,7 @@ fn block(
 {
     let mut best = best0;
     let s = robust_lanes::lane_sums(h, centered, a, b);
-    let xs = robust_lanes::mean_squares(s, n, centered_ss);
+    let xs = robust_lanes::mean_squares(s, centered.len(), n, centered_ss);
     let q = s.q_sum;
     let q2 = s.q2_sum;
     let num = s.num;

@@ -5,6 +5,7 @@ ghost use mathlib.Core.Path.{_≡_};
 ghost use Prim.Native.Nat.{_<_};
 ghost use lib.ListN.{length};
 ghost use Rattle.floats.specs.Ops.{nought};
+ghost use Rattle.floats.specs.Rows.{count};
 ghost use Rattle.floats.specs.Library.{max};
 ghost use Rattle.robust_lanes.specs.Lanes as L;
 
@@ -52,11 +53,10 @@ fn lanes_added(s: Lanes, v: f32, x: f32, y: [f32; 4]) -> Lanes
 
 // Each lane adds its samples in their order. From b = 20 on the last lanes run past the grid's angles into the next
 // sample's places; nothing is asked of them.
-pub fn lane_sums(h: &[f32], centered: &[f32], a: usize, b: usize) -> Lanes
-    requires { ⌜ L.GridRoom (now centered) (now h) × (a < 23) × (b < 23) ⌝ }
-    ensures { λ r. ⌜ r ≡ L.laneSums (length (now (centered .entry))) (now (centered .entry)) (now (h .entry)) a b ⌝ }
+fn sums_of(h: &[f32], centered: &[f32], n: usize, a: usize, b: usize) -> Lanes
+    requires { ⌜ L.GridRoom (now centered) (now h) × (n ≡ length (now centered)) × (a < 23) × (b < 23) ⌝ }
+    ensures { λ r. ⌜ r ≡ L.laneSums n (now (centered .entry)) (now (h .entry)) a b ⌝ }
 {
-    let n = centered.len();
     let none = [0.0f32; 4];
     let mut s = Lanes {
         q_sum: none,
@@ -70,6 +70,19 @@ pub fn lane_sums(h: &[f32], centered: &[f32], a: usize, b: usize) -> Lanes
         s = next;
     }
     s
+}
+
+// The usual number of samples is written out, here and in `mean_squares`, so that it is compiled as a constant: the loop
+// has no end to test, and what is divided by 16 is multiplied. It was a tenth of a fit with two starts.
+pub fn lane_sums(h: &[f32], centered: &[f32], a: usize, b: usize) -> Lanes
+    requires { ⌜ L.GridRoom (now centered) (now h) × (a < 23) × (b < 23) ⌝ }
+    ensures { λ r. ⌜ r ≡ L.laneSums (length (now (centered .entry))) (now (centered .entry)) (now (h .entry)) a b ⌝ }
+{
+    let n = centered.len();
+    if n == 16 {
+        return sums_of(h, centered, 16, a, b);
+    }
+    sums_of(h, centered, n, a, b)
 }
 
 // `max` with 0: a NaN and -0 become 0 too.
@@ -90,7 +103,7 @@ fn mean_square(q_sum: f32, q2_sum: f32, num: f32, n: f32, centered_ss: f32) -> f
     ahead(centered_ss - num * num / denom) / n
 }
 
-pub fn mean_squares(s: Lanes, n: f32, centered_ss: f32) -> [f32; 4]
+fn squares_of(s: Lanes, n: f32, centered_ss: f32) -> [f32; 4]
     ensures { λ r. ⌜ r ≡ L.meanSquares s n «centered_ss» ⌝ }
 {
     let q = s.q_sum;
@@ -102,6 +115,17 @@ pub fn mean_squares(s: Lanes, n: f32, centered_ss: f32) -> [f32; 4]
         mean_square(q[2], q2[2], num[2], n, centered_ss),
         mean_square(q[3], q2[3], num[3], n, centered_ss),
     ]
+}
+
+// n is the number of samples as a float.
+pub fn mean_squares(s: Lanes, samples: usize, n: f32, centered_ss: f32) -> [f32; 4]
+    requires { ⌜ n ≡ count samples ⌝ }
+    ensures { λ r. ⌜ r ≡ L.meanSquares s n «centered_ss» ⌝ }
+{
+    if samples == 16 {
+        return squares_of(s, 16.0, centered_ss);
+    }
+    squares_of(s, n, centered_ss)
 }
 
 // The best seed so far, and what the root of its residual was taken of: NaN where there is none.

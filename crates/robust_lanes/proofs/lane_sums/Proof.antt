@@ -1,42 +1,14 @@
--- The loop keeps the sums of the four pairs so far. Assumes nothing.
-use mathlib.Core.Path.{_≡_}
-use Prim.Native.Nat.{_≤_, _+_, _-_, _*_}
-use native.Mathlib.Omega.{arith}
-use lib.ListN.{length}
-use Rattle.robust_lanes.specs.Lanes as L
-use Rattle.robust_lanes.specs.LaneLaws.{lanes-none, lanes-more, lane-places}
+-- Either call adds all samples. Assumes nothing.
+use mathlib.Core.Path.{sym}
 use borrow.Author.Needs.{needs}
 use Rattle.robust_lanes.proofs.lane_sums.Statement.{statement}
 use Rattle.robust_lanes.proofs.lane_sums.Tie as tie
 
-abbrev Inv-loop : tie.InvT-loop
-Inv-loop h centered a b n s₀ i₀ s i = (i ≤ n) × (s ≡ L.laneSums i centered h a b)
+sums-of-requires : tie.Need-sums-of-requires
+sums-of-requires c κs = let pre = c .before .before .before .pre in (pre .0, sym (c .if1 .taken), pre .1, pre .2)
 
-abbrev μ-loop : tie.MeasureT-loop
-μ-loop h centered a b n s₀ i₀ s i = n - i
-
-loop-holds : tie.Need-loop-holds Inv-loop μ-loop
-loop-holds c = (search needs, lanes-none _ _ _ _)
-
-loop-again : tie.Need-loop-again Inv-loop μ-loop
-loop-again c =
-    let c8 = c .before .before .before .before .before .before .before .before in
-    let c11 = c8 .before .before .before in
-    let places = lane-places (c11 .args .h .now) (c8 .loop .i * 24 + c11 .args .b) in
-    (search needs, lanes-more _ _ _ _ _ _ _ _ (c8 .loop .inv .1) places (c .lanes-added .ensures))
-
-returns : tie.Need-returns Inv-loop μ-loop
-returns c =
-    let c4 = c .before .before .before .before in
-    let h : c .before .loop .i ≡ length (c4 .args .centered .now) = omega arith in
-    rw h at (c .before .loop .inv .1)
+returns : tie.Need-returns
+returns c = rw (c .before .if1 .taken) (c .sums-of .ensures)
 
 pub lane-sums-spec : {M : Type 1} → statement M
-lane-sums-spec =
-    tie.close
-    (tie.spec
-    Inv-loop μ-loop loop-holds (λ c. search needs) (λ c. search needs) (λ c. search needs) (λ c. search needs)
-    (λ c. search needs) (λ c. search needs) (λ c. search needs) (λ c. search needs) (λ c. search needs)
-    (λ c. search needs) (λ c. search needs) (λ c. search needs) (λ c. search needs) (λ c. search needs)
-    (λ c. search needs) (λ c. search needs) (λ c. search needs) (λ c. search needs) (λ c. search needs)
-    (λ c κs. search needs) (λ c. search needs) (λ c. search needs) loop-again returns)
+lane-sums-spec = tie.close (tie.spec sums-of-requires returns (λ c κs. search needs) (λ c. search needs))
