@@ -1,4 +1,4 @@
-//! Answers that carry counts come from the `counted` copy, after a comparison with `plain`.
+//! Answers that carry counts come from a `counted` copy, after a comparison with its `plain` one.
 
 use crate::wire::to_bits;
 use shapes::{Disk, Fit6, Fit9, Ring, Seed5};
@@ -13,26 +13,32 @@ fn agree(function: &str, plain: Option<&[f32]>, counted: Option<&[f32]>) {
     }
 }
 
-pub fn fit_ring(ring: &Ring) -> (Fit6, Counts) {
+pub fn fit_ring(ring: &Ring<16>) -> (Fit6, Counts) {
     let (fit, counts) = support::counted(|| counted::ring::robust::fit_ring(ring));
     agree("fit_ring", Some(&plain::ring::robust::fit_ring(ring)), Some(&fit));
     (fit, counts)
 }
 
-pub fn fit_with_seed(ring: &Ring, seed: [f32; 5]) -> (Fit6, Counts) {
+pub fn fit_ring24(ring: &Ring<24>) -> (Fit6, Counts) {
+    let (fit, counts) = support::counted(|| counted24::ring::robust::fit_ring(ring));
+    agree("fit_ring for 24 points", Some(&plain24::ring::robust::fit_ring(ring)), Some(&fit));
+    (fit, counts)
+}
+
+pub fn fit_with_seed(ring: &Ring<16>, seed: [f32; 5]) -> (Fit6, Counts) {
     let (fit, counts) = support::counted(|| counted::ring::solver::fit_with_seed(ring, seed));
     agree("fit_with_seed", Some(&plain::ring::solver::fit_with_seed(ring, seed)), Some(&fit));
     (fit, counts)
 }
 
-pub fn robust_grid_fit(ring: &Ring, mean: f32, variance: f32) -> (Option<Fit6>, Counts) {
+pub fn robust_grid_fit(ring: &Ring<16>, mean: f32, variance: f32) -> (Option<Fit6>, Counts) {
     let (fit, counts) = support::counted(|| counted::ring::robust::robust_grid_fit(ring, mean, variance));
     let expected = plain::ring::robust::robust_grid_fit(ring, mean, variance);
     agree("robust_grid_fit", expected.as_ref().map(|words| &words[..]), fit.as_ref().map(|words| &words[..]));
     (fit, counts)
 }
 
-pub fn refine_seed_candidates(ring: &Ring, variance: f32, seed: Option<Seed5>) -> (Option<Fit6>, Counts) {
+pub fn refine_seed_candidates(ring: &Ring<16>, variance: f32, seed: Option<Seed5>) -> (Option<Fit6>, Counts) {
     let (fit, counts) = support::counted(|| counted::ring::robust::refine_seed_candidates(ring, variance, seed));
     let expected = plain::ring::robust::refine_seed_candidates(ring, variance, seed);
     agree("refine_seed_candidates", expected.as_ref().map(|words| &words[..]), fit.as_ref().map(|words| &words[..]));

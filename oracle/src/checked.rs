@@ -3,17 +3,17 @@
 
 use crate::both;
 use crate::wire::{from_bits, is_hexadecimal, number, push_hex, to_bits, words};
-use shapes::{Disk, Ring, PIXELS};
+use shapes::{Disk, Fit6, Ring, PIXELS};
 use support::Counts;
 
 const LONGEST_LINE: usize = 12_830;
-const RING_LINE: usize = 2 + 8 * 32;
 const DISK_HEAD: usize = 30;
 
 #[derive(Clone, Copy, PartialEq)]
 pub enum Kind {
     Ring,
     Disk,
+    Ring24,
 }
 
 #[derive(Clone, Copy)]
@@ -36,16 +36,18 @@ pub struct Answered {
 
 /// What a line that passes all checks holds.
 pub enum Frame {
-    Ring(Ring),
+    Ring(Ring<16>),
     Disk(Box<Disk>, [f32; 2]),
+    Ring24(Ring<24>),
 }
 
 const MALFORMED: Refusal = Refusal { kind: None, number: 5, place: 0 };
 
 pub fn answer(line: &[u8]) -> Answered {
     match parse(line) {
-        Ok(Frame::Ring(ring)) => answer_ring(&ring),
+        Ok(Frame::Ring(ring)) => answer_ring(Kind::Ring, both::fit_ring(&ring)),
         Ok(Frame::Disk(disk, bases)) => answer_disk(&disk, bases),
+        Ok(Frame::Ring24(ring)) => answer_ring(Kind::Ring24, both::fit_ring24(&ring)),
         Err(refusal) => refused(refusal, Counts::default()),
     }
 }
@@ -60,19 +62,20 @@ pub fn parse(line: &[u8]) -> Result<Frame, Refusal> {
         return Err(MALFORMED);
     }
     match &line[..2] {
-        b"01" => parse_ring(line),
+        b"01" => parse_ring(line, Kind::Ring).map(Frame::Ring),
         b"02" => parse_disk(line),
+        b"03" => parse_ring(line, Kind::Ring24).map(Frame::Ring24),
         _ => Err(MALFORMED),
     }
 }
 
-fn parse_ring(line: &[u8]) -> Result<Frame, Refusal> {
-    if line.len() != RING_LINE {
+fn parse_ring<const N: usize>(line: &[u8], kind: Kind) -> Result<Ring<N>, Refusal> {
+    if line.len() != 2 + 8 * (2 * N) {
         return Err(MALFORMED);
     }
-    let values = finite_values(&line[2..], Kind::Ring)?;
+    let values = finite_values(&line[2..], kind)?;
     let run = |at: usize| std::array::from_fn(|i| values[at + i]);
-    Ok(Frame::Ring(Ring { samples: run(0), angles: run(16) }))
+    Ok(Ring { samples: run(0), angles: run(N) })
 }
 
 fn parse_disk(line: &[u8]) -> Result<Frame, Refusal> {
@@ -102,14 +105,25 @@ fn finite_values(characters: &[u8], kind: Kind) -> Result<Vec<f32>, Refusal> {
     }
 }
 
+/// The frame's type plus 80.
+fn first_byte(kind: Kind) -> u32 {
+    match kind {
+        Kind::Ring => 0x81,
+        Kind::Disk => 0x82,
+        Kind::Ring24 => 0x83,
+    }
+}
+
+/// What stands before the values of a fit.
+fn head(kind: Kind) -> Vec<u8> {
+    let mut line = Vec::with_capacity(98);
+    push_hex(&mut line, first_byte(kind) << 8, 4);
+    line
+}
+
 fn refused(refusal: Refusal, counts: Counts) -> Answered {
-    let first = match refusal.kind {
-        Some(Kind::Ring) => 0x81,
-        Some(Kind::Disk) => 0x82,
-        None => 0xff,
-    };
     let mut line = Vec::with_capacity(8);
-    push_hex(&mut line, first, 2);
+    push_hex(&mut line, refusal.kind.map_or(0xff, first_byte), 2);
     push_hex(&mut line, refusal.number, 2);
     push_hex(&mut line, refusal.place, 4);
     Answered { line, outcome: Outcome::Refused(refusal, counts) }
@@ -120,16 +134,15 @@ fn known(errors: [f32; 2]) -> u32 {
     u32::from(errors != [std::f32::consts::PI; 2])
 }
 
-fn answer_ring(ring: &Ring) -> Answered {
-    let (fit, counts) = both::fit_ring(ring);
-    let mut line = b"8100".to_vec();
+fn answer_ring(kind: Kind, (fit, counts): (Fit6, Counts)) -> Answered {
+    let mut line = head(kind);
     for x in fit {
         push_hex(&mut line, to_bits(x), 8);
     }
     for byte in [counts.starts, counts.updates[0], counts.updates[1], known([fit[3], fit[4]])] {
         push_hex(&mut line, byte, 2);
     }
-    Answered { line, outcome: Outcome::Fit(Kind::Ring, counts) }
+    Answered { line, outcome: Outcome::Fit(kind, counts) }
 }
 
 fn answer_disk(disk: &Disk, bases: [f32; 2]) -> Answered {
@@ -138,7 +151,7 @@ fn answer_disk(disk: &Disk, bases: [f32; 2]) -> Answered {
         return refused(Refusal { kind: Some(Kind::Disk), number: 4, place: counts.trials }, counts);
     };
     let errors = plain::disk::score::fit_std_errors(disk, fit);
-    let mut line = b"8200".to_vec();
+    let mut line = head(Kind::Disk);
     for x in fit.into_iter().chain(errors) {
         push_hex(&mut line, to_bits(x), 8);
     }

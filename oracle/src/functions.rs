@@ -5,14 +5,18 @@ use crate::wire::{words, Answer, Arguments};
 use plain::disk::{candidates, geometry, score, search};
 use plain::given::{Choice, Float, Ranked};
 use plain::ring::{robust, seed, solver};
-use shapes::{ANGLES, PAIRED_ANGLES, PIXELS};
+use shapes::{Fit6, ANGLES, PAIRED_ANGLES, PIXELS};
 use std::f32::consts::{PI, TAU};
+use support::Counts;
 
-/// All numbers that are answered.
+/// All numbers that are answered, but for those below.
 pub const NUMBERS: [u8; 53] = [
     10, 11, 12, 13, 14, 15, 16, 17, 20, 21, 22, 23, 24, 30, 31, 32, 33, 34, 35, 40, 41, 42, 43, 44, 45, 50, 51, 52, 53,
     54, 60, 61, 62, 63, 64, 70, 71, 72, 73, 74, 75, 76, 77, 80, 81, 82, 83, 90, 91, 92, 93, 94, 95,
 ];
+
+/// Numbers that came later: lines are made for them only where they are named, so that a list of before stays as it was.
+pub const LATER: [u8; 1] = [65];
 
 pub fn answer(line: &[u8]) -> Vec<u8> {
     answer_words(line).map_or(b"?".to_vec(), |answer| answer.text())
@@ -28,7 +32,7 @@ fn answer_words(line: &[u8]) -> Option<Answer> {
         30..=35 => lines(number, a),
         40..=45 => solving(number, a),
         50..=54 => seeding(number, a),
-        60..=64 => ring_fit(number, a),
+        60..=65 => ring_fit(number, a),
         70..=77 => candidate_set(number, a),
         80..=83 => scoring(number, a),
         90..=95 => searching(number, a),
@@ -174,13 +178,16 @@ fn ring_fit(number: u8, a: &mut Arguments) -> Option<Answer> {
             _ => new().float(robust::relative_rms(fit)),
         });
     }
+    if number == 65 {
+        let ring = a.ring()?;
+        a.end()?;
+        return Some(whole_fit(both::fit_ring24(&ring)));
+    }
     let ring = a.ring()?;
     let (fit, counts) = match number {
         60 => {
             a.end()?;
-            let (fit, counts) = both::fit_ring(&ring);
-            let answer = new().floats(&fit).number(counts.starts as usize);
-            return Some(answer.number(counts.updates[0] as usize).number(counts.updates[1] as usize));
+            return Some(whole_fit(both::fit_ring(&ring)));
         }
         63 => {
             let [mean, variance] = a.floats()?;
@@ -194,6 +201,11 @@ fn ring_fit(number: u8, a: &mut Arguments) -> Option<Answer> {
         }
     };
     Some(new().optional(fit, |answer, words| answer.floats(&words).number(counts.updates[0] as usize)))
+}
+
+fn whole_fit((fit, counts): (Fit6, Counts)) -> Answer {
+    let [first, second] = counts.updates;
+    new().floats(&fit).number(counts.starts as usize).number(first as usize).number(second as usize)
 }
 
 fn candidate_set(number: u8, a: &mut Arguments) -> Option<Answer> {

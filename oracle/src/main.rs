@@ -23,8 +23,8 @@ const USAGE: &str = "usage: oracle frames
        oracle paths --lines frames|functions --kind KIND --count N --seed S [--numbers LIST] [--types LIST]
        oracle bench --kind rings|disks --count N --seed S [--program PATH]
        oracle once
-KIND is rings, disks, bits, limits, damaged or functions; NUMBERS and LIST are such as 10-17,20-24
---numbers chooses the functions that lines are made for; a frame outside --types (01,02) is answered as malformed";
+KIND is rings, disks, bits, limits, damaged, rings24, bits24, limits24, damaged24 or functions; NUMBERS and LIST are such as 10-17,20-24
+--numbers chooses the functions that lines are made for; a frame outside --types (01,02,03) is answered as malformed";
 
 fn answer_lines(answer: impl Fn(&[u8]) -> Vec<u8>) -> io::Result<()> {
     let mut input = io::stdin().lock();

@@ -1,7 +1,7 @@
 //! The words of the command line.
 
 use crate::compare::{Lines, Served};
-use crate::functions::NUMBERS;
+use crate::functions::{LATER, NUMBERS};
 use crate::generate::{Kind, List, KINDS};
 
 /// `--name value` pairs.
@@ -42,7 +42,7 @@ impl Options {
 
     /// All frame types are served, unless some are named.
     pub fn served(&self) -> Served {
-        let types = self.find("--types").unwrap_or("01,02");
+        let types = self.find("--types").unwrap_or("01,02,03");
         Served { types: types.split(',').map(str::to_string).collect() }
     }
 
@@ -77,7 +77,7 @@ fn whole(text: &str) -> Result<u64, String> {
     text.parse().map_err(|_| format!("{text} is no whole number"))
 }
 
-/// Such as 10-17,20: the numbers of the table in these ranges.
+/// Such as 10-17,20: the numbers of the table in these ranges; one of the later numbers only where it stands by itself.
 fn numbers_of(text: &str) -> Result<Vec<u8>, String> {
     let mut found = Vec::new();
     for part in text.split(',') {
@@ -85,6 +85,7 @@ fn numbers_of(text: &str) -> Result<Vec<u8>, String> {
         let (low, high) = (whole(low)?, whole(high)?);
         let before = found.len();
         found.extend(NUMBERS.iter().filter(|&&number| (low..=high).contains(&number.into())));
+        found.extend(LATER.iter().filter(|&&number| [low, high] == [number.into(); 2]));
         if found.len() == before {
             return Err(format!("{part} names no function"));
         }

@@ -14,10 +14,11 @@ pub type Seed5 = [f32; 5];
 pub type Fit9 = [f32; 9];
 pub type Pair = Option<(usize, usize)>;
 
+/// Of 16 points, or of 24.
 #[derive(Clone)]
-pub struct Ring {
-    pub samples: [f32; 16],
-    pub angles: [f32; 16],
+pub struct Ring<const N: usize> {
+    pub samples: [f32; N],
+    pub angles: [f32; N],
 }
 
 #[derive(Clone)]

@@ -127,7 +127,7 @@ impl Arguments {
         Some((self.word()? as usize, self.word()? as usize))
     }
 
-    pub fn ring(&mut self) -> Option<Ring> {
+    pub fn ring<const N: usize>(&mut self) -> Option<Ring<N>> {
         Some(Ring { samples: self.floats()?, angles: self.floats()? })
     }
 

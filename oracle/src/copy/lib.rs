@@ -13,5 +13,13 @@ mod five;
 #[cfg(functions = "ours")]
 pub mod ours;
 
+#[cfg(points = "16")]
 pub use orientation::disk_sector::inside as disk;
 pub use orientation::ring_fit::inside as ring;
+
+/// How many samples this copy takes.
+#[cfg(points = "16")]
+pub const POINTS: usize = 16;
+#[cfg(points = "24")]
+pub const POINTS: usize = 24;
+pub type Ring = shapes::Ring<POINTS>;

@@ -1,4 +1,5 @@
-//! Frame lines: good ones, ones of wild bits, and damaged ones.
+//! Frame lines: good ones, ones of wild bits, and damaged ones. A kind has rings of 16 points, perhaps with disks among
+//! them, or rings of 24 alone.
 
 use super::disks::{disk, Made};
 use super::random::Random;
@@ -23,8 +24,17 @@ fn disk_line(made: &Made) -> Vec<u8> {
     line(&head, &words)
 }
 
-pub fn good_ring(random: &mut Random) -> Vec<u8> {
-    line(b"01", &ring(random))
+/// Whether a frame is to be a ring: always, if the points are 24, else in so many of a hundred.
+fn is_ring(random: &mut Random, points: usize, chance: usize) -> bool {
+    points == 24 || random.percent(chance)
+}
+
+pub fn ring_line(points: usize, words: &[u32]) -> Vec<u8> {
+    line(if points == 24 { b"03" } else { b"01" }, words)
+}
+
+pub fn good_ring(random: &mut Random, points: usize) -> Vec<u8> {
+    ring_line(points, &ring(random, points))
 }
 
 pub fn good_disk(random: &mut Random) -> Vec<u8> {
@@ -32,10 +42,10 @@ pub fn good_disk(random: &mut Random) -> Vec<u8> {
 }
 
 /// Mostly rings and small disks: a large disk of wild words takes long and shows little more.
-fn wild(random: &mut Random, mut make: impl FnMut(&mut Random) -> u32) -> Vec<u8> {
-    if random.percent(70) {
-        let words: Vec<u32> = (0..32).map(|_| make(random)).collect();
-        return line(b"01", &words);
+fn wild(random: &mut Random, points: usize, mut make: impl FnMut(&mut Random) -> u32) -> Vec<u8> {
+    if is_ring(random, points, 70) {
+        let words: Vec<u32> = (0..2 * points).map(|_| make(random)).collect();
+        return ring_line(points, &words);
     }
     let count = if random.percent(95) { random.between(1, 24) } else { random.between(1, PIXELS) };
     let mut head = b"02".to_vec();
@@ -44,27 +54,27 @@ fn wild(random: &mut Random, mut make: impl FnMut(&mut Random) -> u32) -> Vec<u8
     line(&head, &words)
 }
 
-pub fn bits(random: &mut Random) -> Vec<u8> {
+pub fn bits(random: &mut Random, points: usize) -> Vec<u8> {
     match random.below(4) {
-        0 => wild(random, Random::bits),
-        1 => wild(random, finite_bits),
-        _ => wild(random, middling_bits),
+        0 => wild(random, points, Random::bits),
+        1 => wild(random, points, finite_bits),
+        _ => wild(random, points, middling_bits),
     }
 }
 
-pub fn limits(random: &mut Random) -> Vec<u8> {
+pub fn limits(random: &mut Random, points: usize) -> Vec<u8> {
     match random.below(6) {
-        0 => wild(random, limit),
-        1 | 2 => wild(random, finite_limit),
-        3 => wild(random, |random| drawn(random, Taste::Mixed, -8.0, 8.0)),
-        _ => sprinkled(random),
+        0 => wild(random, points, limit),
+        1 | 2 => wild(random, points, finite_limit),
+        3 => wild(random, points, |random| drawn(random, Taste::Mixed, -8.0, 8.0)),
+        _ => sprinkled(random, points),
     }
 }
 
 /// A good frame with a few words replaced by limits.
-fn sprinkled(random: &mut Random) -> Vec<u8> {
-    let (mut text, head) = if random.percent(70) {
-        (good_ring(random), 2)
+fn sprinkled(random: &mut Random, points: usize) -> Vec<u8> {
+    let (mut text, head) = if is_ring(random, points, 70) {
+        (good_ring(random, points), 2)
     } else {
         (disk_line(&disk(random, 30)), 6)
     };
@@ -79,13 +89,14 @@ fn sprinkled(random: &mut Random) -> Vec<u8> {
     text
 }
 
-pub fn damaged(random: &mut Random) -> Vec<u8> {
-    let text = if random.percent(60) { good_ring(random) } else { disk_line(&disk(random, 12)) };
+pub fn damaged(random: &mut Random, points: usize) -> Vec<u8> {
+    let text = if is_ring(random, points, 60) { good_ring(random, points) } else { disk_line(&disk(random, 12)) };
     let text = match random.below(12) {
         0 => wrong_type(random, text),
+        1 | 2 if points == 24 => wrong_length(random, text),
         1 | 2 => wrong_count(random, text),
         3 => return Vec::new(),
-        4 => very_long(random),
+        4 => very_long(random, if points == 24 { &[b"03"] } else { &[b"020140", b"020140", b"020000", b"020141", b"02ffff"] }),
         5 => non_finite(random, text),
         _ => return broken(random, text),
     };
@@ -129,16 +140,21 @@ fn wrong_count(random: &mut Random, mut text: Vec<u8>) -> Vec<u8> {
     text
 }
 
-fn very_long(random: &mut Random) -> Vec<u8> {
+/// A ring that lacks words or has too many, one of 16 points among them.
+fn wrong_length(random: &mut Random, mut text: Vec<u8>) -> Vec<u8> {
+    text.resize(random.pick(&[2, 3, 10, 194, 258, 378, 385, 387, 394, 514]), b'0');
+    text
+}
+
+fn very_long(random: &mut Random, heads: &[&[u8]]) -> Vec<u8> {
     let length = random.pick(&[12_828, 12_829, 12_830, 12_831, 12_832, 20_000]);
-    let heads: [&[u8]; 5] = [b"020140", b"020140", b"020000", b"020141", b"02ffff"];
-    let mut text = random.pick(&heads).to_vec();
+    let mut text = random.pick(heads).to_vec();
     text.resize(length, b'0');
     text
 }
 
 fn non_finite(random: &mut Random, mut text: Vec<u8>) -> Vec<u8> {
-    let head = if text.starts_with(b"01") { 2 } else { 6 };
+    let head = if text.starts_with(b"02") { 6 } else { 2 };
     let words = (text.len() - head) / 8;
     for _ in 0..random.between(1, 3) {
         let at = head + 8 * random.below(words);

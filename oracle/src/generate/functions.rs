@@ -76,7 +76,7 @@ impl Maker<'_> {
             30..=35 => self.lines(if number == 30 { 1 } else if number == 34 { 4 } else { 2 }),
             40..=45 => self.solving(number),
             50..=54 => self.seeding(number),
-            60..=64 => self.ring_fit(number),
+            60..=65 => self.ring_fit(number),
             70..=77 => self.candidates(number),
             80..=83 => self.scoring(number),
             90..=95 => self.searching(number),
@@ -211,7 +211,7 @@ impl Maker<'_> {
             }
             44 => self.angle(),
             _ => {
-                self.ring();
+                self.ring(16);
                 self.two_angles();
                 self.floats(2, -100.0, 200.0);
                 self.float(0.0, 1e4);
@@ -251,13 +251,13 @@ impl Maker<'_> {
         }
     }
 
-    fn ring(&mut self) {
+    fn ring(&mut self, points: usize) {
         match self.taste {
-            Taste::Bits | Taste::Limits | Taste::Middling if self.random.percent(60) => self.floats(32, -8.0, 8.0),
+            Taste::Bits | Taste::Limits | Taste::Middling if self.random.percent(60) => self.floats(2 * points, -8.0, 8.0),
             _ => {
-                let mut made = ring(self.random);
+                let mut made = ring(self.random, points);
                 if self.taste != Taste::Everyday {
-                    let at = self.random.below(32);
+                    let at = self.random.below(made.len());
                     made[at] = drawn(self.random, self.taste, -8.0, 8.0);
                 }
                 self.words.extend(made);
@@ -268,7 +268,7 @@ impl Maker<'_> {
     fn seeding(&mut self, number: u8) {
         match number {
             50 => {
-                self.ring();
+                self.ring(16);
                 self.float(0.0, 255.0);
             }
             51 | 52 => self.two_angles(),
@@ -322,7 +322,8 @@ impl Maker<'_> {
         match number {
             61 | 62 => return self.suspect(),
             63 if self.random.percent(4) => return self.faint_ring(),
-            _ => self.ring(),
+            65 => return self.ring(24),
+            _ => self.ring(16),
         }
         match number {
             63 => {
@@ -341,7 +342,7 @@ impl Maker<'_> {
 
     /// A ring whose sum of squares about 0 is at its limit, and a variance at its own.
     fn faint_ring(&mut self) {
-        let made = ring(self.random);
+        let made = ring(self.random, 16);
         let samples = opposites(self.random, &[HALF_MILLIONTH], 16);
         self.words.extend(samples.iter().chain(&made[16..]));
         let variance = nudged(self.random, word(1e-6));

@@ -10,22 +10,27 @@ mod values;
 
 use random::Random;
 
+/// The number is that of a ring's points.
 #[derive(Clone, Copy, PartialEq)]
 pub enum Kind {
-    Rings,
+    Rings(usize),
     Disks,
-    Bits,
-    Limits,
-    Damaged,
+    Bits(usize),
+    Limits(usize),
+    Damaged(usize),
     Functions,
 }
 
-pub const KINDS: [(&str, Kind); 6] = [
-    ("rings", Kind::Rings),
+pub const KINDS: [(&str, Kind); 10] = [
+    ("rings", Kind::Rings(16)),
     ("disks", Kind::Disks),
-    ("bits", Kind::Bits),
-    ("limits", Kind::Limits),
-    ("damaged", Kind::Damaged),
+    ("bits", Kind::Bits(16)),
+    ("limits", Kind::Limits(16)),
+    ("damaged", Kind::Damaged(16)),
+    ("rings24", Kind::Rings(24)),
+    ("bits24", Kind::Bits(24)),
+    ("limits24", Kind::Limits(24)),
+    ("damaged24", Kind::Damaged(24)),
     ("functions", Kind::Functions),
 ];
 
@@ -42,11 +47,11 @@ impl List {
     pub fn line(&self, index: u64) -> Vec<u8> {
         let random = &mut Random::new(self.seed, index);
         match self.kind {
-            Kind::Rings => frames::good_ring(random),
+            Kind::Rings(points) => frames::good_ring(random, points),
             Kind::Disks => frames::good_disk(random),
-            Kind::Bits => frames::bits(random),
-            Kind::Limits => frames::limits(random),
-            Kind::Damaged => frames::damaged(random),
+            Kind::Bits(points) => frames::bits(random, points),
+            Kind::Limits(points) => frames::limits(random, points),
+            Kind::Damaged(points) => frames::damaged(random, points),
             Kind::Functions => {
                 let number = self.numbers[random.below(self.numbers.len())];
                 functions::line(random, number)

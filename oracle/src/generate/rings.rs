@@ -1,4 +1,4 @@
-//! Rings as a camera might see them: two dark and two bright sectors on a circle of 16 points.
+//! Rings as a camera might see them: two dark and two bright sectors on a circle of 16 or 24 points.
 
 use super::curves::{atan2, power_of_ten, sin, tanh};
 use super::random::Random;
@@ -11,12 +11,32 @@ const OFFSETS: [(i8, i8); 16] = [
     (0, 5), (-2, 5), (-3, 3), (-5, 2), (-5, 0), (-5, -2), (-3, -3), (-2, -5),
 ];
 
-fn angles(random: &mut Random) -> [f64; 16] {
+/// A quarter of the 24 pixels nearest to a circle of radius 5 and of radius 7, every 15 degrees.
+const QUARTERS: [[(i8, i8); 6]; 2] = [
+    [(5, 0), (5, 1), (4, 3), (4, 4), (3, 4), (1, 5)],
+    [(7, 0), (7, 2), (6, 4), (5, 5), (4, 6), (2, 7)],
+];
+
+/// The pixels of a ring of `n` points around the middle one; of 24 points there are two such rings.
+pub fn pixel_ring(n: usize, which: usize) -> Vec<(i8, i8)> {
+    if n == OFFSETS.len() {
+        return OFFSETS.to_vec();
+    }
+    let turned = |turns: usize| QUARTERS[which].map(|at| (0..turns).fold(at, |(dx, dy), _| (-dy, dx)));
+    (0..4).flat_map(turned).collect()
+}
+
+pub fn angle_of((dx, dy): (i8, i8)) -> f64 {
+    atan2(f64::from(dy), f64::from(dx))
+}
+
+fn angles(random: &mut Random, n: usize) -> Vec<f64> {
     if random.percent(60) {
-        return OFFSETS.map(|(dx, dy)| atan2(f64::from(dy), f64::from(dx)));
+        let which = if n == OFFSETS.len() { 0 } else { random.below(QUARTERS.len()) };
+        return pixel_ring(n, which).into_iter().map(angle_of).collect();
     }
     let phase = random.range(-PI, PI);
-    std::array::from_fn(|i| phase + i as f64 * PI / 8.0)
+    (0..n).map(|i| phase + i as f64 * PI / (n / 2) as f64).collect()
 }
 
 /// Degrees between the axes: mostly near a right angle, often skewed enough to be suspicious.
@@ -59,11 +79,11 @@ fn look(random: &mut Random) -> Look {
     }
 }
 
-fn samples(random: &mut Random, angles: &[f64; 16]) -> [f64; 16] {
+fn samples(random: &mut Random, angles: &[f64]) -> Vec<f64> {
     let look = look(random);
     let first = random.range(0.0, PI);
     let second = first + separation(random) * PI / 180.0;
-    angles.map(|phi| {
+    let sample = |&phi: &f64| {
         let model = tanh(look.slope * sin(phi - first)) * tanh(look.slope * sin(phi - second));
         let value = look.mean + look.amp * model + look.noise * random.noise();
         if look.whole {
@@ -71,43 +91,46 @@ fn samples(random: &mut Random, angles: &[f64; 16]) -> [f64; 16] {
         } else {
             value
         }
-    })
+    };
+    angles.iter().map(sample).collect()
 }
 
 /// Opposite samples cancel: no pair of axes explains them, so seeds have hardly any amplitude.
-fn odd(random: &mut Random, angles: &[f64; 16]) -> [f64; 16] {
+fn odd(random: &mut Random, angles: &[f64]) -> Vec<f64> {
     let amp = power_of_ten(random.range(0.0, 7.0));
     let (phase, part) = (random.range(0.0, PI), random.range(-1.0, 1.0));
-    angles.map(|phi| amp * (sin(phi - phase) + part * sin(3.0 * phi)))
+    angles.iter().map(|phi| amp * (sin(phi - phase) + part * sin(3.0 * phi))).collect()
 }
 
 /// Angles that hardly tell axes apart: all alike, of two directions, or close together.
-fn strange(random: &mut Random) -> [f64; 16] {
+fn strange(random: &mut Random, n: usize) -> Vec<f64> {
     let (first, second) = (random.range(-PI, PI), random.range(-PI, PI));
     let spread = power_of_ten(random.range(-6.0, -1.0));
-    match random.below(4) {
-        0 => [first; 16],
-        1 => std::array::from_fn(|i| if i % 2 == 0 { first } else { second }),
-        2 => std::array::from_fn(|i| first + PI * (i % 2) as f64),
-        _ => std::array::from_fn(|i| first + spread * i as f64),
-    }
+    let form = random.below(4);
+    let angle = |i: usize| match form {
+        0 => first,
+        1 => if i % 2 == 0 { first } else { second },
+        2 => first + PI * (i % 2) as f64,
+        _ => first + spread * i as f64,
+    };
+    (0..n).map(angle).collect()
 }
 
 /// Samples without any order, of any size.
-fn scattered(random: &mut Random) -> [f64; 16] {
+fn scattered(random: &mut Random, n: usize) -> Vec<f64> {
     let amp = if random.percent(20) { random.range(18.0, 19.2) } else { random.range(0.0, 9.0) };
     let amp = power_of_ten(amp);
-    std::array::from_fn(|_| amp * random.noise())
+    (0..n).map(|_| amp * random.noise()).collect()
 }
 
-/// 16 samples, 16 angles.
-pub fn ring(random: &mut Random) -> Vec<u32> {
+/// The samples, then as many angles: 16 or 24.
+pub fn ring(random: &mut Random, n: usize) -> Vec<u32> {
     let is_strange = random.percent(4);
-    let angles = if is_strange { strange(random) } else { angles(random) };
+    let angles = if is_strange { strange(random, n) } else { angles(random, n) };
     let samples = match random.below(25) {
         0 => odd(random, &angles),
-        1 => scattered(random),
-        2..=12 if is_strange => scattered(random),
+        1 => scattered(random, n),
+        2..=12 if is_strange => scattered(random, n),
         _ => samples(random, &angles),
     };
     samples.into_iter().chain(angles).map(word).collect()

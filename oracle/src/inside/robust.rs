@@ -1,7 +1,8 @@
 //! Child module of ring_fit/robust.rs.
 use super::super::inside::{from_words, to_words};
 use super::super::seed::inside::from_words as seed;
-use shapes::{Fit6, Ring, Seed5};
+use crate::Ring;
+use shapes::{Fit6, Seed5};
 
 pub fn fit_ring(ring: &Ring) -> Fit6 {
     to_words(super::fit_ring(&ring.samples, &ring.angles))

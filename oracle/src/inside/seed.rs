@@ -1,6 +1,7 @@
 //! Child module of ring_fit/seed.rs.
 use super::SeedCandidate;
-use shapes::{Ring, Seed5};
+use crate::{Ring, POINTS};
+use shapes::Seed5;
 
 pub(crate) fn to_words(seed: SeedCandidate) -> Seed5 {
     [seed.theta1, seed.theta2, seed.mu, seed.amp, seed.rms]
@@ -23,8 +24,8 @@ pub fn line_separation(theta1: f32, theta2: f32) -> f32 {
     super::line_separation(theta1, theta2)
 }
 
-/// `rows` are the 16 centred values, h1 and h2; `scalars` their sum of squares, mean, theta1 and theta2.
-pub fn score_seed_pair(rows: &[[f32; 16]; 3], scalars: [f32; 4]) -> Option<Seed5> {
+/// `rows` are the centred values, h1 and h2; `scalars` their sum of squares, mean, theta1 and theta2.
+pub fn score_seed_pair(rows: &[[f32; POINTS]; 3], scalars: [f32; 4]) -> Option<Seed5> {
     let [sum_of_squares, mean, theta1, theta2] = scalars;
     super::score_seed_pair(&rows[0], sum_of_squares, mean, &rows[1], &rows[2], theta1, theta2).map(to_words)
 }

@@ -1,6 +1,7 @@
 //! Child module of ring_fit/solver.rs.
 use super::super::inside::to_words;
-use shapes::{Fit6, Ring};
+use crate::Ring;
+use shapes::Fit6;
 
 pub fn solve_4x4(matrix: &[[f32; 4]; 4], right: &[f32; 4]) -> Option<[f32; 4]> {
     super::solve_4x4(matrix, right)
