@@ -22,10 +22,20 @@ use support::Counts;
 
 const REPETITIONS: usize = 9;
 
+/// A ring fit as include/jengubool.h declares it.
+type FitRing = unsafe extern "C" fn(
+    samples: *const f32, samples_len: usize, angles: *const f32, angles_len: usize,
+    fit: *mut f32, fit_len: usize, counts: *mut u32, counts_len: usize,
+) -> u32;
+
 #[link(name = "jengubool", kind = "static")]
 extern "C" {
-    // As include/jengubool.h declares it.
+    // As include/jengubool.h declares them.
     fn jb_fit_ring(
+        samples: *const f32, samples_len: usize, angles: *const f32, angles_len: usize,
+        fit: *mut f32, fit_len: usize, counts: *mut u32, counts_len: usize,
+    ) -> u32;
+    fn jb_fit_ring24(
         samples: *const f32, samples_len: usize, angles: *const f32, angles_len: usize,
         fit: *mut f32, fit_len: usize, counts: *mut u32, counts_len: usize,
     ) -> u32;
@@ -36,11 +46,12 @@ extern "C" {
     ) -> u32;
 }
 
-fn ours_ring(ring: &Ring) -> Fit6 {
+#[inline]
+fn ours_by<const N: usize>(call: FitRing, ring: &Ring<N>) -> Fit6 {
     let (mut fit, mut counts) = ([0.0; 6], [0; 4]);
     // SAFETY: each pointer stands with the length of its array, and no two arrays overlap.
     let refusal = unsafe {
-        jb_fit_ring(
+        call(
             ring.samples.as_ptr(), ring.samples.len(), ring.angles.as_ptr(), ring.angles.len(),
             fit.as_mut_ptr(), fit.len(), counts.as_mut_ptr(), counts.len(),
         )
@@ -48,6 +59,14 @@ fn ours_ring(ring: &Ring) -> Fit6 {
     assert_eq!(refusal, 0, "our fit refuses a frame that passed the checks");
     black_box(counts);
     fit
+}
+
+fn ours_ring(ring: &Ring<16>) -> Fit6 {
+    ours_by(jb_fit_ring, ring)
+}
+
+fn ours_ring24(ring: &Ring<24>) -> Fit6 {
+    ours_by(jb_fit_ring24, ring)
 }
 
 /// The nine words of a disk's fit and the errors of its axes.
@@ -87,15 +106,16 @@ fn plain_disk(disk: &Disk, base0: f32, base1: f32) -> Option<Fit11> {
 }
 
 struct Engine {
-    ring: fn(&Ring) -> Fit6,
+    ring: fn(&Ring<16>) -> Fit6,
     disk: fn(&Disk, f32, f32) -> Option<Fit11>,
+    ring24: fn(&Ring<24>) -> Fit6,
 }
 
 /// Ours first; then those that it is held against.
 const ENGINES: [Engine; 3] = [
-    Engine { ring: ours_ring, disk: ours_disk },
-    Engine { ring: libm::ring::robust::fit_ring, disk: libm_disk },
-    Engine { ring: plain::ring::robust::fit_ring, disk: plain_disk },
+    Engine { ring: ours_ring, disk: ours_disk, ring24: ours_ring24 },
+    Engine { ring: libm::ring::robust::fit_ring, disk: libm_disk, ring24: libm24::ring::robust::fit_ring },
+    Engine { ring: plain::ring::robust::fit_ring, disk: plain_disk, ring24: plain24::ring::robust::fit_ring },
 ];
 const LIBM: usize = 1;
 const PLAIN: usize = 2;
@@ -105,6 +125,7 @@ impl Engine {
         match frame {
             Frame::Ring(ring) => drop(black_box((self.ring)(black_box(ring)))),
             Frame::Disk(disk, bases) => drop(black_box((self.disk)(black_box(disk), bases[0], bases[1]))),
+            Frame::Ring24(ring) => drop(black_box((self.ring24)(black_box(ring)))),
         }
     }
 
@@ -114,6 +135,7 @@ impl Engine {
         match frame {
             Frame::Ring(ring) => bits(&(self.ring)(ring)),
             Frame::Disk(disk, bases) => (self.disk)(disk, bases[0], bases[1]).map_or(Vec::new(), |words| bits(&words)),
+            Frame::Ring24(ring) => bits(&(self.ring24)(ring)),
         }
     }
 }
@@ -138,42 +160,35 @@ struct Group {
     turns: usize,
 }
 
-const GROUPS: [Group; 7] = [
-    Group {
-        name: "ring, clean",
-        kind: Kind::Rings,
-        holds: |counts| !counts.suspicious,
-        pixels: [0, 0],
-        bars: Bars { bar: Some(0.31), aim: Some(0.28) },
-        frames: 2000,
-        block: 100,
-        turns: 12,
-    },
-    Group {
-        name: "ring, two starts",
-        kind: Kind::Rings,
-        holds: |counts| counts.starts == 2,
-        pixels: [0, 0],
-        bars: Bars { bar: Some(0.27), aim: Some(0.22) },
-        frames: 1000,
-        block: 10,
-        turns: 10,
-    },
-    Group {
-        name: "ring, as they come",
-        kind: Kind::Rings,
-        holds: |_| true,
-        pixels: [0, 0],
-        bars: Bars { bar: Some(0.28), aim: None },
-        frames: 1000,
-        block: 20,
-        turns: 10,
-    },
+const GROUPS: [Group; 10] = [
+    clean("ring, clean", 16),
+    two_starts("ring, two starts", 16),
+    as_they_come("ring, as they come", 16),
+    clean("ring24, clean", 24),
+    two_starts("ring24, two starts", 24),
+    as_they_come("ring24, as they come", 24),
     disks("disk, 50 pixels", [45, 55], None, None),
     disks("disk, 100 pixels", [90, 110], None, None),
     disks("disk, 200 pixels", [185, 215], Some(0.18), Some(0.16)),
     disks("disk, 320 pixels", [300, 320], None, None),
 ];
+
+const fn clean(name: &'static str, points: usize) -> Group {
+    let bars = Bars { bar: Some(0.31), aim: Some(0.28) };
+    let holds = |counts: &Counts| !counts.suspicious;
+    Group { name, kind: Kind::Rings(points), holds, pixels: [0, 0], bars, frames: 2000, block: 100, turns: 12 }
+}
+
+const fn two_starts(name: &'static str, points: usize) -> Group {
+    let bars = Bars { bar: Some(0.27), aim: Some(0.22) };
+    let holds = |counts: &Counts| counts.starts == 2;
+    Group { name, kind: Kind::Rings(points), holds, pixels: [0, 0], bars, frames: 1000, block: 10, turns: 10 }
+}
+
+const fn as_they_come(name: &'static str, points: usize) -> Group {
+    let bars = Bars { bar: Some(0.28), aim: None };
+    Group { name, kind: Kind::Rings(points), holds: |_| true, pixels: [0, 0], bars, frames: 1000, block: 20, turns: 10 }
+}
 
 const fn disks(name: &'static str, pixels: [usize; 2], bar: Option<f64>, aim: Option<f64>) -> Group {
     Group { name, kind: Kind::Disks, holds: |_| true, pixels, bars: Bars { bar, aim }, frames: 120, block: 4, turns: 4 }
@@ -187,9 +202,11 @@ struct Program {
     bars: Bars,
 }
 
-const PROGRAMS: [Program; 4] = [
-    Program { kind: Kind::Rings, against: "oracle frames", command: "frames", bars: Bars { bar: Some(0.8), aim: None } },
-    Program { kind: Kind::Rings, against: "oracle once", command: "once", bars: Bars { bar: Some(0.27), aim: None } },
+const PROGRAMS: [Program; 6] = [
+    Program { kind: Kind::Rings(16), against: "oracle frames", command: "frames", bars: Bars { bar: Some(0.8), aim: None } },
+    Program { kind: Kind::Rings(16), against: "oracle once", command: "once", bars: Bars { bar: Some(0.27), aim: None } },
+    Program { kind: Kind::Rings(24), against: "oracle frames", command: "frames", bars: Bars { bar: Some(0.8), aim: None } },
+    Program { kind: Kind::Rings(24), against: "oracle once", command: "once", bars: Bars { bar: Some(0.27), aim: None } },
     Program { kind: Kind::Disks, against: "oracle frames", command: "frames", bars: Bars { bar: Some(0.8), aim: None } },
     Program { kind: Kind::Disks, against: "oracle once", command: "once", bars: Bars { bar: None, aim: None } },
 ];
@@ -234,7 +251,7 @@ fn frames_of(group: &Group, list: &List) -> Vec<Frame> {
 
 fn pixels_of(line: &[u8]) -> Option<usize> {
     match parse(line).ok()? {
-        Frame::Ring(_) => Some(0),
+        Frame::Ring(_) | Frame::Ring24(_) => Some(0),
         Frame::Disk(disk, _) => Some(disk.count),
     }
 }
@@ -352,6 +369,7 @@ pub fn once(line: &[u8]) -> Vec<u8> {
             Some(fit) => (b"8200", fit.to_vec(), 6),
             None => return b"82040000".to_vec(),
         },
+        Ok(Frame::Ring24(ring)) => (b"8300", libm24::ring::robust::fit_ring(&ring).to_vec(), 8),
         Err(_) => return answer(line).line,
     };
     let mut text = head.to_vec();

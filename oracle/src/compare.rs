@@ -5,7 +5,8 @@ use crate::functions;
 use crate::generate::List;
 use crate::paths::Paths;
 use std::io::{self, BufRead, BufReader, BufWriter, Write};
-use std::process::{Child, Command, Stdio};
+use std::process::{Child, ChildStdout, Command, Stdio};
+use std::thread::JoinHandle;
 use std::time::{Duration, Instant};
 
 #[derive(Clone, Copy, PartialEq)]
@@ -96,12 +97,11 @@ impl Tally {
 
 /// The writer makes the lines by itself and never waits for the comparison, so a program that reads everything
 /// before it answers, or stops early, can not block the two.
-fn feed(list: List, child: &mut Child) -> std::thread::JoinHandle<()> {
+fn feed(lines: impl Iterator<Item = Vec<u8>> + Send + 'static, child: &mut Child) -> JoinHandle<()> {
     let input = child.stdin.take().expect("a pipe");
     std::thread::spawn(move || {
         let mut input = BufWriter::with_capacity(1 << 16, input);
-        for index in 0..list.count {
-            let mut line = list.line(index);
+        for mut line in lines {
             line.push(b'\n');
             if input.write_all(&line).is_err() {
                 // The program has gone; the missing answers are counted by the reader.
@@ -112,49 +112,71 @@ fn feed(list: List, child: &mut Child) -> std::thread::JoinHandle<()> {
     })
 }
 
-/// The next answer of the program, without its line feed. A last line that lacks it is marked, and so differs.
-fn next_answer(output: &mut impl BufRead) -> io::Result<Option<Vec<u8>>> {
-    let mut answer = Vec::new();
-    if output.read_until(b'\n', &mut answer)? == 0 {
-        return Ok(None);
+/// A program that is answering lines.
+pub struct Running {
+    child: Child,
+    writer: JoinHandle<()>,
+    output: BufReader<ChildStdout>,
+}
+
+impl Running {
+    /// `program` is a command with its words.
+    pub fn start(program: &str, lines: impl Iterator<Item = Vec<u8>> + Send + 'static) -> io::Result<Self> {
+        let mut words = program.split_whitespace();
+        let mut command = Command::new(words.next().unwrap_or_default());
+        let mut child = command.args(words).stdin(Stdio::piped()).stdout(Stdio::piped()).spawn()?;
+        let writer = feed(lines, &mut child);
+        let output = BufReader::with_capacity(1 << 16, child.stdout.take().expect("a pipe"));
+        Ok(Self { child, writer, output })
     }
-    if answer.pop() != Some(b'\n') {
-        answer.extend_from_slice(b" (without a line feed)");
+
+    /// The next answer, without its line feed. A last line that lacks it is marked, and so differs.
+    pub fn next_answer(&mut self) -> io::Result<Option<Vec<u8>>> {
+        let mut answer = Vec::new();
+        if self.output.read_until(b'\n', &mut answer)? == 0 {
+            return Ok(None);
+        }
+        if answer.pop() != Some(b'\n') {
+            answer.extend_from_slice(b" (without a line feed)");
+        }
+        Ok(Some(answer))
     }
-    Ok(Some(answer))
+
+    /// True where the program ended well. What it still writes is read and of no account.
+    pub fn end(mut self) -> io::Result<bool> {
+        io::copy(&mut self.output, &mut io::sink())?;
+        self.writer.join().expect("the writer ends");
+        let status = self.child.wait()?;
+        if !status.success() {
+            println!("the program ended with {status}");
+        }
+        Ok(status.success())
+    }
 }
 
 /// True where nothing differs and the program ended well.
 pub fn compare(program: &str, lines: Lines, list: &List, served: &Served) -> io::Result<bool> {
-    let mut words = program.split_whitespace();
-    let mut command = Command::new(words.next().unwrap_or_default());
-    let mut child = command.args(words).stdin(Stdio::piped()).stdout(Stdio::piped()).spawn()?;
-    let writer = feed(list.clone(), &mut child);
-    let mut output = BufReader::with_capacity(1 << 16, child.stdout.take().expect("a pipe"));
+    let made = list.clone();
+    let mut running = Running::start(program, (0..list.count).map(move |index| made.line(index)))?;
     let (mut oracle, mut tally) = (Oracle::new(lines, served), Tally { differences: 0 });
     let mut progress = Progress::new(list.count);
     for index in 0..list.count {
         let line = list.line(index);
-        let (ours, theirs) = (oracle.answer(&line), next_answer(&mut output)?);
+        let (ours, theirs) = (oracle.answer(&line), running.next_answer()?);
         if Some(&ours) != theirs.as_ref() {
             tally.differ(index, &line, Some(&ours), theirs.as_deref());
         }
         progress.at(index + 1);
     }
     let mut extra = list.count;
-    while let Some(answer) = next_answer(&mut output)? {
+    while let Some(answer) = running.next_answer()? {
         tally.differ(extra, b"(none)", None, Some(&answer));
         extra += 1;
     }
-    writer.join().expect("the writer ends");
-    let status = child.wait()?;
     println!("{:>12}  lines compared, in {:.1} s", list.count, progress.seconds());
     println!("{:>12}  differences", tally.differences);
     oracle.paths.print();
-    if !status.success() {
-        println!("the program ended with {status}");
-    }
-    Ok(tally.differences == 0 && status.success())
+    Ok(running.end()? && tally.differences == 0)
 }
 
 /// The oracle alone: the ways a list goes, and how fast.

@@ -5,6 +5,7 @@ mod bench;
 mod both;
 mod checked;
 mod compare;
+mod corners;
 mod functions;
 mod generate;
 mod options;
@@ -21,7 +22,8 @@ const USAGE: &str = "usage: oracle frames
        oracle compare --program PATH --lines frames|functions --kind KIND --count N --seed S [--numbers LIST] [--types LIST]
        oracle list --lines frames|functions --kind KIND --count N --seed S [--numbers LIST] [--types LIST] --out DIR
        oracle paths --lines frames|functions --kind KIND --count N --seed S [--numbers LIST] [--types LIST]
-       oracle bench --kind rings|disks --count N --seed S [--program PATH]
+       oracle corners --program PATH --count N --seed S
+       oracle bench --kind rings|rings24|disks --count N --seed S [--program PATH]
        oracle once
 KIND is rings, disks, bits, limits, damaged, rings24, bits24, limits24, damaged24 or functions; NUMBERS and LIST are such as 10-17,20-24
 --numbers chooses the functions that lines are made for; a frame outside --types (01,02,03) is answered as malformed";
@@ -80,6 +82,11 @@ fn run(words: &[String]) -> Result<bool, String> {
             let options = Options::read(rest)?;
             compare::paths(options.lines()?, &options.list()?, &options.served());
             Ok(true)
+        }
+        "corners" => {
+            let options = Options::read(rest)?;
+            let program = options.need("--program")?;
+            corners::corners(program, options.whole("--count")?, options.whole("--seed")?).map_err(|error| format!("{program}: {error}"))
         }
         #[cfg(timed)]
         "once" if rest.is_empty() => answer_lines(bench::once).map_err(say).map(|()| true),

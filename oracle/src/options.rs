@@ -32,6 +32,10 @@ impl Options {
         self.find(name).ok_or(format!("{name} is missing"))
     }
 
+    pub fn whole(&self, name: &str) -> Result<u64, String> {
+        whole(self.need(name)?)
+    }
+
     pub fn lines(&self) -> Result<Lines, String> {
         match self.need("--lines")? {
             "frames" => Ok(Lines::Frames),

@@ -1,5 +1,6 @@
 //! Lines of input, fixed by kind, seed and place in the list.
 
+pub mod corners;
 mod curves;
 mod disks;
 mod frames;
