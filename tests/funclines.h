@@ -1,4 +1,4 @@
-/* What libfunclines.a (10 to 64) and libfunclines_disk.a (70 to 95) export: each function calls the ported function of
+/* What libfunclines.a (10 to 65) and libfunclines_disk.a (70 to 95) export: each function calls the ported function of
  * its name, and asks what that one asks of lengths and counts: tests/funclines.c tests them before it calls. Here
  * `const float x[N]` is Rattle's `&[f32; N]`, and a pointer with a length behind it a slice. */
 #ifndef FUNCLINES_H
@@ -9,6 +9,7 @@
 #include <stdint.h>
 
 #define SAMPLES 16
+#define SAMPLES24 24
 #define ANGLES 64
 #define PAIRED_ANGLES 24
 #define PAIRS 276
@@ -74,7 +75,7 @@ struct seed5 fl_score_seed_pair(const float centered[SAMPLES], float centered_su
                                 const float h1[SAMPLES], const float h2[SAMPLES], float theta1, float theta2);
 struct seed5 fl_insert_seed_candidate(struct seed5 top, const float candidate[5]);
 
-/* 60 to 64 */
+/* 60 to 65 */
 struct ring fl_fit_ring(const float samples[SAMPLES], const float ring_phi[SAMPLES]);
 bool fl_fit_is_suspicious(const float fit[6]);
 float fl_relative_rms(const float fit[6]);
@@ -82,6 +83,7 @@ struct start fl_robust_grid_fit(const float samples[SAMPLES], const float ring_p
                                 float centered_var);
 struct start fl_refine_seed_candidates(const float samples[SAMPLES], const float ring_phi[SAMPLES],
                                        float centered_var, struct seed5 top);
+struct ring fl_fit_ring24(const float samples[SAMPLES24], const float ring_phi[SAMPLES24]);
 
 /* 70 to 77 */
 struct set fl_push_unique(struct set set, float angle, float min_sep);
