@@ -1,6 +1,7 @@
-"""The ring fit a second time, over any number of points, from docs/RULES.md, Ring: oracle/check holds the oracle to it.
+"""The ring fit a second time, over any number of points: docs/RULES.md, Ring, with the Rust's order of operations.
 
-For 16 points it must answer as the Rust text does, and so its word counts for 24, for which there is no Rust.
+oracle/check holds the oracle to it. For 16 points it must answer as the Rust text does, and so its word counts for 24, for
+which there is no Rust.
 
 Each operator is one `f32` operation: a double's result, rounded once. What has no number of points in it is asked by function
 lines: sine, cosine, tanh, atan2, square root, radians, elimination (40), errors (41), the degenerate fit (42), canonical axes

@@ -46,7 +46,7 @@ extern "C" {
     ) -> u32;
 }
 
-#[inline]
+#[inline(always)]
 fn ours_by<const N: usize>(call: FitRing, ring: &Ring<N>) -> Fit6 {
     let (mut fit, mut counts) = ([0.0; 6], [0; 4]);
     // SAFETY: each pointer stands with the length of its array, and no two arrays overlap.
