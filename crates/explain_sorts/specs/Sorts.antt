@@ -6,7 +6,7 @@ use lib.ListN.{length}
 use lib.Dec.{eqb, ltb}
 use lib.Ieee.Scale.{finite}
 use Rattle.hex.specs.Hex.{byteOf, wordOf, valueOf}
-use Rattle.shapes.specs.Shapes.{shapeOf, fitLength}
+use Rattle.shapes.specs.Shapes.{shapeOf, fitLength, samplesOf}
 use Rattle.shapes.specs.declared.Shape.{Shape}
 use Rattle.shapes.specs.declared.Shape.the-variants as Shapes
 use Rattle.shapes.specs.declared.Fault.{Fault}
@@ -54,8 +54,14 @@ abbrev pub bad : ℕ → ℕ → ℕ → ℕ → Sort
 bad why kind number pixels = Bad (record { why = why; kind = kind; number = number; pixels = pixels })
 
 -- ---- answers (docs/RULES.md, Frame lines): a ring's refusal has number 1 or 3, a disk's 1 to 4, that of type ff 5
+abbrev pub isRingAnswer : ℕ → Bool
+isRingAnswer kind = eqb kind 129 || eqb kind 131
+
+abbrev pub isDiskAnswer : ℕ → Bool
+isDiskAnswer kind = eqb kind 130
+
 unfoldable pub isOf : ℕ → ℕ → Bool
-isOf kind number = cond (eqb kind 129) (eqb number 1 || eqb number 3) (cond (eqb kind 130) (ltb number 5) (eqb number 5))
+isOf kind number = cond (isRingAnswer kind) (eqb number 1 || eqb number 3) (cond (isDiskAnswer kind) (ltb number 5) (eqb number 5))
 
 unfoldable pub refusalSort : List ℕ → ℕ → Sort
 refusalSort l kind =
@@ -63,25 +69,24 @@ refusalSort l kind =
     cond (eqb number 0 || ltb 5 number) (bad noNumber kind number 0)
     (cond (isOf kind number) (Refused (record { kind = kind; number = number; place = byteOf l 4 * 256 + byteOf l 6 })) (bad strangeNumber kind number 0))
 
-unfoldable pub fitAnswer : List ℕ → ℕ → Bool → Sort
-fitAnswer l kind disk =
+unfoldable pub fitAnswer : List ℕ → ℕ → Sort
+fitAnswer l kind =
     cond (eqb (length l) 8) (refusalSort l kind)
-    (cond (not (eqb (length l) (fitLength disk))) (bad answerLength kind 0 0)
-    (cond (not (eqb (byteOf l 2) 0)) (bad fitNumber kind (byteOf l 2) 0) (Fit disk)))
+    (cond (not (eqb (length l) (fitLength (isDiskAnswer kind)))) (bad answerLength kind 0 0)
+    (cond (not (eqb (byteOf l 2) 0)) (bad fitNumber kind (byteOf l 2) 0) (Fit kind)))
 
 unfoldable pub malformedAnswer : List ℕ → Sort
 malformedAnswer l = cond (eqb (length l) 8) (refusalSort l 255) (bad answerLength 255 0 0)
 
 unfoldable pub answerSort : List ℕ → ℕ → Sort
 answerSort l kind =
-    cond (eqb kind 129) (fitAnswer l 129 false)
-    (cond (eqb kind 130) (fitAnswer l 130 true) (cond (eqb kind 255) (malformedAnswer l) (bad unknownType kind 0 0)))
+    cond (isRingAnswer kind || isDiskAnswer kind) (fitAnswer l kind) (cond (eqb kind 255) (malformedAnswer l) (bad unknownType kind 0 0))
 
 abbrev pub faultSort : Fault → Sort
 faultSort Faults.TooLong = bad tooLong 0 0 0
 faultSort Faults.Foreign = bad foreign 0 0 0
 faultSort Faults.Short = bad short 0 0 0
-faultSort Faults.RingLength = bad ringBadLength 0 0 0
+faultSort (Faults.RingLength kind) = bad ringBadLength kind 0 0
 faultSort Faults.DiskShort = bad diskShort 0 0 0
 faultSort (Faults.DiskLength n) = bad diskBadLength 0 0 n
 
@@ -104,7 +109,7 @@ valued l line kind pixels at n =
     (refusedAbove line kind pixels 0)
 
 abbrev pub shapeSort : List ℕ → ℕ → Shape → Sort
-shapeSort l line Shapes.Ring = Frame (valued l line 1 0 2 32)
+shapeSort l line (Shapes.Ring kind) = Frame (valued l line kind 0 2 (2 * samplesOf kind))
 shapeSort l line (Shapes.Disk n) = Frame (valued l line 2 n 6 (3 + 5 * n))
 shapeSort l line (Shapes.BadCount n) = Frame (refusedAbove line 2 n 2)
 shapeSort l line (Shapes.OtherType kind) = answerSort l kind
@@ -117,7 +122,7 @@ sortOf l skip line = cond skip (bad tooLong 0 0 0) (shapeSort l line (shapeOf l)
 -- what a reader of an answer relies on
 abbrev pub SortSound : ℕ → Sort → Type 0
 SortSound size (Frame a) = 0 ≤ size
-SortSound size (Fit disk) = fitLength disk ≤ size
+SortSound size (Fit kind) = fitLength (isDiskAnswer kind) ≤ size
 SortSound size (Refused r) = r .place ≤ 65535
 SortSound size (Bad w) = 0 ≤ size
 
@@ -127,7 +132,7 @@ badAbove w line = refusedAbove line 255 0 (cond (ltb (w .why) answerLength) 5 0)
 
 abbrev pub aboveOf : Sort → ℕ → Above
 aboveOf (Frame a) line = a
-aboveOf (Fit r) line = nothing
+aboveOf (Fit kind) line = nothing
 aboveOf (Refused r) line = nothing
 aboveOf (Bad w) line = badAbove w line
 
@@ -138,21 +143,18 @@ answerType kind = cond (ltb kind 128) (kind + 128) kind
 unfoldable pub belongs : Above → ℕ → ℕ → ℕ → Bool
 belongs a kind number place =
     cond (not (eqb (a .number) 0)) (eqb kind (answerType (a .kind)) && eqb number (a .number) && eqb place (a .place))
-    (cond (eqb (a .kind) 1) (eqb kind 129 && eqb number 0)
+    (cond (eqb (a .kind) 1 || eqb (a .kind) 3) (eqb kind (answerType (a .kind)) && eqb number 0)
     (cond (eqb (a .kind) 2) (eqb kind 130 && (eqb number 0 || eqb number 4)) true))
-
-abbrev pub fitType : Bool → ℕ
-fitType disk = cond disk 130 129
 
 -- ---- whether a line is no answer, so that the frame above has none; and whether it is an answer that is not that of the frame above
 abbrev pub isAlone : Sort → Bool
 isAlone (Frame a) = true
-isAlone (Fit disk) = false
+isAlone (Fit kind) = false
 isAlone (Refused r) = false
 isAlone (Bad w) = true
 
 abbrev pub isStrange : Sort → Above → Bool
 isStrange (Frame b) a = false
-isStrange (Fit disk) a = not (belongs a (fitType disk) 0 0)
+isStrange (Fit kind) a = not (belongs a kind 0 0)
 isStrange (Refused r) a = not (belongs a (r .kind) (r .number) (r .place))
 isStrange (Bad w) a = false

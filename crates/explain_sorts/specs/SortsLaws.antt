@@ -28,6 +28,6 @@ pub fault-sound : (size : ℕ) (fault : Fault) → SortSound size (faultSort fau
 fault-sound size TooLong = omega arith
 fault-sound size Foreign = omega arith
 fault-sound size Short = omega arith
-fault-sound size RingLength = omega arith
+fault-sound size (RingLength kind) = omega arith
 fault-sound size DiskShort = omega arith
 fault-sound size (DiskLength n) = omega arith

@@ -62,11 +62,11 @@ pub struct Above {
     pub bits: u32,
 }
 
-// A frame, whose count of pixels may be one that is refused; a disk's or a ring's fit; a refusal; none
-// of these.
+// A frame, whose count of pixels may be one that is refused; a fit, of its answer's type; a refusal;
+// none of these.
 pub enum Sort {
     Frame(Above),
-    Fit(bool),
+    Fit(u32),
     Refused(Refusal),
     Bad(Wrong),
 }
@@ -86,7 +86,7 @@ fn bad(why: u32, kind: u32, number: u32, pixels: u32) -> Sort
 fn is_of(kind: u32, number: u32) -> bool
     ensures { λ r. ⌜ r ≡ S.isOf kind number ⌝ }
 {
-    if kind == 129 {
+    if (kind == 129) | (kind == 131) {
         return (number == 1) | (number == 3);
     }
     if kind == 130 {
@@ -114,12 +114,22 @@ fn refusal_sort(line: &[u8], kind: u32) -> Sort
     bad(STRANGE_NUMBER, kind, number, 0)
 }
 
-// An answer of a type whose fits have `size` characters.
-fn fit_answer(line: &[u8], kind: u32, size: usize, disk: bool) -> Sort
-    requires { ⌜ (4 ≤ size) × (size ≡ fitLength disk) ⌝ }
-    ensures { λ r. ⌜ (r ≡ S.fitAnswer (now (line .entry)) kind disk) × S.SortSound (length (now (line .entry))) r ⌝ }
+// How many characters a fit of a type has.
+fn fit_size(kind: u32) -> usize
+    ensures { λ r. ⌜ (4 ≤ r) × (r ≡ fitLength (S.isDiskAnswer kind)) ⌝ }
+{
+    if kind == 130 {
+        return 98;
+    }
+    60
+}
+
+// An answer of a type that has fits.
+fn fit_answer(line: &[u8], kind: u32) -> Sort
+    ensures { λ r. ⌜ (r ≡ S.fitAnswer (now (line .entry)) kind) × S.SortSound (length (now (line .entry))) r ⌝ }
 {
     let n = line.len();
+    let size = fit_size(kind);
     if n == 8 {
         return refusal_sort(line, kind);
     }
@@ -130,7 +140,7 @@ fn fit_answer(line: &[u8], kind: u32, size: usize, disk: bool) -> Sort
     if number != 0 {
         return bad(FIT_NUMBER, kind, number, 0);
     }
-    Sort::Fit(disk)
+    Sort::Fit(kind)
 }
 
 fn malformed_answer(line: &[u8]) -> Sort
@@ -145,11 +155,8 @@ fn malformed_answer(line: &[u8]) -> Sort
 fn answer_sort(line: &[u8], kind: u32) -> Sort
     ensures { λ r. ⌜ (r ≡ S.answerSort (now (line .entry)) kind) × S.SortSound (length (now (line .entry))) r ⌝ }
 {
-    if kind == 129 {
-        return fit_answer(line, 129, 60, false);
-    }
-    if kind == 130 {
-        return fit_answer(line, 130, 98, true);
+    if (kind == 129) | (kind == 131) | (kind == 130) {
+        return fit_answer(line, kind);
     }
     if kind == 255 {
         return malformed_answer(line);
@@ -164,7 +171,7 @@ fn fault_sort(fault: Fault) -> Sort
         Fault::TooLong => bad(TOO_LONG, 0, 0, 0),
         Fault::Foreign => bad(FOREIGN, 0, 0, 0),
         Fault::Short => bad(SHORT, 0, 0, 0),
-        Fault::RingLength => bad(RING_LENGTH, 0, 0, 0),
+        Fault::RingLength(kind) => bad(RING_LENGTH, kind, 0, 0),
         Fault::DiskShort => bad(DISK_SHORT, 0, 0, 0),
         Fault::DiskLength(n) => bad(DISK_LENGTH, 0, 0, n),
     }
@@ -247,7 +254,14 @@ pub fn sort_of(line: &[u8], skip: bool, number: u64) -> Sort
     }
     let shape = shapes::shape_of(line);
     match shape {
-        Shape::Ring => Sort::Frame(valued(line, number, 1, 0, 2, 32)),
+        Shape::Ring(kind) => Sort::Frame(valued(
+            line,
+            number,
+            kind,
+            0,
+            2,
+            2 * shapes::samples_of(kind),
+        )),
         Shape::Disk(n) => Sort::Frame(valued(line, number, 2, n, 6, 3 + 5 * (n as usize))),
         Shape::BadCount(n) => Sort::Frame(refused_above(number, 2, n, 2)),
         Shape::OtherType(kind) => answer_sort(line, kind),
@@ -291,11 +305,12 @@ pub fn answer_type(kind: u32) -> u32
 pub fn belongs(a: Above, kind: u32, number: u32, place: u32) -> bool
     ensures { λ r. ⌜ r ≡ S.belongs a kind number place ⌝ }
 {
+    let due = answer_type(a.kind);
     if a.number != 0 {
-        return (kind == answer_type(a.kind)) & (number == a.number) & (place == a.place);
+        return (kind == due) & (number == a.number) & (place == a.place);
     }
-    if a.kind == 1 {
-        return (kind == 129) & (number == 0);
+    if (a.kind == 1) | (a.kind == 3) {
+        return (kind == due) & (number == 0);
     }
     if a.kind == 2 {
         return (kind == 130) & ((number == 0) | (number == 4));
@@ -315,22 +330,13 @@ pub fn is_alone(sort: Sort) -> bool
     }
 }
 
-fn fit_type(disk: bool) -> u32
-    ensures { λ r. ⌜ r ≡ S.fitType disk ⌝ }
-{
-    if disk {
-        return 130;
-    }
-    129
-}
-
 // Whether it is an answer, and not that of the frame above it.
 pub fn is_strange(sort: Sort, a: Above) -> bool
     ensures { λ r. ⌜ r ≡ S.isStrange sort a ⌝ }
 {
     match sort {
         Sort::Frame(_) => false,
-        Sort::Fit(disk) => !belongs(a, fit_type(disk), 0, 0),
+        Sort::Fit(kind) => !belongs(a, kind, 0, 0),
         Sort::Refused(r) => !belongs(a, r.kind, r.number, r.place),
         Sort::Bad(_) => false,
     }

@@ -7,31 +7,22 @@ use Rattle.explain_sorts.proofs.answer_sort.Tie as tie
 
 returns : tie.Need-returns
 unfolding S.answerSort
-returns c = (rw (eq-eqb _ _ (c .before .if1 .taken)) (c .fit-answer .ensures .0), c .fit-answer .ensures .1)
+returns c = (rw (c .before .if1 .taken) (c .fit-answer .ensures .0), c .fit-answer .ensures .1)
 
 returns-2 : tie.Need-returns-2
 unfolding S.answerSort
-returns-2 c = (rw (ne-eqb _ _ (c .before .before .if1 .left), eq-eqb _ _ (c .before .if2 .taken)) (c .fit-answer2 .ensures .0), c .fit-answer2 .ensures .1)
+returns-2 c =
+    let b2 = c .before .before in
+    (rw (b2 .if1 .left, eq-eqb _ _ (c .before .if2 .taken)) (c .malformed-answer .ensures .0), c .malformed-answer .ensures .1)
 
 returns-3 : tie.Need-returns-3
 unfolding S.answerSort
 returns-3 c =
     let b2 = c .before .before in
-    let b3 = b2 .before in (
-      rw (ne-eqb _ _ (b3 .if1 .left), ne-eqb _ _ (b2 .if2 .left), eq-eqb _ _ (c .before .if3 .taken)) (c .malformed-answer .ensures .0),
-      c .malformed-answer .ensures .1,
-    )
-
-returns-4 : tie.Need-returns-4
-unfolding S.answerSort
-returns-4 c =
-    let b2 = c .before .before in
-    let b3 = b2 .before in
-    rw (c .bad .ensures) (rw (ne-eqb _ _ (b3 .if1 .left), ne-eqb _ _ (b2 .if2 .left), ne-eqb _ _ (c .before .if3 .left)), search needs)
+    rw (c .bad .ensures) (rw (b2 .if1 .left, ne-eqb _ _ (c .before .if2 .left)), search needs)
 
 pub answer-sort-spec : {M : Type 1} → statement M
 answer-sort-spec =
     tie.close
     (tie.spec
-    (λ c κs. search needs) returns (λ c κs. search needs) returns-2 (λ c κs. search needs) returns-3
-    (λ c κs. search needs) returns-4)
+    (λ c κs. search needs) returns (λ c κs. search needs) returns-2 (λ c κs. search needs) returns-3)

@@ -7,23 +7,27 @@ use Rattle.explain_sorts.proofs.belongs.Tie as tie
 
 returns : tie.Need-returns
 unfolding S.belongs
-returns c = rw (ne-eqb _ _ (c .before .before .before .if1 .taken), c .before .before .answer-type .ensures)
+returns c =
+    let b2 = c .before .before in
+    rw (ne-eqb _ _ (b2 .if1 .taken), b2 .before .before .answer-type .ensures)
 
 returns-2 : tie.Need-returns-2
 unfolding S.belongs
-returns-2 c = rw (eq-eqb _ _ (c .before .before .if1 .left), eq-eqb _ _ (c .if2 .taken))
+returns-2 c =
+    let b3 = c .before .before .before in
+    rw (eq-eqb _ _ (b3 .if1 .left), c .if2 .taken, b3 .before .before .answer-type .ensures)
 
 returns-3 : tie.Need-returns-3
 unfolding S.belongs
 returns-3 c =
-    let b4 = c .before .before .before .before in
-    rw (eq-eqb _ _ (b4 .if1 .left), ne-eqb _ _ (c .before .before .if2 .left), eq-eqb _ _ (c .if3 .taken))
+    let b2 = c .before .before in
+    rw (eq-eqb _ _ (b2 .before .before .before .if1 .left), b2 .if2 .left, eq-eqb _ _ (c .if3 .taken))
 
 returns-4 : tie.Need-returns-4
 unfolding S.belongs
 returns-4 c =
-    let b4 = c .before .before .before .before in
-    rw (eq-eqb _ _ (b4 .if1 .left), ne-eqb _ _ (c .before .before .if2 .left), ne-eqb _ _ (c .if3 .left))
+    let b2 = c .before .before in
+    rw (eq-eqb _ _ (b2 .before .before .before .if1 .left), b2 .if2 .left, ne-eqb _ _ (c .if3 .left))
 
 pub belongs-spec : {M : Type 1} → statement M
 belongs-spec =
