@@ -27,16 +27,19 @@ module _ (l : List ℕ) (n i : ℕ) where
   unfolding foreignFrom
   foreign-none e = let z : n - i ≡ 0 = omega arith in rw z e
 
--- ---- of an answer that is not that of the frame above it, one of the three sentences is told
-covered : (x y z a b c : Bool) → not (cond (not x) a (cond y b (cond z c true))) ≡ true → (not x || (x && y) || (x && z)) ≡ true
-covered false y z a b c e = refl
-covered true true z a b c e = refl
-covered true false true a b c e = refl
-covered true false false a b c e = absurd (true≢false (sym e))
+-- ---- of an answer that is not that of the frame above it, one of the four sentences is told
+covered : (w x y z a b c : Bool)
+    → not (cond (not w) a (cond (x || y) b (cond z c true))) ≡ true → (not w || (w && x) || (w && y) || (w && z)) ≡ true
+covered false x y z a b c e = refl
+covered true true y z a b c e = refl
+covered true false true z a b c e = refl
+covered true false false true a b c e = refl
+covered true false false false a b c e = absurd (true≢false (sym e))
 
-pub strange-told : (s : Sort) (a : Above) → isStrange s a ≡ true → (not (eqb (a .number) 0) || isClean a 1 || isClean a 2) ≡ true
+pub strange-told : (s : Sort) (a : Above)
+    → isStrange s a ≡ true → (not (eqb (a .number) 0) || isClean a 1 || isClean a 3 || isClean a 2) ≡ true
 unfolding belongs
 strange-told (Frame b) a e = absurd (true≢false (sym e))
-strange-told (Fit disk) a e = covered (eqb (a .number) 0) (eqb (a .kind) 1) (eqb (a .kind) 2) _ _ _ e
-strange-told (Refused r) a e = covered (eqb (a .number) 0) (eqb (a .kind) 1) (eqb (a .kind) 2) _ _ _ e
+strange-told (Fit kind) a e = covered (eqb (a .number) 0) (eqb (a .kind) 1) (eqb (a .kind) 3) (eqb (a .kind) 2) _ _ _ e
+strange-told (Refused r) a e = covered (eqb (a .number) 0) (eqb (a .kind) 1) (eqb (a .kind) 3) (eqb (a .kind) 2) _ _ _ e
 strange-told (Bad w) a e = absurd (true≢false (sym e))

@@ -43,14 +43,15 @@ fn byte_of(line: &[u8], k: usize) -> u8
     0
 }
 
-fn flags_of(w: Wrong, n: usize, b: u8) -> [bool; 19]
-    ensures { λ r. ⌜ (r ≡ flagsOf (S.badRows w n b)) × (19 ≡ length r) ⌝ }
+fn flags_of(w: Wrong, n: usize, b: u8) -> [bool; 20]
+    ensures { λ r. ⌜ (r ≡ flagsOf (S.badRows w n b)) × (20 ≡ length r) ⌝ }
 {
     let why = w.why;
     let upper = (b > 64) & (b < 71);
     let returned = b == 13;
     let foreign = why == FOREIGN;
     let short = why == SHORT;
+    let ring = why == RING_LENGTH;
     let long = why == ANSWER_LENGTH;
     let strange = why == STRANGE_NUMBER;
     [
@@ -62,11 +63,12 @@ fn flags_of(w: Wrong, n: usize, b: u8) -> [bool; 19]
         short & (n == 0),
         short & (n != 0),
         why == UNKNOWN_TYPE,
-        why == RING_LENGTH,
+        ring & (w.kind == 1),
+        ring & (w.kind == 3),
         why == DISK_SHORT,
         why == DISK_LENGTH,
         long,
-        long & (w.kind == 129),
+        long & ((w.kind == 129) | (w.kind == 131)),
         long & (w.kind == 130),
         long & (w.kind == 255),
         why == FIT_NUMBER,
@@ -99,8 +101,8 @@ fn words_of(line: u64, n: usize, place: usize, b: u8, w: Wrong) -> [[u8; 24]; 11
 
 // Line number `number`.
 pub fn told(text: &mut [u8], at: usize, number: u64, line: &[u8], w: Wrong) -> usize
-    requires { ⌜ at + 23280 ≤ length (now text) ⌝ }
-    ensures { λ p. ⌜ (p ≤ at + 23280) × Told (S.lineRows w (now (line .entry))) (now (text .entry)) at (now (text .exit)) p ⌝ }
+    requires { ⌜ at + 24936 ≤ length (now text) ⌝ }
+    ensures { λ p. ⌜ (p ≤ at + 24936) × Told (S.lineRows w (now (line .entry))) (now (text .entry)) at (now (text .exit)) p ⌝ }
 {
     let n = line.len();
     let place = first_foreign(line);
@@ -117,8 +119,9 @@ over 12830 characters, the most that a frame has
 |character {b} is no hexadecimal digit (byte {c})
 |empty: as a frame it is answered ff050000
 |1 character (an odd number): the type alone has 2
-|unknown type {d}, {e} character{f}{g}: frames are 01 and 02, answers 81, 82 and ff
+|unknown type {d}, {e} character{f}{g}: frames are 01, 02 and 03, answers 81, 82, 83 and ff
 |a ring frame of {e} character{f}{g} instead of 258
+|a 24-point ring frame of {e} character{f}{g} instead of 386
 |a disk frame of {e} character{f}{g}: it has 30, and 40 for each pixel
 |a disk frame of {e} character{f}{g} instead of {h} for its {i} pixel{j}
 |an answer of type {d} with {e} character{f}{g}: |\

@@ -12,6 +12,7 @@ ghost use Prim.Native.Nat.{_+_, _≤_};
 ghost use lib.ListN.{length};
 ghost use Rattle.explain_words.specs.Tell.{flagsOf};
 ghost use Rattle.shapes.specs.Shapes.{fitLength};
+ghost use Rattle.explain_sorts.specs.Sorts.{isDiskAnswer};
 ghost use Rattle.explain_sentences.specs.Sentences as S;
 
 fn degrees(x: f32) -> f64 {
@@ -81,14 +82,15 @@ fn words_of(line: u64, r: Reading) -> [[u8; 24]; 24]
 }
 
 // Which sentences are told: a ring's, a disk's or both's.
-fn flags_of(r: Reading) -> [bool; 14]
-    ensures { λ w. ⌜ (w ≡ flagsOf (S.fitRows r)) × (14 ≡ length w) ⌝ }
+fn flags_of(kind: u32, r: Reading) -> [bool; 15]
+    ensures { λ w. ⌜ (w ≡ flagsOf (S.fitRows kind r)) × (15 ≡ length w) ⌝ }
 {
     let disk = r.disk;
     let unknown = r.known == 0;
     [
-        !disk,
-        disk,
+        kind == 129,
+        kind == 131,
+        kind == 130,
         true,
         !unknown,
         unknown,
@@ -104,18 +106,19 @@ fn flags_of(r: Reading) -> [bool; 14]
     ]
 }
 
-// Line number `number`, a disk's or a ring's fit.
-pub fn told(text: &mut [u8], at: usize, number: u64, line: &[u8], disk: bool) -> usize
-    requires { ⌜ (fitLength disk ≤ length (now line)) × (at + 40152 ≤ length (now text)) ⌝ }
-    ensures { λ p. ⌜ (p ≤ at + 40152) × S.Fitted (now (line .entry)) disk (now (text .entry)) at (now (text .exit)) p ⌝ }
+// Line number `number`, a fit of its answer's type.
+pub fn told(text: &mut [u8], at: usize, number: u64, line: &[u8], kind: u32) -> usize
+    requires { ⌜ (fitLength (isDiskAnswer kind) ≤ length (now line)) × (at + 40848 ≤ length (now text)) ⌝ }
+    ensures { λ p. ⌜ (p ≤ at + 40848) × S.Fitted (now (line .entry)) kind (now (text .entry)) at (now (text .exit)) p ⌝ }
 {
-    let r = explain_warnings::read(line, disk);
-    let flags = flags_of(r);
+    let r = explain_warnings::read(line, kind == 130);
+    let flags = flags_of(kind, r);
     let words = words_of(number, r);
     let p = explain_words::tell(
         text,
         at,
         b"line {a}: ring fit
+|line {a}: 24-point ring fit
 |line {a}: disk fit
 |  axes        {b} and {c} degrees, {d} apart
 |  errors      {e} and {f} degrees

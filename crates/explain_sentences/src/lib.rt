@@ -16,16 +16,21 @@ ghost use Rattle.explain_sentences.specs.Sentences as S;
 
 // A frame that no answer follows. A bar ends a sentence, here and in all that follow.
 pub fn alone_told(text: &mut [u8], at: usize, alone: bool, a: Above) -> usize
-    requires { ⌜ at + 3504 ≤ length (now text) ⌝ }
-    ensures { λ r. ⌜ (r ≤ at + 3504) × Told (S.aloneRows alone a) (now (text .entry)) at (now (text .exit)) r ⌝ }
+    requires { ⌜ at + 5280 ≤ length (now text) ⌝ }
+    ensures { λ r. ⌜ (r ≤ at + 5280) × Told (S.aloneRows alone a) (now (text .entry)) at (now (text .exit)) r ⌝ }
 {
-    let flags = [alone & (a.kind == 1), alone & (a.kind == 2)];
+    let flags = [
+        alone & (a.kind == 1),
+        alone & (a.kind == 3),
+        alone & (a.kind == 2),
+    ];
     let n = a.pixels as u64;
     let words = [number(a.line), number(n), plural(n)];
     explain_words::tell(
         text,
         at,
         b"line {a}: ring frame without an answer: run it through fitlines
+|line {a}: 24-point ring frame without an answer: run it through fitlines
 |line {a}: disk frame of {b} pixel{c} without an answer: run it through fitlines
 |",
         &flags,
@@ -43,13 +48,14 @@ fn due(a: Above) -> [u8; 24] {
 
 // An answer that is not that of the frame above it.
 pub fn mismatch_told(text: &mut [u8], at: usize, strange: bool, a: Above) -> usize
-    requires { ⌜ at + 6216 ≤ length (now text) ⌝ }
-    ensures { λ r. ⌜ (r ≤ at + 6216) × Told (S.mismatchRows strange a) (now (text .entry)) at (now (text .exit)) r ⌝ }
+    requires { ⌜ at + 8760 ≤ length (now text) ⌝ }
+    ensures { λ r. ⌜ (r ≤ at + 8760) × Told (S.mismatchRows strange a) (now (text .entry)) at (now (text .exit)) r ⌝ }
 {
     let clean = a.number == 0;
     let flags = [
         strange & (a.number != 0),
         strange & (clean & (a.kind == 1)),
+        strange & (clean & (a.kind == 3)),
         strange & (clean & (a.kind == 2)),
     ];
     let words = [number(a.line), due(a)];
@@ -58,6 +64,7 @@ pub fn mismatch_told(text: &mut [u8], at: usize, strange: bool, a: Above) -> usi
         at,
         b"  warning: this does not answer line {a}: its frame is refused, {b}
 |  warning: this does not answer line {a}: a ring frame of finite values has a ring fit
+|  warning: this does not answer line {a}: a 24-point ring frame of finite values has a 24-point ring fit
 |  warning: this does not answer line {a}: a disk frame of finite values has a disk fit, or refusal 4
 |",
         &flags,

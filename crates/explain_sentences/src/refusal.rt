@@ -43,14 +43,41 @@ fn is_shown(r: Refusal, a: Above) -> bool
     (a.number == 3) & explain_sorts::belongs(a, r.kind, r.number, r.place)
 }
 
-fn flags_of(r: Refusal, above: u32, name: u32, shown: bool) -> [bool; 28]
-    ensures { λ w. ⌜ (w ≡ flagsOf (S.refusalRows r above name shown)) × (28 ≡ length w) ⌝ }
+fn is_ring(r: Refusal) -> bool
+    ensures { λ b. ⌜ b ≡ S.isRing r ⌝ }
+{
+    ((r.kind == 129) | (r.kind == 131)) & (r.number == 3)
+}
+
+fn samples_at(r: Refusal) -> usize
+    ensures { λ n. ⌜ (n ≤ 24) × (n ≡ S.samplesAt r) ⌝ }
+{
+    shapes::samples_of(r.kind % 128)
+}
+
+fn is_sample(r: Refusal) -> bool
+    ensures { λ b. ⌜ b ≡ S.isSample r ⌝ }
+{
+    is_ring(r) & ((r.place as usize) < samples_at(r))
+}
+
+fn is_angle(r: Refusal) -> bool
+    ensures { λ b. ⌜ b ≡ S.isAngle r ⌝ }
+{
+    let n = samples_at(r);
+    let place = r.place as usize;
+    is_ring(r) & (place >= n) & (place < 2 * n)
+}
+
+fn flags_of(r: Refusal, above: u32, name: u32, shown: bool) -> [bool; 30]
+    ensures { λ w. ⌜ (w ≡ flagsOf (S.refusalRows r above name shown)) × (30 ≡ length w) ⌝ }
 {
     let kind = r.kind;
     let number = r.number;
     let place = r.place;
     [
         kind == 129,
+        kind == 131,
         kind == 130,
         kind == 255,
         number == 1,
@@ -59,9 +86,10 @@ fn flags_of(r: Refusal, above: u32, name: u32, shown: bool) -> [bool; 28]
         number == 4,
         number == 5,
         (number == 2) & (above == 2),
-        (kind == 129) & (number == 3) & (place < 16),
-        (kind == 129) & (number == 3) & (place / 16 == 1),
+        is_sample(r),
+        is_angle(r),
         (kind == 129) & (number == 3) & (place > 31),
+        (kind == 131) & (number == 3) & (place > 47),
         name == 1,
         name == 2,
         name == 3,
@@ -79,6 +107,16 @@ fn flags_of(r: Refusal, above: u32, name: u32, shown: bool) -> [bool; 28]
         (number == 5) & (above == 255),
         (place != 0) & ((number == 1) | (number == 2) | (number == 5)),
     ]
+}
+
+// Which angle: they stand behind the samples.
+fn angle_of(r: Refusal) -> usize {
+    let n = samples_at(r);
+    let place = r.place as usize;
+    if place < n {
+        return 0;
+    }
+    place - n
 }
 
 // Which pixel of its run.
@@ -103,7 +141,7 @@ fn words_of(line: u64, r: Refusal, a: Above) -> [[u8; 24]; 11]
         number(r.number as u64),
         number(pixels),
         number(place),
-        number(place % 16),
+        number(angle_of(r) as u64),
         number(pixel as u64),
         plural(pixels),
         figures(floats::widen(floats::from_bits(a.bits))),
@@ -114,8 +152,8 @@ fn words_of(line: u64, r: Refusal, a: Above) -> [[u8; 24]; 11]
 }
 
 pub fn told(text: &mut [u8], at: usize, line: u64, r: Refusal, a: Above) -> usize
-    requires { ⌜ (r .place ≤ 65535) × (at + 24144 ≤ length (now text)) ⌝ }
-    ensures { λ p. ⌜ (p ≤ at + 24144) × Told (S.refusedRows r a) (now (text .entry)) at (now (text .exit)) p ⌝ }
+    requires { ⌜ (r .place ≤ 65535) × (at + 26952 ≤ length (now text)) ⌝ }
+    ensures { λ p. ⌜ (p ≤ at + 26952) × Told (S.refusedRows r a) (now (text .entry)) at (now (text .exit)) p ⌝ }
 {
     let name = name_of(r, a);
     let shown = is_shown(r, a);
@@ -125,6 +163,7 @@ pub fn told(text: &mut [u8], at: usize, line: u64, r: Refusal, a: Above) -> usiz
         text,
         at,
         b"line {a}: ring refused, number {b}: |\
+line {a}: 24-point ring refused, number {b}: |\
 line {a}: disk refused, number {b}: |\
 line {a}: refused, number {b}: |\
 a slice has the wrong length, or the answer buffer is too short
@@ -135,6 +174,7 @@ a slice has the wrong length, or the answer buffer is too short
 |  pixels      {c}
 |  value       sample {d}|  value       angle {e}|  \
 warning: there is no place {d}: a ring's values are 0 to 31|  \
+warning: there is no place {d}: a 24-point ring's values are 0 to 47|  \
 value       val_energy|  value       base0|  value       base1|  \
 value       xs[{f}]|  value       ys[{f}]|  value       vals_centered[{f}]|  \
 value       grad_angles[{f}]|  value       grad_weights[{f}]|  \

@@ -13,8 +13,8 @@ returns : tie.Need-returns
 unfolding S.aloneRows flagsOf barred bytes codes allBarless barless
 returns c =
     let b2 = c .before .before in
-    let b14 = b2 .before .before .before .before .before .before .before .before .before .before .before .before in
-    (omega (arith, b2 .tell .ensures .fits), rows-told (S.aloneRows (b14 .args .alone) (b14 .args .a)) _ (b2 .tell .ensures .written) refl refl)
+    let b15 = b2 .before .before .before .before .before .before .before .before .before .before .before .before .before in
+    (omega (arith, b2 .tell .ensures .fits), rows-told (S.aloneRows (b15 .args .alone) (b15 .args .a)) _ (b2 .tell .ensures .written) refl refl)
 
 pub alone-told-spec : {M : Type 1} → statement M
 alone-told-spec =

@@ -13,8 +13,8 @@ returns : tie.Need-returns
 unfolding S.mismatchRows flagsOf barred bytes codes allBarless barless
 returns c =
     let b2 = c .before .before in
-    let b14 = b2 .before .before .before .before .before .before .before .before .before .before .before .before in
-    (omega (arith, b2 .tell .ensures .fits), rows-told (S.mismatchRows (b14 .args .strange) (b14 .args .a)) _ (b2 .tell .ensures .written) refl refl)
+    let b15 = b2 .before .before .before .before .before .before .before .before .before .before .before .before .before in
+    (omega (arith, b2 .tell .ensures .fits), rows-told (S.mismatchRows (b15 .args .strange) (b15 .args .a)) _ (b2 .tell .ensures .written) refl refl)
 
 pub mismatch-told-spec : {M : Type 1} → statement M
 mismatch-told-spec =

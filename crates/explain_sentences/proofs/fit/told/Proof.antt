@@ -17,10 +17,11 @@ returns c =
     let b6 = b2 .before .before .before .before in
     let b12 = b6 .before .before .before .before .before .before in
     let b13 = b12 .before in
-    let t = rows-told (S.fitRows (b13 .read .result)) _ (b6 .tell .ensures .written) (b12 .flags-of .ensures .0) refl in
+    let kind = b13 .before .before .before .args .kind in
+    let t = rows-told (S.fitRows kind (b13 .read .result)) _ (b6 .tell .ensures .written) (b12 .flags-of .ensures .0) refl in
     let h = b6 .tell .ensures .fits in
     let w = written-then (t .said) (b2 .warnings .ensures .1) (omega arith) in
-    (omega arith, record { words = t .words; said = written-as w (ap (λ q. S.fitText (t .words) q) (b13 .read .ensures)) })
+    (omega arith, record { words = t .words; said = written-as w (ap (λ q. S.fitText (t .words) kind q) (b13 .read .ensures)) })
 
 pub told-spec : {M : Type 1} → statement M
 told-spec =

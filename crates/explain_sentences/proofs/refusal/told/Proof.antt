@@ -2,9 +2,9 @@
 use native.Mathlib.Omega.{arith}
 use Rattle.explain_sentences.specs.Sentences as S
 use Rattle.explain_words.specs.TellLaws.{rows-told}
-use Rattle.explain_words.specs.Tell.{flagsOf, barred, allBarless, barless}
+use Rattle.explain_words.specs.Tell.{barred, allBarless, barless}
 use Rattle.hex.specs.Hex.{bytes, codes}
-use mathlib.Core.Path.{refl, ap, _∙_}
+use mathlib.Core.Path.{refl}
 use borrow.Author.Needs.{needs}
 use Rattle.explain_sentences.proofs.refusal.told.Statement.{statement}
 use Rattle.explain_sentences.proofs.refusal.told.Tie as tie
@@ -19,9 +19,7 @@ returns c =
     let b12 = b10 .before .before in
     let r = b12 .args .r in
     let a = b12 .args .a in
-    let e =
-    b8 .flags-of .ensures .0 ∙ ap (λ k. flagsOf (S.refusalRows r (a .kind) k (b9 .is-shown .result))) (b10 .name-of .ensures)
-    ∙ ap (λ s. flagsOf (S.refusalRows r (a .kind) (S.nameOf r a) s)) (b9 .is-shown .ensures) in
+    let e = rw (b10 .name-of .ensures, b9 .is-shown .ensures) at (b8 .flags-of .ensures .0) in
     (omega (arith, b2 .tell .ensures .fits), rows-told (S.refusedRows r a) _ (b2 .tell .ensures .written) e refl)
 
 pub told-spec : {M : Type 1} → statement M
