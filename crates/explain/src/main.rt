@@ -14,16 +14,16 @@ ghost use Rattle.explain_sorts.specs.Sorts.{SortSound};
 ghost use Rattle.explain.specs.Explain as E;
 
 // More than is said of any line: 24 characters for each of its sentences' own.
-const ROOM: usize = 50000;
+const ROOM: usize = 55000;
 
 // What is said of a line itself, at a place of the text; the place behind it.
 fn body_told(text: &mut [u8], at: usize, number: u64, line: &[u8], sort: Sort, a: Above) -> usize
-    requires { ⌜ SortSound (length (now line)) sort × (at + 40152 ≤ length (now text)) ⌝ }
-    ensures { λ r. ⌜ (r ≤ at + 40152) × E.Body (now (line .entry)) sort a (now (text .entry)) at (now (text .exit)) r ⌝ }
+    requires { ⌜ SortSound (length (now line)) sort × (at + 40848 ≤ length (now text)) ⌝ }
+    ensures { λ r. ⌜ (r ≤ at + 40848) × E.Body (now (line .entry)) sort a (now (text .entry)) at (now (text .exit)) r ⌝ }
 {
     match sort {
         Sort::Frame(_) => at,
-        Sort::Fit(disk) => explain_sentences::fit::told(text, at, number, line, disk),
+        Sort::Fit(kind) => explain_sentences::fit::told(text, at, number, line, kind),
         Sort::Refused(r) => explain_sentences::refusal::told(text, at, number, r, a),
         Sort::Bad(w) => explain_sentences::bad::told(text, at, number, line, w),
     }
@@ -32,8 +32,8 @@ fn body_told(text: &mut [u8], at: usize, number: u64, line: &[u8], sort: Sort, a
 // All that is said at a line: that the frame above has no answer, the line itself, that it is not the
 // answer of that frame.
 fn line_told(text: &mut [u8], at: usize, number: u64, line: &[u8], sort: Sort, a: Above) -> usize
-    requires { ⌜ SortSound (length (now line)) sort × (at + 50000 ≤ length (now text)) ⌝ }
-    ensures { λ r. ⌜ (r ≤ at + 50000) × E.Explained (now (line .entry)) sort a (now (text .entry)) at (now (text .exit)) r ⌝ }
+    requires { ⌜ SortSound (length (now line)) sort × (at + 55000 ≤ length (now text)) ⌝ }
+    ensures { λ r. ⌜ (r ≤ at + 55000) × E.Explained (now (line .entry)) sort a (now (text .entry)) at (now (text .exit)) r ⌝ }
 {
     let alone = explain_sorts::is_alone(sort);
     let strange = explain_sorts::is_strange(sort, a);
