@@ -1,5 +1,5 @@
 #!/usr/bin/env python3
-"""Draws one ring frame and its answer as SVG, on standard output.
+"""Draws one ring frame, of 16 samples or of 24, and its answer as SVG, on standard output.
 
     plot.py FRAME ANSWER > ring.svg      the two lines as arguments
     plot.py < TWO-LINES > ring.svg       or as two lines of standard input
@@ -15,17 +15,16 @@ import re
 import struct
 import sys
 
-SAMPLES = 16
-FRAME = re.compile(r"01[0-9a-f]{256}")
-ANSWER = re.compile(r"8100[0-9a-f]{56}")
-REFUSAL = re.compile(r"(?:8[12]|ff)(0[1-9])([0-9a-f]{4})")
+# A ring by the type of its frame: its name, its number of samples, the type of its answer.
+RINGS = {"01": ("ring", 16, "81"), "03": ("24-point ring", 24, "83")}
+DIGITS = re.compile(r"[0-9a-f]*")
+REFUSAL = re.compile(r"(?:8[123]|ff)(0[1-9])([0-9a-f]{4})")
 
 # One colour for each axis, and warm greys for all that stands behind.
 INK, FAINT, RULE, PAPER = "#22262b", "#6f7178", "#e4e2dc", "#fdfcfa"
 AXES = ("#1b6ca8", "#c4501b")
 BAND, DARK = "#efe7d3", "#dcdad4"
 
-HEADING = "A ring of 16 samples and the two axes fitted to it"
 WIDTH, HEIGHT = 960, 480
 LEFT, RIGHT = 76, 592           # of both charts
 CURVE = (104, 312)              # top and bottom of the upper chart
@@ -45,24 +44,34 @@ def words(digits):
     return [struct.unpack(">f", bytes.fromhex(digits[i:i + 8]))[0] for i in range(0, len(digits), 8)]
 
 
+def has(line, first, digits):
+    """Whether a line is its first characters and so many lower-case hexadecimal digits."""
+    return line.startswith(first) and len(line) == len(first) + digits and DIGITS.fullmatch(line)
+
+
 def read_frame(line):
-    if not FRAME.fullmatch(line):
-        raise Bad("the frame is no ring line: 01 and 256 lower-case hexadecimal digits")
+    """The samples and the angles."""
+    name, samples, _ = RINGS[line[:2]]
+    if not has(line, line[:2], 16 * samples):
+        raise Bad(f"the frame is no {name} line: {line[:2]} and {16 * samples} lower-case hexadecimal digits")
     values = words(line[2:])
     for place, value in enumerate(values):
         if not math.isfinite(value):
             raise Bad(f"the frame's value at place {place} is not finite")
-    return values[:SAMPLES], values[SAMPLES:]
+    return values[:samples], values[samples:]
 
 
-def read_answer(line):
-    """The six values, and whether the errors are known."""
+def read_answer(frame, line):
+    """The six values, and whether the errors are known, of an answer to a frame."""
+    if frame[:2] not in RINGS:
+        raise Bad("the frame is no ring line: it begins with 01, or with 03 where it has 24 samples")
+    name, _, first = RINGS[frame[:2]]
     refusal = REFUSAL.fullmatch(line)
     if refusal:
         number, place = (int(digits, 16) for digits in refusal.groups())
         raise Bad(f"the answer is a refusal, number {number} at place {place}: there is no fit to draw")
-    if not ANSWER.fullmatch(line):
-        raise Bad("the answer is no ring answer: 8100 and 56 lower-case hexadecimal digits")
+    if not has(line, first + "00", 56):
+        raise Bad(f"the answer is no {name} answer: {first}00 and 56 lower-case hexadecimal digits")
     values = words(line[4:52])
     if not all(map(math.isfinite, values)):
         raise Bad("the answer has a value that is not finite, as after an overflow")
@@ -77,7 +86,7 @@ class Fit:
         self.thetas, self.errors, self.known = (theta1, theta2), (error1, error2), known
         # The answer has no offset. Its least-squares value is the mean of what the product leaves.
         self.mu = 0.0
-        self.mu = sum(v - self.at(phi) for v, phi in zip(samples, angles)) / SAMPLES
+        self.mu = sum(v - self.at(phi) for v, phi in zip(samples, angles)) / len(samples)
         self.rests = [v - self.at(phi) for v, phi in zip(samples, angles)]
 
     def at(self, phi):
@@ -272,10 +281,11 @@ def ring(samples, angles, fit):
     for name, theta, error, colour in zip("12", fit.thetas, fit.errors, AXES):
         out += axis(name, theta, error, colour, fit.known)
     low, high = min(samples), max(samples)
+    size = 224 / len(samples)   # so that neighbours do not touch
     for value, phi in zip(samples, angles):
         level = round(40 + 210 * (value - low) / (high - low)) if high > low else 145
         x, y = polar(phi, RING)
-        out.append(tag("circle", cx=x, cy=y, r=14, fill=f"rgb({level},{level},{level})", stroke=INK, stroke_width=1.2))
+        out.append(tag("circle", cx=x, cy=y, r=size, fill=f"rgb({level},{level},{level})", stroke=INK, stroke_width=1.2))
     greys = f"from {say(low)} (dark) to {say(high)} (light)"
     out.append(text(CENTRE[0], REST[1] + 18, greys, 11, text_anchor="middle"))
     out.append(text(CENTRE[0], REST[1] + 38, "as in an image: 0\u00b0 to the right, clockwise", text_anchor="middle"))
@@ -284,7 +294,11 @@ def ring(samples, angles, fit):
 
 # ---- the whole
 
-def title(fit):
+def heading(samples):
+    return f"A ring of {len(samples)} samples and the two axes fitted to it"
+
+
+def title(samples, fit):
     def part(content, **look):
         return tag("tspan", content, dx=10, **look)
 
@@ -295,14 +309,14 @@ def title(fit):
     parts = [f"amplitude {say(fit.amp)}", *map(axis_part, "12", fit.thetas, fit.errors, AXES)]
     parts += [] if fit.known else [part("errors unknown")]
     parts.append(part(f"rms {say(fit.rms)}"))
-    return [text(26, 38, HEADING, 19, INK, font_weight="bold"),
+    return [text(26, 38, heading(samples), 19, INK, font_weight="bold"),
             text(26, 64, part("\u00b7", fill=FAINT).join(parts), 14, INK)]
 
 
 def picture(samples, angles, fit):
     head = (f'<svg xmlns="http://www.w3.org/2000/svg" width="{WIDTH}" height="{HEIGHT}" viewBox="0 0 {WIDTH} {HEIGHT}" '
             'font-family="Helvetica, Arial, \'DejaVu Sans\', sans-serif">')
-    body = [tag("title", HEADING), tag("rect", width=WIDTH, height=HEIGHT, fill=PAPER), *title(fit),
+    body = [tag("title", heading(samples)), tag("rect", width=WIDTH, height=HEIGHT, fill=PAPER), *title(samples, fit),
             *charts(samples, angles, fit), *ring(samples, angles, fit)]
     return "\n".join([head, *body, "</svg>"]) + "\n"
 
@@ -318,7 +332,7 @@ def given(arguments):
 def main():
     try:
         frame, answer = given(sys.argv[1:])
-        values, known = read_answer(answer)
+        values, known = read_answer(frame, answer)
         samples, angles = read_frame(frame)
         drawn = picture(samples, angles, Fit(values, known, samples, angles))
     except Bad as bad:
