@@ -1,4 +1,6 @@
--- What the contracts of crates/checked speak of besides the definitions: how the code looks for the first value that is not finite. Definitions only.
+-- What the contracts of crates/checked speak of besides the definitions: how the code looks for the first value that is not finite, and what it
+-- learns of a ring before the fit. Definitions only.
+use mathlib.Core.Path.{_≡_}
 use mathlib.Core.Bool.{Bool, true, false, cond}
 use mathlib.Core.List.{List}
 use Prim.Native.Nat.{ℕ, _+_, _<_, _≤_}
@@ -6,6 +8,11 @@ use lib.ListN.{length, getD}
 use lib.Ieee.{Float, nan}
 use lib.Ieee.Scale.{finite}
 use Rattle.loops.specs.Loops.{iter}
+use Rattle.robust.specs.Robust.{fitRing}
+use Rattle.checked.specs.declared.Refusal.{Refusal}
+use Rattle.checked.specs.declared.Refusal.the-variants.{By, Nothing}
+use Rattle.checked.specs.declared.RingAnswer.the-variants.{Refused}
+use Rattle.checked.specs.Checked.{ringFitted, checkedRing}
 use Rattle.checked.specs.declared.Wild.{Wild}
 use Rattle.checked.specs.declared.Wild.the-variants.{At, Clean}
 
@@ -29,3 +36,9 @@ shiftedBy Clean off next = next
 -- a lone value at its place
 abbrev pub loneAt : Float → ℕ → Wild → Wild
 loneAt x place next = cond (finite x) next (At place)
+
+-- a ring of n samples that is refused is answered so; of any other both lengths are n, and its fit is the answer
+abbrev pub RingRefusal : ℕ → List Float → List Float → Refusal → Type 0
+RingRefusal n samples angles (By number place) = Refused number place ≡ checkedRing n samples angles
+RingRefusal n samples angles Nothing =
+    (length samples ≡ n) × (length angles ≡ n) × (ringFitted (fitRing n samples angles) ≡ checkedRing n samples angles)

@@ -20,6 +20,12 @@ pub enum Wild {
     Clean,
 }
 
+// The number and the place of a refusal, or that there is none.
+pub enum Refusal {
+    By(u8, u16),
+    Nothing,
+}
+
 // A ring's fit with whether its errors are known, or a refusal with its number and place.
 pub enum RingAnswer {
     Fitted(RingFit, bool),
@@ -119,30 +125,38 @@ fn ring_wild(samples: &[f32], angles: &[f32]) -> Wild
     shifted(first_wild(samples), 0, b)
 }
 
+// By which number and place a ring of n samples is refused, if it is.
+fn ring_refusal(n: usize, samples: &[f32], angles: &[f32]) -> Refusal
+    requires { ⌜ n ≤ maxSamples ⌝ }
+    ensures { λ r. ⌜ P.RingRefusal n (now (samples .entry)) (now (angles .entry)) r ⌝ }
+{
+    if samples.len() != n || angles.len() != n {
+        return Refusal::By(1, 0);
+    }
+    let Wild::At(i) = ring_wild(samples, angles) else {
+        return Refusal::Nothing;
+    };
+    Refusal::By(3, i)
+}
+
 // The ring entry: any two slices.
 pub fn fit_ring(samples: &[f32], angles: &[f32]) -> RingAnswer
     ensures { λ r. ⌜ r ≡ C.checkedRing 16 (now (samples .entry)) (now (angles .entry)) ⌝ }
 {
-    if samples.len() != 16 || angles.len() != 16 {
-        return RingAnswer::Refused(1, 0);
+    match ring_refusal(16, samples, angles) {
+        Refusal::By(number, place) => RingAnswer::Refused(number, place),
+        Refusal::Nothing => ring_fitted(robust::fit_ring(samples, angles)),
     }
-    let Wild::At(i) = ring_wild(samples, angles) else {
-        return ring_fitted(robust::fit_ring(samples, angles));
-    };
-    RingAnswer::Refused(3, i)
 }
 
 // The same of 24 samples.
 pub fn fit_ring24(samples: &[f32], angles: &[f32]) -> RingAnswer
     ensures { λ r. ⌜ r ≡ C.checkedRing 24 (now (samples .entry)) (now (angles .entry)) ⌝ }
 {
-    if samples.len() != 24 || angles.len() != 24 {
-        return RingAnswer::Refused(1, 0);
+    match ring_refusal(24, samples, angles) {
+        Refusal::By(number, place) => RingAnswer::Refused(number, place),
+        Refusal::Nothing => ring_fitted(robust::fit_ring24(samples, angles)),
     }
-    let Wild::At(i) = ring_wild(samples, angles) else {
-        return ring_fitted(robust::fit_ring24(samples, angles));
-    };
-    RingAnswer::Refused(3, i)
 }
 
 // A disk's fit with the errors of its axes, and the number of trials.

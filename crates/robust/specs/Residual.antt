@@ -27,8 +27,8 @@ pub record Tiny (n : ℕ) (s : Float) : Type 0 where
   pub small : T (le s (half n))
 
 -- one unit
-abbrev pub unit : Float
-unit = fin false 1 (negsuc 148)
+abbrev pub oneUnit : Float
+oneUnit = fin false 1 (negsuc 148)
 
 -- what makes half of n units the bound: n and its half are floats as they are, an n-th part of half of n units has the root 0, and an n-th part of
 -- one unit more rounds to one unit
@@ -37,4 +37,4 @@ pub record Share (n : ℕ) : Type 0 where
   pub whole : Val binary32 (count n) false (n * 2 ^ 149)
   pub halves : Val binary32 (half n) false (n / 2)
   pub met : eq (sqrt binary32 (half n ⊘ count n)) nought ≡ true
-  pub over : round binary32 false (n / 2 + 1) (n * 2 ^ 149) ≡ unit
+  pub over : round binary32 false (n / 2 + 1) (n * 2 ^ 149) ≡ oneUnit

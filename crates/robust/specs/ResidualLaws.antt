@@ -15,7 +15,7 @@ use lib.Ieee.Order.{round-mono}
 use lib.Ieee.Exact.{HasValue}
 use lib.Ieee.Fits.{and-l, up-pos, add-fits, div-fits, neg-fits, cond-fits, round-fits}
 use lib.Ieee.Bits.{ofBits-fits}
-use Rattle.floats.specs.Ops.{_⊕_, _⊖_, _⊗_, _⊘_, lit, nought}
+use Rattle.floats.specs.Ops.{_⊕_, _⊖_, _⊗_, _⊘_, nought}
 use Rattle.floats.specs.Rows.{Row, at, count}
 use Rattle.floats.specs.Library.{negative, before, max, sqrt}
 use Rattle.floats.specs.UnitLaws.{Val, eq-val, le-val}
@@ -35,7 +35,7 @@ use Rattle.solver.specs.Solver.{degenerate, degenerateFit, finished, assembled,
 use Rattle.solver.specs.declared.Params.{Params}
 use Rattle.robust.specs.Robust.{negativeZero, total, deviations, meanOf, varianceOf, Squares, ofPass, ofMean, start, ring, fitRing, sumOf, ringSum}
 use Rattle.robust.specs.SoundLaws.{ring-each}
-use Rattle.robust.specs.Residual.{MadeOf, half, Tiny, unit, Share}
+use Rattle.robust.specs.Residual.{MadeOf, half, Tiny, oneUnit, Share}
 
 -- ---- a root is 0 only of a zero
 nought-val : Val binary32 nought false 0
@@ -79,7 +79,7 @@ pub share-24 : Share 24
 unfolding ofInt ofBits round sqrt eq div
 share-24 = record { some = omega arith; whole = (refl, refl); halves = (refl, refl); met = refl; over = refl }
 
-unit-above : T (le unit nought) → ⊥
+unit-above : T (le oneUnit nought) → ⊥
 unfolding le lt eq ofBits
 unit-above t = t
 
@@ -131,7 +131,7 @@ module _ (n : ℕ) (share : Share n) where
           quotient : x ⊘ count n ≡ round binary32 false a parts
           quotient = div-val binary32 x (count n) false a false parts positive v (share .whole)
 
-          large : n / 2 + 1 ≤ a → T (le unit (x ⊘ count n))
+          large : n / 2 + 1 ≤ a → T (le oneUnit (x ⊘ count n))
           large l =
               subst (λ (z : Float). T (le z (x ⊘ count n))) (share .over)
               (subst (λ (z : Float). T (le (round binary32 false (n / 2 + 1) parts) z)) (sym quotient)
@@ -143,7 +143,7 @@ module _ (n : ℕ) (share : Share n) where
               (plus-nn binary32 (half n) (n / 2) (share .halves)
               (rep-of binary32 (half n) false (n / 2) (ofBits-fits binary32 (n / 2)) (share .halves))) (u tt)
           pick false u w =
-              absurd (unit-above (le-le binary32 unit (x ⊘ count n) nought
+              absurd (unit-above (le-le binary32 oneUnit (x ⊘ count n) nought
               (subst (λ (z : Float). T (fits binary32 z)) (share .over) (round-fits binary32 false (n / 2 + 1) parts)) (div-fits binary32 x (count n))
               (ofBits-fits binary32 0) (large (omega (arith, w tt))) h))
 

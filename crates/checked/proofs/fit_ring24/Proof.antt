@@ -1,55 +1,27 @@
--- Both lengths, then the values, and then the fit. Assumes nothing.
-use mathlib.Core.Logic.{⊎-elim}
-use mathlib.Core.Path.{sym, _∙_}
-use native.Mathlib.Omega.{arith}
-use lib.Dec.{eqb}
-use lib.ListN.{length}
-use borrow.Author.Tests.{eq-eqb, ne-eqb, eqb-true, not-true, not-false}
+-- Refused, or fitted. Assumes nothing.
+use mathlib.Core.Path.{subst}
 use borrow.Author.Needs.{needs}
-use Rattle.checked.specs.Checked as C
-use Rattle.checked.specs.CheckedLaws.{ring-unsized, ring-looked}
+use Rattle.checked.specs.Parts as P
 use Rattle.checked.proofs.fit_ring24.Statement.{statement}
 use Rattle.checked.proofs.fit_ring24.Tie as tie
 
--- the first length is another, or the second is
-returns : tie.Need-returns
-returns c =
-    ring-unsized 24 _ _
-    (⊎-elim
-    (λ w. rw (ne-eqb _ _ (w .taken)))
-    (λ w. rw (eq-eqb _ _ (w .0 .left), not-true (eqb _ _) (w .1 .taken)))
-    (c .if1 .came))
-
-ring-wild-requires : tie.Need-ring-wild-requires
-ring-wild-requires c κs =
-    let m = length (c .before .before .before .before .args .angles .now) in
-    (omega (arith, c .before .if1 .left), omega (arith, eqb-true m 24 (not-false (eqb m 24) (c .if2 .left))))
-
 fit-ring24-requires : tie.Need-fit-ring24-requires
 fit-ring24-requires c κs =
-    let b3 = c .before .before .before in
-    let m = length (b3 .before .before .before .before .args .angles .now) in
-    (b3 .before .if1 .left, eqb-true m 24 (not-false (eqb m 24) (b3 .if2 .left)))
+    let b2 = c .before .before in
+    let looked = subst (P.RingRefusal 24 _ _) (c .enum-told .given .1) (b2 .ring-refusal .ensures) in
+    (looked .0, looked .1)
+
+returns : tie.Need-returns
+returns c = subst (P.RingRefusal 24 _ _) (c .before .number .given .1) (c .before .before .before .ring-refusal .ensures)
 
 returns-2 : tie.Need-returns-2
-unfolding C.ringLooked
 returns-2 c =
-    let b4 = c .before .before .before .before in
-    let a = b4 .before .before .before .before .before .args in
-    rw (c .ring-fitted .ensures, c .before .fit-ring24 .ensures)
-    (ring-looked 24 (a .samples .now) (a .angles .now) _ (b4 .before .before .if1 .left) (not-false (eqb (length (a .angles .now)) 24) (b4 .before .if2 .left))
-    (sym (c .before .before .enum-told .given .1) ∙ b4 .ring-wild .ensures))
-
-returns-3 : tie.Need-returns-3
-unfolding C.ringLooked
-returns-3 c =
-    let b3 = c .before .before .before in
-    let a = b3 .before .before .before .before .before .args in
-    ring-looked 24 (a .samples .now) (a .angles .now) _ (b3 .before .before .if1 .left) (not-false (eqb (length (a .angles .now)) 24) (b3 .before .if2 .left))
-    (sym (c .before .i .given .1) ∙ b3 .ring-wild .ensures)
+    let b2 = c .before .before in
+    let looked = subst (P.RingRefusal 24 _ _) (b2 .enum-told .given .1) (b2 .before .before .ring-refusal .ensures) in
+    rw (c .ring-fitted .ensures, c .before .fit-ring24 .ensures) (looked .2)
 
 pub fit-ring24-spec : {M : Type 1} → statement M
 fit-ring24-spec =
     tie.close
     (tie.spec
-    returns ring-wild-requires (λ c. search needs) (λ c. search needs) fit-ring24-requires (λ c κs. search needs) returns-2 returns-3)
+    (λ c κs. search needs) (λ c. search needs) (λ c. search needs) fit-ring24-requires (λ c κs. search needs) returns returns-2)

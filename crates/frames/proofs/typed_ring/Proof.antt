@@ -4,7 +4,6 @@ use mathlib.Core.Bool.{Bool, true, false, _||_}
 use Prim.Native.Nat.{ℕ}
 use lib.Dec.{T, eqb, eqb→eq}
 use borrow.Author.Tests.{ne-eqb}
-use borrow.Author.Needs.{needs}
 use Rattle.shapes.specs.Shapes.{RingType}
 use Rattle.frames.proofs.typed_ring.Statement.{statement}
 use Rattle.frames.proofs.typed_ring.Tie as tie

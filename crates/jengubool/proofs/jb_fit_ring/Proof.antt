@@ -13,35 +13,15 @@ returns-2 : tie.Need-returns-2
 unfolding J.ringCall
 returns-2 c = rw (le-ltb _ _ (c .before .if1 .left), lt-ltb _ _ (c .if2 .taken))
 
-fit-ring-requires : tie.Need-fit-ring-requires
-fit-ring-requires c κs = search needs
-
-ring-stored-requires : tie.Need-ring-stored-requires
-ring-stored-requires c κs = search needs
-
-same-length : tie.Need-same-length
-same-length c = search needs
-
-same-length-2 : tie.Need-same-length-2
-same-length-2 c = search needs
-
 returns-3 : tie.Need-returns-3
 unfolding J.ringCall
 returns-3 c =
-    let at-if1 = c .before .before .before .before .before .before .before .before .before .if1 in
-    let at-if2 = c .before .before .before .before .before .before .before .before .if2 in
-    let at-fit-ring = c .before .before .before .before .before .before .before .fit-ring in
-    let at-ring-stored = c .before .before .before .before .ring-stored in
-    rw (le-ltb _ _ (at-if1 .left), le-ltb _ _ (at-if2 .left), ← at-fit-ring .ensures) (at-ring-stored .ensures)
+    let b4 = c .before .before .before .before in
+    let b7 = b4 .before .before .before in
+    rw (le-ltb _ _ (b7 .before .before .if1 .left), le-ltb _ _ (b7 .before .if2 .left), ← b7 .fit-ring .ensures) (b4 .ring-stored .ensures)
 
 pub jb-fit-ring-spec : {M : Type 1} → statement M
 jb-fit-ring-spec =
     tie.close
     (tie.spec
-    returns
-    returns-2
-    fit-ring-requires
-    ring-stored-requires
-    same-length
-    same-length-2
-    returns-3)
+    returns returns-2 (λ c κs. search needs) (λ c κs. search needs) (λ c. search needs) (λ c. search needs) returns-3)

@@ -1,5 +1,5 @@
 -- 16 as a float is the literal. Assumes nothing.
-use mathlib.Core.Path.{_≡_, refl, sym, ap, _∙_}
+use mathlib.Core.Path.{_≡_, refl, ap, _∙_}
 use lib.Ieee.{ofInt, ofBits, round}
 use borrow.Author.Needs.{needs}
 use Rattle.floats.specs.Ops.{lit}

@@ -2,7 +2,6 @@
 use mathlib.Core.Path.{_≡_}
 use Prim.Native.Nat.{_≤_, _+_, _-_, _*_}
 use native.Mathlib.Omega.{arith}
-use lib.ListN.{length}
 use Rattle.robust_lanes.specs.Lanes as L
 use Rattle.robust_lanes.specs.LaneLaws.{lanes-none, lanes-more, lane-places}
 use borrow.Author.Needs.{needs}

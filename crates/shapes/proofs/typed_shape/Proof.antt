@@ -4,7 +4,7 @@ use mathlib.Core.Path.{_≡_}
 use mathlib.Core.Bool.{true, _||_}
 use lib.Dec.{eqb}
 use Rattle.shapes.specs.Shapes as S
-use borrow.Author.Tests.{eq-eqb, ne-eqb, not-false}
+use borrow.Author.Tests.{eq-eqb, ne-eqb}
 use borrow.Author.Needs.{needs}
 use Rattle.shapes.proofs.typed_shape.Statement.{statement}
 use Rattle.shapes.proofs.typed_shape.Tie as tie
