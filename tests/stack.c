@@ -6,14 +6,15 @@
 #include "jengubool.h"
 #include <ucontext.h>
 
-#define RING_BAR 3600
+#define RING_BAR 3584
+#define RING24_BAR 5120
 #define BAR 65536
 #define SIZE 131072
 #define WORDS 1000
 #define RINGS 6000
 #define DISKS 600
 #define PIXELS 320
-#define RING_LINE (2 + 8 * 32)
+#define RING_LINE(n) (2 + 16 * (n))
 #define DISK_LINE (30 + 40 * PIXELS)
 
 static uint64_t painted[SIZE / 8] __attribute__((aligned(64)));
@@ -21,7 +22,7 @@ static ucontext_t here, there;
 static void (*subject)(void);
 static unsigned char *caller;
 
-static float x, y, samples[16], angles[16], disk[3 + 5 * PIXELS], fit[11];
+static float x, y, samples[24], angles[24], disk[3 + 5 * PIXELS], fit[11];
 static volatile float result; /* else the compiler jumps where it should call */
 static double wide;
 static uint32_t counts[4], status;
@@ -45,6 +46,7 @@ CALL(call_atan2, result = jb_atan2(y, x))
 CALL(call_sqrt, result = jb_sqrt(x))
 CALL(call_narrow, result = jb_narrow(wide))
 CALL(call_ring, status = jb_fit_ring(samples, 16, angles, 16, fit, 6, counts, 4))
+CALL(call_ring24, status = jb_fit_ring24(samples, 24, angles, 24, fit, 6, counts, 4))
 CALL(call_disk, status = jb_fit_disk(disk[0], disk[1], disk[2], disk + 3, PIXELS, disk + 3 + PIXELS, PIXELS,
                                      disk + 3 + 2 * PIXELS, PIXELS, disk + 3 + 3 * PIXELS, PIXELS,
                                      disk + 3 + 4 * PIXELS, PIXELS, fit, 11, counts, 2))
@@ -103,20 +105,20 @@ static void measure_numbers(void)
     }
 }
 
-/* Of every ten: eight corners of two axes at any separation (the skewed and the noisy ones make two starts), one flat,
- * one of random finite patterns. */
-static void make_ring(int i)
+/* Of n samples. Of every ten rings: eight corners of two axes at any separation (the skewed and the noisy ones make two
+ * starts), one flat, one of random finite patterns. */
+static void make_ring(int n, int i)
 {
     double first = uniform(0, M_PI), second = first + (i % 2 ? uniform(1.2, 1.9) : uniform(0, M_PI));
     double amp = i % 10 == 8 ? 0 : uniform(2, 120), slope = uniform(0.7, 12), phase = uniform(-M_PI, M_PI);
     double noise = i % 3 == 0 ? 0.3 * amp : i % 3 == 1 ? 0.02 * amp : 0;
-    for (int k = 0; k < 16; k++) {
-        double phi = phase + k * M_PI / 8;
+    for (int k = 0; k < n; k++) {
+        double phi = phase + k * 2 * M_PI / n;
         double model = tanh(slope * sin(phi - first)) * tanh(slope * sin(phi - second));
         samples[k] = (float)(128 + amp * model + noise * uniform(-1, 1));
         angles[k] = (float)phi;
     }
-    for (int k = 0; i % 10 == 9 && k < 16; k++) {
+    for (int k = 0; i % 10 == 9 && k < n; k++) {
         samples[k] = any_finite();
         angles[k] = any_finite();
     }
@@ -172,20 +174,21 @@ static int hold(const char *what, size_t most, size_t bar)
     return most > bar;
 }
 
-static void measure_rings(size_t *call, size_t *whole)
+/* Rings of n samples, by the function for them and as lines of their type. */
+static void measure_rings(int n, void (*ring)(void), const char *type, size_t *call, size_t *whole)
 {
     int starts[3] = {0, 0, 0};
     for (int i = 0; i < RINGS; i++) {
-        make_ring(i);
-        measure(call_ring, call);
-        if (status != 0 || counts[0] < 1 || counts[0] > 2) { printf("FAIL: ring %d is answered %u\n", i, status); exit(1); }
+        make_ring(n, i);
+        measure(ring, call);
+        if (status != 0 || counts[0] < 1 || counts[0] > 2) { printf("FAIL: ring %d of %d is answered %u\n", i, n, status); exit(1); }
         starts[counts[0]]++;
-        make_line("01", samples, 16, angles, 16);
+        make_line(type, samples, n, angles, n);
         measure(call_line, whole);
-        if (status != 0 || line_len != RING_LINE) { printf("FAIL: line %d is answered %u\n", i, status); exit(1); }
+        if (status != 0 || line_len != RING_LINE((size_t)n)) { printf("FAIL: line %d of type %s is answered %u\n", i, type, status); exit(1); }
     }
     if (starts[1] < RINGS / 10 || starts[2] < RINGS / 10) { printf("FAIL: only %d rings with one start, %d with two\n", starts[1], starts[2]); exit(1); }
-    printf("%d rings with one start, %d with two\n", starts[1], starts[2]);
+    printf("%d rings of %d samples with one start, %d with two\n", starts[1], n, starts[2]);
 }
 
 static void measure_disks(size_t *call, size_t *whole)
@@ -207,14 +210,17 @@ static void measure_disks(size_t *call, size_t *whole)
 
 int main(void)
 {
-    size_t bare = 0, ring = 0, ring_line = 0, disk_fit = 0, disk_line = 0;
+    size_t bare = 0, ring = 0, ring_line = 0, ring24 = 0, ring24_line = 0, disk_fit = 0, disk_line = 0;
     measure(call_nothing, &bare);
     if (bare > 64) { printf("FAIL: a call of nothing uses %zu bytes: the measurement is wrong\n", bare); return 1; }
     measure_numbers();
-    measure_rings(&ring, &ring_line);
+    measure_rings(16, call_ring, "01", &ring, &ring_line);
     measure_disks(&disk_fit, &disk_line);
-    printf("stack of a ring fit at most %zu bytes (bar %d), of its line %zu; of a disk fit %zu, of its line %zu (bar %d)\n",
-           ring, RING_BAR, ring_line, disk_fit, disk_line, BAR);
-    return hold("a ring fit", ring, RING_BAR) | hold("a ring's line", ring_line, BAR) | hold("a disk fit", disk_fit, BAR) |
-           hold("a disk's line", disk_line, BAR);
+    measure_rings(24, call_ring24, "03", &ring24, &ring24_line); /* last: the others' draws do not hang on it */
+    printf("stack of a ring fit at most %zu bytes (bar %d), of its line %zu; of 24 samples %zu (bar %d), of its line %zu; "
+           "of a disk fit %zu, of its line %zu (bar %d)\n",
+           ring, RING_BAR, ring_line, ring24, RING24_BAR, ring24_line, disk_fit, disk_line, BAR);
+    return hold("a ring fit", ring, RING_BAR) | hold("a ring's line", ring_line, BAR) |
+           hold("a ring fit of 24 samples", ring24, RING24_BAR) | hold("its line", ring24_line, BAR) |
+           hold("a disk fit", disk_fit, BAR) | hold("a disk's line", disk_line, BAR);
 }
