@@ -204,36 +204,103 @@ static void whole(const char *what, unsigned long got, unsigned long want)
     exit(1);
 }
 
-/* The first printed example of docs/RULES.md: 16 samples of 0 at 16 angles of 0. Both buffers are longer than need be. */
-static void check_fit_ring(void)
+/* A ring of 16 or of 24 samples, all of them 0 at angles of 0. The arrays hold one more than the longer one takes. */
+static float ring_samples[25], ring_angles[25];
+
+/* The buffers of a ring, longer by one than need be, and what they hold as long as nothing was written. */
+typedef struct { float fit[7]; uint32_t counts[5]; } ring_out;
+static const ring_out UNTOUCHED = {{7, 7, 7, 7, 7, 7, 7}, {7, 7, 7, 7, 7}};
+
+/* The ring fit for n samples: in all that follows the two differ in n alone. */
+static unsigned long fit_ring(size_t n, size_t samples_len, size_t angles_len, ring_out *out, size_t fit_len, size_t counts_len)
+{
+    if (n == 24) return jb_fit_ring24(ring_samples, samples_len, ring_angles, angles_len, out->fit, fit_len, out->counts, counts_len);
+    return jb_fit_ring(ring_samples, samples_len, ring_angles, angles_len, out->fit, fit_len, out->counts, counts_len);
+}
+
+static void ring_whole(size_t n, const char *what, unsigned long got, unsigned long want)
+{
+    char call[80];
+    snprintf(call, sizeof call, "%s %s", n == 24 ? "jb_fit_ring24" : "jb_fit_ring", what);
+    whole(call, got, want);
+}
+
+/* Each wrong length: none, one too few, the other ring's, one too many. Lengths come before values. */
+static void check_ring_lengths(size_t n, ring_out *out)
+{
+    const size_t wrong[4] = {0, n - 1, 40 - n, n + 1};
+    int i;
+    ring_samples[0] = QUIET;
+    for (i = 0; i < 4; i++) {
+        ring_whole(n, "of a wrong number of samples", fit_ring(n, wrong[i], n, out, 7, 5), 65536);
+        ring_whole(n, "of a wrong number of angles", fit_ring(n, n, wrong[i], out, 7, 5), 65536);
+    }
+    ring_whole(n, "into 5 floats", fit_ring(n, n, n, out, 5, 5), 65536);
+    ring_whole(n, "into 3 counts", fit_ring(n, n, n, out, 7, 3), 65536);
+    ring_samples[0] = 0.0f;
+}
+
+/* Each value in turn, with the last one spoilt as well: the first counts. */
+static void check_ring_places(size_t n, ring_out *out)
+{
+    const float wild[4] = {QUIET, OTHER_NAN, INF, -INF};
+    size_t i;
+    for (i = 0; i < 4 * 2 * n; i++) {
+        size_t place = i / 4;
+        float *spoilt = place < n ? &ring_samples[place] : &ring_angles[place - n];
+        ring_angles[n - 1] = QUIET;
+        *spoilt = wild[i % 4];
+        ring_whole(n, "of a value that is not finite", fit_ring(n, n, n, out, 7, 5), 196608 + (unsigned long)place);
+        *spoilt = 0.0f;
+        ring_angles[n - 1] = 0.0f;
+    }
+}
+
+/* The printed examples of docs/RULES.md: n samples of 0 at n angles of 0. */
+static void check_ring_of_zeros(size_t n, ring_out *out)
 {
     static const uint32_t want[6] = {0, 0, 0x3fc90fdbu, 0x40490fdbu, 0x40490fdbu, 0};
-    float samples[17] = {0}, angles[17] = {0}, fit[7];
-    uint32_t counts[5];
     int i;
-    for (i = 0; i < 7; i++) fit[i] = 7.0f;
-    for (i = 0; i < 5; i++) counts[i] = 7;
-    whole("jb_fit_ring of 15 samples", jb_fit_ring(samples, 15, angles, 16, fit, 7, counts, 5), 65536);
-    whole("jb_fit_ring of 17 angles", jb_fit_ring(samples, 16, angles, 17, fit, 7, counts, 5), 65536);
-    whole("jb_fit_ring into 5 floats", jb_fit_ring(samples, 16, angles, 16, fit, 5, counts, 5), 65536);
-    whole("jb_fit_ring into 3 counts", jb_fit_ring(samples, 16, angles, 16, fit, 7, counts, 3), 65536);
-    for (i = 0; i < 4 * 32; i++) {
-        const float wild[4] = {QUIET, OTHER_NAN, INF, -INF};
-        unsigned long place = (unsigned long)i / 4;
-        float *spoilt = place < 16 ? &samples[place] : &angles[place - 16];
-        *spoilt = wild[i % 4];
-        whole("jb_fit_ring of a value that is not finite", jb_fit_ring(samples, 16, angles, 16, fit, 7, counts, 5), 196608 + place);
-        *spoilt = 0.0f;
+    ring_whole(n, "of zeros", fit_ring(n, n, n, out, 7, 5), 0);
+    for (i = 0; i < 6; i++) exact("fit of zeros", out->fit[i], want[i]);
+    exact("the float behind the fit", out->fit[6], 0x40e00000u);
+    whole("starts", out->counts[0], 1);
+    whole("updates", out->counts[1] + out->counts[2], 0);
+    whole("known", out->counts[3], 0);
+    whole("the count behind the counts", out->counts[4], 7);
+}
+
+/* A corner with axes at 30 and 120 degrees, as the model has it: the fit finds it again. */
+static void check_ring_corner(size_t n, ring_out *out)
+{
+    const double axis1 = 0.5235988, axis2 = 2.0943951;
+    size_t i;
+    for (i = 0; i < n; i++) {
+        double phi = 2.0 * 3.14159265358979 * (double)i / (double)n;
+        ring_angles[i] = (float)phi;
+        ring_samples[i] = (float)(128.0 + 60.0 * tanh(4.0 * sin(phi - axis1)) * tanh(4.0 * sin(phi - axis2)));
     }
-    for (i = 0; i < 7; i++) exact("fit after a refusal", fit[i], 0x40e00000u);
-    for (i = 0; i < 5; i++) whole("counts after a refusal", counts[i], 7);
-    whole("jb_fit_ring of zeros", jb_fit_ring(samples, 16, angles, 16, fit, 7, counts, 5), 0);
-    for (i = 0; i < 6; i++) exact("fit of zeros", fit[i], want[i]);
-    exact("the float behind the fit", fit[6], 0x40e00000u);
-    whole("starts", counts[0], 1);
-    whole("updates", counts[1] + counts[2], 0);
-    whole("known", counts[3], 0);
-    whole("the count behind the counts", counts[4], 7);
+    ring_whole(n, "of a corner", fit_ring(n, n, n, out, 7, 5), 0);
+    near_to("the amplitude of a ring's corner", out->fit[0], 60.0, 0.01);
+    near_to("theta1 of a ring's corner", out->fit[1], axis1, 0.0002);
+    near_to("theta2 of a ring's corner", out->fit[2], axis2, 0.0002);
+    near_to("the residual of a ring's corner", out->fit[5], 0.0, 0.01);
+    whole("starts of a ring's corner", out->counts[0], 1);
+    whole("known of a ring's corner", out->counts[3], 1);
+    memset(ring_samples, 0, sizeof ring_samples);
+    memset(ring_angles, 0, sizeof ring_angles);
+}
+
+static void check_fit_ring(size_t n)
+{
+    ring_out out = UNTOUCHED;
+    int i;
+    check_ring_lengths(n, &out);
+    check_ring_places(n, &out);
+    for (i = 0; i < 7; i++) exact("fit after a refusal", out.fit[i], 0x40e00000u);
+    for (i = 0; i < 5; i++) whole("counts after a refusal", out.counts[i], 7);
+    check_ring_of_zeros(n, &out);
+    check_ring_corner(n, &out);
 }
 
 /* A disk of n pixels, all of them 0: a disk without contrast. The arrays hold one pixel more than the fit takes. */
@@ -330,27 +397,32 @@ static void check_fit_disk(void)
     whole("the count behind the disk's counts", counts[2], 7);
 }
 
-static void check_answer_line(void)
+/* A ring's line: type 01 has 16 samples, 03 has 24. Each with the length of the other is malformed. */
+static void check_ring_line(char type, size_t length, size_t other)
 {
-    static const char want[] = "810000000000000000003fc90fdb40490fdb40490fdb0000000001000000";
-    uint8_t line[258], out[120];
+    char want[61];
+    uint8_t line[386], out[120];
     size_t i;
+    snprintf(want, sizeof want, "8%c0000000000000000003fc90fdb40490fdb40490fdb0000000001000000", type);
     memset(line, '0', sizeof line);
-    line[1] = '1';
+    line[1] = (uint8_t)type;
     memset(out, '.', sizeof out);
-    whole("jb_answer_line into 97 bytes", jb_answer_line(line, 258, out, 97), 1);
+    whole("jb_answer_line into 97 bytes", jb_answer_line(line, length, out, 97), 1);
     whole("the first byte of a short buffer", out[0], '.');
-    whole("jb_answer_line of zeros", jb_answer_line(line, 258, out, 98), 0);
+    whole("jb_answer_line of zeros", jb_answer_line(line, length, out, 98), 0);
     whole("the answer to zeros, compared", (unsigned long)(memcmp(out, want, 60) != 0), 0);
     for (i = 60; i < sizeof out; i++) whole("a byte behind the answer", out[i], '.');
-    whole("jb_answer_line of nothing", jb_answer_line(line, 0, out, 120), 5);
-    whole("the answer to nothing, compared", (unsigned long)(memcmp(out, "ff050000", 8) != 0), 0);
+    whole("jb_answer_line of the other ring's length", jb_answer_line(line, other, out, 120), 5);
+    whole("the answer to a wrong length, compared", (unsigned long)(memcmp(out, "ff050000", 8) != 0), 0);
     whole("the byte behind a refusal", out[8], (unsigned char)want[8]);
     line[2] = '7', line[3] = 'f', line[4] = 'c';
-    whole("jb_answer_line of a NaN", jb_answer_line(line, 258, out, 120), 3);
-    whole("the answer to a NaN, compared", (unsigned long)(memcmp(out, "81030000", 8) != 0), 0);
-    line[257] = 'A';
-    whole("jb_answer_line of a capital", jb_answer_line(line, 258, out, 120), 5);
+    snprintf(want, sizeof want, "8%c030000", type);
+    whole("jb_answer_line of a NaN", jb_answer_line(line, length, out, 120), 3);
+    whole("the answer to a NaN, compared", (unsigned long)(memcmp(out, want, 8) != 0), 0);
+    line[length - 1] = 'A';
+    whole("jb_answer_line of a capital", jb_answer_line(line, length, out, 120), 5);
+    whole("jb_answer_line of nothing", jb_answer_line(line, 0, out, 120), 5);
+    whole("the answer to nothing, compared", (unsigned long)(memcmp(out, "ff050000", 8) != 0), 0);
 }
 
 int main(void)
@@ -362,9 +434,11 @@ int main(void)
     check_atan2();
     check_sqrt();
     check_narrow();
-    check_fit_ring();
+    check_fit_ring(16);
+    check_fit_ring(24);
     check_fit_disk();
-    check_answer_line();
+    check_ring_line('1', 258, 386);
+    check_ring_line('3', 386, 258);
     printf("%d checks of the header's functions\n", checks);
     return 0;
 }

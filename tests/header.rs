@@ -21,6 +21,16 @@ extern "C" {
         counts: *mut u32,
         counts_len: usize,
     ) -> u32;
+    fn jb_fit_ring24(
+        samples: *const f32,
+        samples_len: usize,
+        angles: *const f32,
+        angles_len: usize,
+        fit: *mut f32,
+        fit_len: usize,
+        counts: *mut u32,
+        counts_len: usize,
+    ) -> u32;
     fn jb_fit_disk(
         val_energy: f32,
         base0: f32,
@@ -232,9 +242,14 @@ fn whole(what: &str, got: u32, want: u32) {
     judge(got == want, || format!("{what} is {got}, it must be {want}"));
 }
 
-fn fit_ring(samples: &[f32], angles: &[f32], fit: &mut [f32], counts: &mut [u32]) -> u32 {
-    let (f, c) = (fit.len(), counts.len());
-    unsafe { jb_fit_ring(samples.as_ptr(), samples.len(), angles.as_ptr(), angles.len(), fit.as_mut_ptr(), f, counts.as_mut_ptr(), c) }
+/// The ring fit for n samples: in all that follows the two differ in n alone.
+fn fit_ring(n: usize, samples: &[f32], angles: &[f32], fit: &mut [f32], counts: &mut [u32]) -> u32 {
+    let (s, a) = ((samples.as_ptr(), samples.len()), (angles.as_ptr(), angles.len()));
+    let (f, c) = ((fit.as_mut_ptr(), fit.len()), (counts.as_mut_ptr(), counts.len()));
+    match n {
+        24 => unsafe { jb_fit_ring24(s.0, s.1, a.0, a.1, f.0, f.1, c.0, c.1) },
+        _ => unsafe { jb_fit_ring(s.0, s.1, a.0, a.1, f.0, f.1, c.0, c.1) },
+    }
 }
 
 fn fit_disk(head: [f32; 3], runs: [&[f32]; 5], fit: &mut [f32], counts: &mut [u32]) -> u32 {
@@ -248,25 +263,46 @@ fn answer_line(line: &[u8], out: &mut [u8]) -> u32 {
     unsafe { jb_answer_line(line.as_ptr(), line.len(), out.as_mut_ptr(), out.len()) }
 }
 
-/// The first printed example of docs/RULES.md: 16 samples of 0 at 16 angles of 0.
-fn check_fit_ring() {
+/// The printed examples of docs/RULES.md: n samples of 0 at n angles of 0. Before it every refusal, lengths and places.
+fn check_fit_ring(n: usize) {
+    let name = if n == 24 { "jb_fit_ring24" } else { "jb_fit_ring" };
     let (mut fit, mut counts) = ([7.0f32; 7], [7u32; 5]);
-    for i in 0..32 {
-        let (mut samples, mut angles) = ([0.0f32; 16], [0.0f32; 16]);
-        let spoilt = if i < 16 { &mut samples[i] } else { &mut angles[i - 16] };
-        *spoilt = [f32::NAN, INF, -INF][i % 3];
-        whole("jb_fit_ring of a value that is not finite", fit_ring(&samples, &angles, &mut fit, &mut counts), 196608 + i as u32);
+    for i in 0..2 * n {
+        let mut values = vec![0.0f32; 2 * n];
+        values[2 * n - 1] = f32::NAN; // the first one counts
+        values[i] = [f32::NAN, INF, -INF][i % 3];
+        let wild = fit_ring(n, &values[..n], &values[n..], &mut fit, &mut counts);
+        whole(&format!("{name} of a value that is not finite"), wild, 196608 + i as u32);
     }
-    let zeros = [0.0f32; 16];
-    whole("jb_fit_ring of 15 samples", fit_ring(&zeros[1..], &zeros, &mut fit, &mut counts), 65536);
-    whole("jb_fit_ring into 5 floats", fit_ring(&zeros, &zeros, &mut fit[..5], &mut counts), 65536);
-    whole("jb_fit_ring into 3 counts", fit_ring(&zeros, &zeros, &mut fit, &mut counts[..3]), 65536);
-    judge(fit == [7.0; 7] && counts == [7; 5], || "a refused jb_fit_ring changed a buffer".to_string());
-    whole("jb_fit_ring of zeros", fit_ring(&zeros, &zeros, &mut fit, &mut counts), 0);
+    let (zeros, nans) = (vec![0.0f32; n], [f32::NAN; 25]);
+    for wrong in [0, n - 1, 40 - n, n + 1] {
+        whole(&format!("{name} of {wrong} samples"), fit_ring(n, &nans[..wrong], &zeros, &mut fit, &mut counts), 65536);
+        whole(&format!("{name} of {wrong} angles"), fit_ring(n, &zeros, &nans[..wrong], &mut fit, &mut counts), 65536);
+    }
+    whole(&format!("{name} into 5 floats"), fit_ring(n, &zeros, &zeros, &mut fit[..5], &mut counts), 65536);
+    whole(&format!("{name} into 3 counts"), fit_ring(n, &zeros, &zeros, &mut fit, &mut counts[..3]), 65536);
+    judge(fit == [7.0; 7] && counts == [7; 5], || format!("a refused {name} changed a buffer"));
+    whole(&format!("{name} of zeros"), fit_ring(n, &zeros, &zeros, &mut fit, &mut counts), 0);
     for (got, want) in fit.iter().zip([0, 0, 0x3fc9_0fdb, 0x4049_0fdb, 0x4049_0fdb, 0, 0x40e0_0000]) {
         exact("fit of zeros", *got, want);
     }
     judge(counts == [1, 0, 0, 0, 7], || format!("the counts of zeros are {counts:?}"));
+    check_a_ring(n, &mut fit, &mut counts);
+}
+
+/// The ring of header.c: a corner with axes at 30 and 120 degrees, as the model has it.
+fn check_a_ring(n: usize, fit: &mut [f32; 7], counts: &mut [u32; 5]) {
+    let (axis1, axis2) = (30.0f64.to_radians(), 120.0f64.to_radians());
+    let edge = |phi: f64, axis: f64| (4.0 * (phi - axis).sin()).tanh();
+    let phis: Vec<f64> = (0..n).map(|i| std::f64::consts::TAU * i as f64 / n as f64).collect();
+    let samples: Vec<f32> = phis.iter().map(|&phi| (128.0 + 60.0 * edge(phi, axis1) * edge(phi, axis2)) as f32).collect();
+    let angles: Vec<f32> = phis.iter().map(|&phi| phi as f32).collect();
+    whole("a ring fit of a corner", fit_ring(n, &samples, &angles, fit, counts), 0);
+    near("the amplitude of a ring's corner", fit[0], 60.0, 0.01);
+    near("theta1 of a ring's corner", fit[1], axis1, 0.0002);
+    near("theta2 of a ring's corner", fit[2], axis2, 0.0002);
+    near("the residual of a ring's corner", fit[5], 0.0, 0.01);
+    judge(counts[0] == 1 && counts[3] == 1 && counts[4] == 7, || format!("the counts of a ring's corner are {counts:?}"));
 }
 
 /// A disk without contrast, refused in each way. The example of docs/RULES.md, a pixel of 0, is refused after 96 trials.
@@ -320,17 +356,25 @@ fn check_a_corner(fit: &mut [f32; 12], counts: &mut [u32; 3]) {
     judge(counts[0] <= 144 && counts[1] == 1 && counts[2] == 7, || format!("the counts of a corner are {counts:?}"));
 }
 
-fn check_answer_line() {
-    let mut line = [b'0'; 258];
-    line[1] = b'1';
+/// A ring's line: type 01 has 16 samples, 03 has 24. Each with the length of the other is malformed.
+fn check_ring_line(digit: u8, length: usize, other: usize) {
+    let zeros = format!("8{}0000000000000000003fc90fdb40490fdb40490fdb0000000001000000", digit as char);
+    let mut line = [b'0'; 386];
+    line[1] = digit;
     let mut out = [b'.'; 120];
-    whole("jb_answer_line into 97 bytes", answer_line(&line, &mut out[..97]), 1);
+    whole("jb_answer_line into 97 bytes", answer_line(&line[..length], &mut out[..97]), 1);
     judge(out == [b'.'; 120], || "jb_answer_line wrote into a short buffer".to_string());
-    whole("jb_answer_line of zeros", answer_line(&line, &mut out), 0);
-    judge(out[..60] == *b"810000000000000000003fc90fdb40490fdb40490fdb0000000001000000", || "the answer to zeros is wrong".to_string());
+    whole("jb_answer_line of zeros", answer_line(&line[..length], &mut out), 0);
+    judge(out[..60] == *zeros.as_bytes(), || "the answer to zeros is wrong".to_string());
     judge(out[60..] == [b'.'; 60], || "jb_answer_line wrote behind its answer".to_string());
-    whole("jb_answer_line of nothing", answer_line(b"", &mut out), 5);
-    judge(out[..8] == *b"ff050000", || "the answer to nothing is wrong".to_string());
+    for bad in [0, length - 1, other] {
+        whole("jb_answer_line of a wrong length", answer_line(&line[..bad], &mut out), 5);
+        judge(out[..8] == *b"ff050000", || "the answer to a wrong length is wrong".to_string());
+    }
+    line[length - 8..length].copy_from_slice(b"ff800000");
+    whole("jb_answer_line of an infinite angle", answer_line(&line[..length], &mut out), 3);
+    let last = format!("8{}03{:04x}", digit as char, (length - 2) / 8 - 1);
+    judge(out[..8] == *last.as_bytes(), || "the answer to an infinite angle is wrong".to_string());
 }
 
 fn main() {
@@ -341,8 +385,10 @@ fn main() {
     check_atan2();
     check_sqrt();
     check_narrow();
-    check_fit_ring();
+    check_fit_ring(16);
+    check_fit_ring(24);
     check_fit_disk();
-    check_answer_line();
+    check_ring_line(b'1', 258, 386);
+    check_ring_line(b'3', 386, 258);
     println!("{} checks of the header's functions", CHECKS.load(std::sync::atomic::Ordering::Relaxed));
 }
