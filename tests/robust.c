@@ -9,7 +9,7 @@ static size_t length_of(const uint8_t *answer)
 {
     if (answer[2] != '0' || answer[3] != '0')
         return 8;
-    return answer[1] == '1' ? 60 : 98;
+    return answer[1] == '2' ? 98 : 60;
 }
 
 int main(void)
