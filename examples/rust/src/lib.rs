@@ -22,14 +22,18 @@
 #![deny(unsafe_op_in_unsafe_fn)]
 
 use core::fmt;
+use raw::Ring;
 
 mod lines;
 mod raw;
 
 pub use lines::{answer_line, RefusedLine, ANSWER_BYTES};
 
-/// Samples, and angles, that a ring has.
+/// Samples, and angles, that a ring has in [`fit_ring`].
 pub const RING_SAMPLES: usize = 16;
+
+/// Samples, and angles, that a ring has in [`fit_ring24`].
+pub const RING24_SAMPLES: usize = 24;
 
 /// Pixels that a disk has at most. It has at least one.
 pub const MOST_PIXELS: usize = 320;
@@ -38,8 +42,8 @@ pub const MOST_PIXELS: usize = 320;
 #[derive(Clone, Copy, Debug, PartialEq, Eq, Hash)]
 #[non_exhaustive]
 pub enum Number {
-    /// 1: a ring slice is not [`RING_SAMPLES`] long, disk slices differ in length, or the answer buffer of a line is
-    /// under [`ANSWER_BYTES`].
+    /// 1: a ring slice is not [`RING_SAMPLES`] long, or not [`RING24_SAMPLES`] for [`fit_ring24`]; disk slices differ in
+    /// length; or the answer buffer of a line is under [`ANSWER_BYTES`].
     Length,
     /// 2: a disk has no pixel, or more than [`MOST_PIXELS`].
     PixelCount,
@@ -100,8 +104,9 @@ pub struct Refusal {
     /// Where: for [`Number::NotFinite`] the index of the first such value, for [`Number::NothingFound`] the number of
     /// trials, else 0.
     ///
-    /// A ring's values count samples (0 to 15), then angles (16 to 31). A disk's count `val_energy`, `base0`, `base1`
-    /// (0 to 2), then `xs`, `ys`, `vals_centered`, `grad_angles`, `grad_weights`.
+    /// A ring's values count samples (0 to 15), then angles (16 to 31); with 24 samples they are 0 to 23, and the angles
+    /// 24 to 47. A disk's count `val_energy`, `base0`, `base1` (0 to 2), then `xs`, `ys`, `vals_centered`, `grad_angles`,
+    /// `grad_weights`.
     pub place: u16,
 }
 
@@ -120,7 +125,7 @@ impl fmt::Display for Refusal {
 
 impl core::error::Error for Refusal {}
 
-/// The fit of a ring: two axes through the corner, in radians.
+/// The fit of a ring, of 16 samples or of 24: two axes through the corner, in radians.
 ///
 /// The model is `mu + amp * tanh(4 sin(phi - theta1)) * tanh(4 sin(phi - theta2))` at the angle `phi`.
 #[derive(Clone, Copy, Debug, PartialEq)]
@@ -161,9 +166,23 @@ impl RingFit {
 /// In this order: [`Number::Length`] at place 0 if a slice is not [`RING_SAMPLES`] long; [`Number::NotFinite`] at the
 /// index of the first value that is NaN or infinite, samples before angles. Every other ring is answered.
 pub fn fit_ring(samples: &[f32], angles: &[f32]) -> Result<RingFit, Refusal> {
+    fit_of(Ring::Of16, samples, angles)
+}
+
+/// Fits the two axes to 24 samples at 24 angles (radians): as [`fit_ring`] in every word, with 24 in the place of 16.
+///
+/// # Errors
+///
+/// In this order: [`Number::Length`] at place 0 if a slice is not [`RING24_SAMPLES`] long; [`Number::NotFinite`] at the
+/// index of the first value that is NaN or infinite, samples before angles. Every other ring is answered.
+pub fn fit_ring24(samples: &[f32], angles: &[f32]) -> Result<RingFit, Refusal> {
+    fit_of(Ring::Of24, samples, angles)
+}
+
+fn fit_of(ring: Ring, samples: &[f32], angles: &[f32]) -> Result<RingFit, Refusal> {
     let mut fit = [0.0; 6];
     let mut counts = [0; 4];
-    match raw::fit_ring(samples, angles, &mut fit, &mut counts) {
+    match raw::fit_ring(ring, samples, angles, &mut fit, &mut counts) {
         0 => Ok(ring_fit(fit, counts)),
         code => Err(Refusal::from_code(code)),
     }

@@ -40,8 +40,8 @@ impl core::error::Error for RefusedLine<'_> {}
 /// # Errors
 ///
 /// [`Number::Length`] if `out` is under [`ANSWER_BYTES`]; nothing is written then. Else whatever the line is refused for,
-/// with its eight characters written to `out`: [`Number::Malformed`], or a number of [`fit_ring`](crate::fit_ring) or
-/// [`fit_disk`](crate::fit_disk).
+/// with its eight characters written to `out`: [`Number::Malformed`], or a number of [`fit_ring`](crate::fit_ring),
+/// [`fit_ring24`](crate::fit_ring24) or [`fit_disk`](crate::fit_disk).
 pub fn answer_line<'a>(line: &[u8], out: &'a mut [u8]) -> Result<&'a [u8], RefusedLine<'a>> {
     let short = out.len() < ANSWER_BYTES;
     let code = raw::answer_line(line, out);

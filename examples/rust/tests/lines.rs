@@ -7,7 +7,16 @@ const REST: u8 = b'.';
 
 /// A ring line of zeros, with one word in the place of another.
 fn ring_line(place: usize, word: &str) -> Vec<u8> {
-    let mut line = [b"01".as_slice(), &[b'0'; 256]].concat();
+    line_of(b"01", 32, place, word)
+}
+
+/// The same with 24 samples and 24 angles.
+fn ring24_line(place: usize, word: &str) -> Vec<u8> {
+    line_of(b"03", 48, place, word)
+}
+
+fn line_of(kind: &[u8], words: usize, place: usize, word: &str) -> Vec<u8> {
+    let mut line = [kind, &vec![b'0'; 8 * words]].concat();
     line[2 + 8 * place..10 + 8 * place].copy_from_slice(word.as_bytes());
     line
 }
@@ -29,6 +38,18 @@ fn a_ring_line_is_answered() {
     let text = answer_line(&ring_line(0, "00000000"), &mut out).unwrap();
     assert_eq!(text, b"810000000000000000003fc90fdb40490fdb40490fdb0000000001000000");
     assert_eq!(out[60..], [REST; 60]);
+}
+
+#[test]
+fn a_ring24_line_is_answered_and_refused() {
+    let mut out = [REST; 120];
+    let text = answer_line(&ring24_line(0, "00000000"), &mut out).unwrap();
+    assert_eq!(text, b"830000000000000000003fc90fdb40490fdb40490fdb0000000001000000");
+    assert_eq!(out[60..], [REST; 60]);
+    assert_eq!(answer_line(&ring24_line(23, "7fc00000"), &mut out), refused(Number::NotFinite, 23, b"83030017"));
+    assert_eq!(answer_line(&ring24_line(47, "7f800000"), &mut out), refused(Number::NotFinite, 47, b"8303002f"));
+    let short = &ring24_line(0, "00000000")[..258];
+    assert_eq!(answer_line(short, &mut out), refused(Number::Malformed, 0, b"ff050000"));
 }
 
 /// The eight neighbours of an upright corner, 40 bright and dark. So few pixels know their axes well, their width not.

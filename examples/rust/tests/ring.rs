@@ -1,9 +1,19 @@
-//! Ring fits through the wrapper: a known one to the bit, one with known axes, and every refusal at its place.
+//! Ring fits of 16 and of 24 samples through the wrapper: a known one each to the bit, one with known axes, and every
+//! refusal at its place.
 
 use core::f32::consts::{FRAC_PI_2, PI};
-use jengubool::{fit_ring, Number, Refusal};
+use jengubool::{fit_ring, fit_ring24, Number, Refusal, RingFit, RING24_SAMPLES, RING_SAMPLES};
 
 const LENGTH: Refusal = Refusal { number: Number::Length, place: 0 };
+
+type Fit = fn(&[f32], &[f32]) -> Result<RingFit, Refusal>;
+
+/// Both rings, and how many samples each has.
+const RINGS: [(usize, Fit); 2] = [(RING_SAMPLES, fit_ring), (RING24_SAMPLES, fit_ring24)];
+
+fn bits(fit: RingFit) -> [u32; 6] {
+    [fit.amp, fit.theta1, fit.theta2, fit.error1, fit.error2, fit.rms].map(f32::to_bits)
+}
 
 /// A noisy ring, as bits, and its answer.
 const SAMPLES: [u32; 16] = [
@@ -19,49 +29,70 @@ const ANSWER: [u32; 6] = [0x404a131e, 0x3fc1c523, 0x405347ee, 0x3bee0dc1, 0x3c11
 #[test]
 fn a_known_ring_has_its_bits() {
     let fit = fit_ring(&SAMPLES.map(f32::from_bits), &ANGLES.map(f32::from_bits)).unwrap();
-    let bits = [fit.amp, fit.theta1, fit.theta2, fit.error1, fit.error2, fit.rms].map(f32::to_bits);
-    assert_eq!(bits, ANSWER);
+    assert_eq!(bits(fit), ANSWER);
     assert_eq!((fit.starts, fit.first_updates, fit.second_updates), (1, 3, 0));
     assert_eq!(fit.errors(), Some([fit.error1, fit.error2]));
 }
 
+/// Line 6 of examples/frames/rings24.txt, a skewed corner: whole grey values at every 15 degrees.
+#[test]
+fn a_known_ring_of_24_has_its_bits() {
+    let samples = [
+        186, 174, 128, 82, 77, 108, 164, 184, 187, 188, 188, 188, //
+        186, 174, 128, 82, 77, 108, 164, 184, 187, 188, 188, 188,
+    ];
+    let angles: [f32; 24] = core::array::from_fn(|i| (i as f64 * core::f64::consts::PI / 12.0) as f32);
+    let fit = fit_ring24(&samples.map(|grey: u8| f32::from(grey)), &angles).unwrap();
+    assert_eq!(bits(fit), [0x4270ada8, 0x3f05e8d1, 0x3fb2ad95, 0x3a6584fc, 0x3a6e61fc, 0x3e68fbf7]);
+    assert_eq!((fit.starts, fit.first_updates, fit.second_updates, fit.errors_known), (2, 5, 3, true));
+}
+
 #[test]
 fn axes_are_found_again() {
-    let angles: [f32; 16] = core::array::from_fn(|i| i as f32 * PI / 8.0);
     let edge = |a: f32, axis: f32| (4.0 * (a - axis.to_radians()).sin()).tanh();
-    let samples = angles.map(|a| 128.0 + 60.0 * edge(a, 35.0) * edge(a, 120.0));
-    let fit = fit_ring(&samples, &angles).unwrap();
-    assert!((fit.theta1.to_degrees() - 35.0).abs() < 0.01, "{fit:?}");
-    assert!((fit.theta2.to_degrees() - 120.0).abs() < 0.01, "{fit:?}");
-    assert!((fit.amp - 60.0).abs() < 0.01 && fit.rms < 0.01, "{fit:?}");
-}
-
-#[test]
-fn a_ring_without_contrast_has_no_errors() {
-    let fit = fit_ring(&[0.0; 16], &[0.0; 16]).unwrap();
-    assert_eq!((fit.amp, fit.theta1, fit.theta2, fit.rms), (0.0, 0.0, FRAC_PI_2, 0.0));
-    assert_eq!((fit.error1, fit.error2, fit.errors()), (PI, PI, None));
-    assert_eq!((fit.starts, fit.first_updates, fit.second_updates), (1, 0, 0));
-}
-
-#[test]
-fn a_value_that_is_not_finite_is_refused_at_its_place() {
-    for place in 0..32u16 {
-        for wild in [f32::NAN, f32::INFINITY, f32::NEG_INFINITY] {
-            let mut values = [0.0; 32];
-            values[usize::from(place)] = wild;
-            values[31] = f32::NAN; // the first one counts
-            let refusal = Refusal { number: Number::NotFinite, place };
-            assert_eq!(fit_ring(&values[..16], &values[16..]), Err(refusal));
-        }
+    for (n, fit) in RINGS {
+        let angles: Vec<f32> = (0..n).map(|i| i as f32 * 2.0 * PI / n as f32).collect();
+        let samples: Vec<f32> = angles.iter().map(|&a| 128.0 + 60.0 * edge(a, 35.0) * edge(a, 120.0)).collect();
+        let fit = fit(&samples, &angles).unwrap();
+        assert!((fit.theta1.to_degrees() - 35.0).abs() < 0.01, "{fit:?}");
+        assert!((fit.theta2.to_degrees() - 120.0).abs() < 0.01, "{fit:?}");
+        assert!((fit.amp - 60.0).abs() < 0.01 && fit.rms < 0.01, "{fit:?}");
     }
 }
 
 #[test]
+fn a_ring_without_contrast_has_no_errors() {
+    for (n, fit) in RINGS {
+        let fit = fit(&vec![0.0; n], &vec![0.0; n]).unwrap();
+        assert_eq!((fit.amp, fit.theta1, fit.theta2, fit.rms), (0.0, 0.0, FRAC_PI_2, 0.0));
+        assert_eq!((fit.error1, fit.error2, fit.errors()), (PI, PI, None));
+        assert_eq!((fit.starts, fit.first_updates, fit.second_updates), (1, 0, 0));
+    }
+}
+
+#[test]
+fn a_value_that_is_not_finite_is_refused_at_its_place() {
+    for (n, fit) in RINGS {
+        for (place, wild) in (0..2 * n).flat_map(|p| [f32::NAN, f32::INFINITY, f32::NEG_INFINITY].map(|w| (p, w))) {
+            let mut values = vec![0.0; 2 * n];
+            values[place] = wild;
+            values[2 * n - 1] = f32::NAN; // the first one counts
+            let refusal = Refusal { number: Number::NotFinite, place: place as u16 };
+            assert_eq!(fit(&values[..n], &values[n..]), Err(refusal));
+        }
+    }
+}
+
+/// A ring of 16 given to the fit for 24 is one of them, and so is the reverse.
+#[test]
 fn wrong_lengths_come_before_values() {
-    let wild = [f32::NAN; 17];
-    for (samples, angles) in [(0, 16), (15, 16), (17, 16), (16, 0), (16, 15), (16, 17)] {
-        assert_eq!(fit_ring(&wild[..samples], &wild[..angles]), Err(LENGTH));
+    let wild = [f32::NAN; 25];
+    for (n, fit) in RINGS {
+        for wrong in (0..=25).filter(|&length| length != n) {
+            assert_eq!(fit(&wild[..wrong], &wild[..n]), Err(LENGTH));
+            assert_eq!(fit(&wild[..n], &wild[..wrong]), Err(LENGTH));
+            assert_eq!(fit(&wild[..wrong], &wild[..wrong]), Err(LENGTH));
+        }
     }
 }
 
