@@ -395,7 +395,8 @@ pub disk-leaders : (D : DiskData) (base0 base1 : Float) → leadersKept D base0 
 disk-leaders D base0 base1 = leaders-are D base0 base1
 
 -- any two answers that a contract permits are equal, of each entry
-pub ring-answers-equal : (n : ℕ) (samples angles : List Float) (a b : RingAnswer) → a ≡ checkedRing n samples angles → b ≡ checkedRing n samples angles → a ≡ b
+pub ring-answers-equal : (n : ℕ) (samples angles : List Float) (a b : RingAnswer)
+    → a ≡ checkedRing n samples angles → b ≡ checkedRing n samples angles → a ≡ b
 ring-answers-equal n samples angles a b e g = e ∙ sym g
 
 pub disk-answers-equal : (D : DiskData) (base0 base1 : Float) (a b : DiskAnswer) → a ≡ checkedDisk D base0 base1 → b ≡ checkedDisk D base0 base1 → a ≡ b

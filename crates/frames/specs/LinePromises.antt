@@ -22,8 +22,8 @@ use Rattle.checked.specs.declared.RingAnswer.the-variants as Rings
 use Rattle.checked.specs.declared.DiskAnswer.{DiskAnswer}
 use Rattle.checked.specs.declared.DiskAnswer.the-variants as Disks
 use Rattle.frames.specs.declared.Answer.{Answer}
-use Rattle.frames.specs.Frames.{answerOf, shapedAnswer, ringAnswered, ringOfLine, diskAnswered, diskOfLine, valueWords, ringText, diskText, refusalText, textOf}
-use Rattle.frames.specs.Frames.{numberOf}
+use Rattle.frames.specs.Frames.{answerOf, shapedAnswer, ringAnswered, ringOfLine, diskAnswered, diskOfLine, valueWords}
+use Rattle.frames.specs.Frames.{ringText, diskText, refusalText, textOf, numberOf}
 
 -- counts side by side, a byte each, as they are
 abbrev pub plainWord : List ℕ → ℕ
@@ -57,7 +57,9 @@ module _ (line : List ℕ) where
 
   -- 0 with the fit's text and no other number with it; else a refusal's text of type, number and place
   pub data LineCase (a : Answer) : Type 0 where
-    ring-fit : (kind : ℕ) → shapeOf line ≡ Shapes.Ring kind → ringNumber (ringAt kind) ≡ 0 → numberOf a ≡ 0 → textOf a ≡ ringLine kind → LineCase a
+    ring-fit :
+        (kind : ℕ) → shapeOf line ≡ Shapes.Ring kind → ringNumber (ringAt kind) ≡ 0 → numberOf a ≡ 0 →
+        textOf a ≡ ringLine kind → LineCase a
     ring-refused :
         (kind : ℕ) → shapeOf line ≡ Shapes.Ring kind → 0 < ringNumber (ringAt kind) → numberOf a ≡ ringNumber (ringAt kind) →
         textOf a ≡ refusalText (0x80 + kind) (ringNumber (ringAt kind)) (ringPlace (ringAt kind)) → LineCase a

@@ -302,7 +302,8 @@ module _ (n : ℕ) (share : Share n) where
       let low = nth-low n share dev p (max-low v (nth-number n share dev p (upright-number dev u)) root) in
       record { number = low .number; above = upright-above binary32 dev p u; small = low .small }
 
-  pub ring-tiny : (samples ringPhi : Row) → Finite n samples → eq (fitRing n samples ringPhi .fit .rms) nought ≡ true → Tiny n (ringSum n samples ringPhi)
+  pub ring-tiny : (samples ringPhi : Row) → Finite n samples → eq (fitRing n samples ringPhi .fit .rms) nought ≡ true
+      → Tiny n (ringSum n samples ringPhi)
   unfolding ringSum
   ring-tiny samples ringPhi h z =
       let mean = meanOf n samples in
