@@ -56,3 +56,8 @@ pub record Alone (primary : Started) (r : RingFit) : Type 0 where
 
 pub record Chosen (primary : Started) (second : Second) (r : RingFit) : Type 0 where
   pub is : (f : R.Start) (o : Option R.Start) → primary ≡ startedOf f → second ≡ secondOf o → r ≡ R.ringFitOf (R.chosen f o)
+
+-- r is the answer of the first start f and of the grid's
+abbrev pub WithGrid : Row → Row → First → RingFit → Type 0
+WithGrid samples ringPhi f r =
+    Chosen (f .primary) (secondOf (R.robustGridFit (length samples) samples ringPhi (f .mean) (f .«centered_var»))) r

@@ -137,15 +137,7 @@ module _ (n : ℕ) (samples ringPhi : Row) (mean centeredVar : Float) (centered 
       let eC : cphi ≡ cosines n ringPhi = p .c ∙ ap (λ (k : ℕ). cosines k ringPhi) el in
       rw (ev, t, ← s, ← ec, ← eS, ← eC, ← best) er
 
--- ---- the answers of one start, and of two; the number of samples by its name
-pub chosen-at : (m n : ℕ) (samples ringPhi : Row) (mean centeredVar : Float) (primary : Started) (s : Second) (r : RingFit)
-    → s ≡ secondOf (R.robustGridFit m samples ringPhi mean centeredVar) → m ≡ n → Chosen primary s r
-    → Chosen primary (secondOf (R.robustGridFit n samples ringPhi mean centeredVar)) r
-chosen-at m n samples ringPhi mean centeredVar primary s r e l c = rw (← l, ← e) c
-
-pub first-at : (m n : ℕ) (samples ringPhi : Row) (f : First) → f ≡ firstOf m samples ringPhi → m ≡ n → f ≡ firstOf n samples ringPhi
-first-at m n samples ringPhi f e l = rw (← l) e
-
+-- ---- the answers of one start, and of two
 pub alone-is : (primary : Started) → Alone primary (record { fit = primary .fit; starts = 1; first = primary .updates; second = 0 })
 alone-is primary = record { is = λ f e. rw e }
 

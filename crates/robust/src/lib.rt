@@ -343,8 +343,24 @@ fn chosen(primary: Started, s: Second) -> RingFit
     }
 }
 
-// The answer behind a suspicious first start. The grid's rows are on this call's stack, so they are cleared only where the
-// grid is reached.
+// The answer behind a suspicious first start.
+fn with_grid(
+    samples: &[f32],
+    ring_phi: &[f32],
+    f: First,
+    sphi: &[f32],
+    cphi: &[f32],
+    js: &mut [f32],
+    h: &mut [f32],
+) -> RingFit
+    requires { ⌜ P.Ready (now samples) (now «ring_phi») (now sphi) (now cphi) (now js) × P.Rows (now samples) (now h) ⌝ }
+    ensures { λ r. ⌜ P.WithGrid (now (samples .entry)) (now («ring_phi» .entry)) f r ⌝ }
+{
+    let s = grid_fit(samples, ring_phi, f.mean, f.centered_var, sphi, cphi, js, h);
+    chosen(f.primary, s)
+}
+
+// The same of 16 samples. The grid's rows are on this call's stack, so they are cleared only where the grid is reached.
 fn with_grid_16(
     samples: &[f32],
     ring_phi: &[f32],
@@ -354,21 +370,10 @@ fn with_grid_16(
     js: &mut [f32],
 ) -> RingFit
     requires { ⌜ (length (now samples) ≡ 16) × P.Ready (now samples) (now «ring_phi») (now sphi) (now cphi) (now js) ⌝ }
-    ensures { λ r. ⌜ P.Chosen (f .primary) (P.secondOf (R.robustGridFit 16 (now (samples .entry)) (now («ring_phi» .entry))
-        (f .mean) (f .«centered_var»))) r ⌝ }
+    ensures { λ r. ⌜ P.WithGrid (now (samples .entry)) (now («ring_phi» .entry)) f r ⌝ }
 {
     let mut h = [0.0f32; GRID_16];
-    let s = grid_fit(
-        samples,
-        ring_phi,
-        f.mean,
-        f.centered_var,
-        sphi,
-        cphi,
-        js,
-        &mut h,
-    );
-    chosen(f.primary, s)
+    with_grid(samples, ring_phi, f, sphi, cphi, js, &mut h)
 }
 
 fn with_grid_24(
@@ -380,28 +385,17 @@ fn with_grid_24(
     js: &mut [f32],
 ) -> RingFit
     requires { ⌜ (length (now samples) ≡ 24) × P.Ready (now samples) (now «ring_phi») (now sphi) (now cphi) (now js) ⌝ }
-    ensures { λ r. ⌜ P.Chosen (f .primary) (P.secondOf (R.robustGridFit 24 (now (samples .entry)) (now («ring_phi» .entry))
-        (f .mean) (f .«centered_var»))) r ⌝ }
+    ensures { λ r. ⌜ P.WithGrid (now (samples .entry)) (now («ring_phi» .entry)) f r ⌝ }
 {
     let mut h = [0.0f32; GRID_24];
-    let s = grid_fit(
-        samples,
-        ring_phi,
-        f.mean,
-        f.centered_var,
-        sphi,
-        cphi,
-        js,
-        &mut h,
-    );
-    chosen(f.primary, s)
+    with_grid(samples, ring_phi, f, sphi, cphi, js, &mut h)
 }
 
 // The fit of 16 samples, with its working buffers on this call's stack. What a call has there follows from the number of
 // samples, so each number has its own two functions, and all that they call serves both.
 pub fn fit_ring(samples: &[f32], ring_phi: &[f32]) -> RingFit
     requires { ⌜ (length (now samples) ≡ 16) × (length (now «ring_phi») ≡ 16) ⌝ }
-    ensures { λ r. ⌜ r ≡ R.fitRing 16 (now (samples .entry)) (now («ring_phi» .entry)) ⌝ }
+    ensures { λ r. ⌜ r ≡ R.fitRing (length (now (samples .entry))) (now (samples .entry)) (now («ring_phi» .entry)) ⌝ }
 {
     let mut sphi = [0.0f32; 16];
     let mut cphi = [0.0f32; 16];
@@ -417,7 +411,7 @@ pub fn fit_ring(samples: &[f32], ring_phi: &[f32]) -> RingFit
 // The fit of 24 samples: ours, without a counterpart in the Rust.
 pub fn fit_ring24(samples: &[f32], ring_phi: &[f32]) -> RingFit
     requires { ⌜ (length (now samples) ≡ 24) × (length (now «ring_phi») ≡ 24) ⌝ }
-    ensures { λ r. ⌜ r ≡ R.fitRing 24 (now (samples .entry)) (now («ring_phi» .entry)) ⌝ }
+    ensures { λ r. ⌜ r ≡ R.fitRing (length (now (samples .entry))) (now (samples .entry)) (now («ring_phi» .entry)) ⌝ }
 {
     let mut sphi = [0.0f32; 24];
     let mut cphi = [0.0f32; 24];

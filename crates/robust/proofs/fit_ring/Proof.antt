@@ -1,7 +1,7 @@
 -- The first start is answered alone, or with the grid's behind it where it is suspicious. Assumes nothing.
 use mathlib.Core.Path.{_∙_, sym}
 use native.Mathlib.Omega.{arith}
-use Rattle.robust.specs.RobustLaws.{first-at, ring-alone, ring-chosen}
+use Rattle.robust.specs.RobustLaws.{ring-alone, ring-chosen}
 use borrow.Author.Needs.{needs}
 use Rattle.robust.proofs.fit_ring.Statement.{statement}
 use Rattle.robust.proofs.fit_ring.Tie as tie
@@ -9,28 +9,24 @@ use Rattle.robust.proofs.fit_ring.Tie as tie
 with-grid-16-requires : tie.Need-with-grid-16-requires
 with-grid-16-requires c κs =
     let c3 = c .before .before .before in
-    let c4 = c3 .before in
-    let c9 = c4 .before .before .before .before .before in
-    let c15 = c9 .before .before .before .before .before .before in
-    let n = c15 .pre .0 in
-    let suspicious = sym (c4 .fit-is-suspicious .ensures) ∙ c3 .if1 .taken in
-    (n, record { few = omega (arith, n); phi = c15 .pre .1 ∙ sym n; sines = c9 .first-start .ensures .1 suspicious; j = search needs })
+    let c9 = c3 .before .before .before .before .before .before in
+    let pre = c9 .before .before .before .before .before .before .pre in
+    let suspicious = sym (c3 .before .fit-is-suspicious .ensures) ∙ c3 .if1 .taken in
+    let prepared = c9 .first-start .ensures .1 suspicious in
+    (pre .0, record { few = omega (arith, pre .0); phi = pre .1 ∙ sym (pre .0); sines = prepared; j = search needs })
 
 returns : tie.Need-returns
 returns c =
     let c5 = c .before .before .before .before .before in
-    let c6 = c5 .before in
-    let c11 = c6 .before .before .before .before .before in
-    let c17 = c11 .before .before .before .before .before .before in
-    let first = first-at _ _ _ _ _ (c11 .first-start .ensures .0) (c17 .pre .0) in
-    ring-chosen _ _ _ _ _ first (sym (c6 .fit-is-suspicious .ensures) ∙ c5 .if1 .taken) (c .before .with-grid-16 .ensures)
+    let c11 = c5 .before .before .before .before .before .before in
+    let suspicious = sym (c5 .before .fit-is-suspicious .ensures) ∙ c5 .if1 .taken in
+    ring-chosen _ _ _ _ _ (c11 .first-start .ensures .0) suspicious (c .before .with-grid-16 .ensures)
 
 returns-2 : tie.Need-returns-2
 returns-2 c =
     let c7 = c .before .before .before .before .before .before .before in
-    let c13 = c7 .before .before .before .before .before .before in
-    let first = first-at _ _ _ _ _ (c7 .first-start .ensures .0) (c13 .pre .0) in
-    ring-alone _ _ _ _ _ first (sym (c .before .before .fit-is-suspicious .ensures) ∙ c .before .if1 .left) (c .alone .ensures)
+    let calm = sym (c .before .before .fit-is-suspicious .ensures) ∙ c .before .if1 .left in
+    ring-alone _ _ _ _ _ (c7 .first-start .ensures .0) calm (c .alone .ensures)
 
 pub fit-ring-spec : {M : Type 1} → statement M
 fit-ring-spec =
