@@ -40,7 +40,7 @@ pub fn alone_told(text: &mut [u8], at: usize, alone: bool, a: Above) -> usize
 
 // The refusal that the frame above is due, as its line is written.
 fn due(a: Above) -> [u8; 24] {
-    let kind = explain_sorts::answer_type(a.kind) as u64;
+    let kind = shapes::answer_type(a.kind) as u64;
     let number = a.number as u64;
     let place = a.place as u64;
     bits(kind * 16777216 + number * 65536 + place, 8)

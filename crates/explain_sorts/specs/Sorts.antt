@@ -6,7 +6,7 @@ use lib.ListN.{length}
 use lib.Dec.{eqb, ltb}
 use lib.Ieee.Scale.{finite}
 use Rattle.hex.specs.Hex.{byteOf, wordOf, valueOf}
-use Rattle.shapes.specs.Shapes.{shapeOf, fitLength, samplesOf}
+use Rattle.shapes.specs.Shapes.{shapeOf, fitLength, samplesOf, answerType}
 use Rattle.shapes.specs.declared.Shape.{Shape}
 use Rattle.shapes.specs.declared.Shape.the-variants as Shapes
 use Rattle.shapes.specs.declared.Fault.{Fault}
@@ -135,9 +135,6 @@ aboveOf (Frame a) line = a
 aboveOf (Fit kind) line = nothing
 aboveOf (Refused r) line = nothing
 aboveOf (Bad w) line = badAbove w line
-
-abbrev pub answerType : ℕ → ℕ
-answerType kind = cond (ltb kind 128) (kind + 128) kind
 
 -- whether an answer may be that of the frame above: a refusal that is due is the one; finite values have a fit, or a disk's number 4
 unfoldable pub belongs : Above → ℕ → ℕ → ℕ → Bool

@@ -290,22 +290,12 @@ pub fn above_of(sort: Sort, number: u64) -> Above
     }
 }
 
-// A malformed line is answered by ff, and a frame by its type plus 80.
-pub fn answer_type(kind: u32) -> u32
-    ensures { λ r. ⌜ r ≡ S.answerType kind ⌝ }
-{
-    if kind < 128 {
-        return kind + 128;
-    }
-    kind
-}
-
 // Whether an answer of a type, with a number of refusal, 0 for a fit, and a place may be that of the
 // frame above it.
 pub fn belongs(a: Above, kind: u32, number: u32, place: u32) -> bool
     ensures { λ r. ⌜ r ≡ S.belongs a kind number place ⌝ }
 {
-    let due = answer_type(a.kind);
+    let due = shapes::answer_type(a.kind);
     if a.number != 0 {
         return (kind == due) & (number == a.number) & (place == a.place);
     }

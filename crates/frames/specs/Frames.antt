@@ -6,7 +6,7 @@ use lib.ListN.{length}
 use lib.Dec.{ltb}
 use lib.Ieee.{Float, binary32, toBits}
 use Rattle.hex.specs.Hex.{valueOf, valuesOf, byteText, countText, wordsText, put}
-use Rattle.shapes.specs.Shapes.{shapeOf, samplesOf}
+use Rattle.shapes.specs.Shapes.{shapeOf, samplesOf, answerType}
 use Rattle.shapes.specs.declared.Shape.{Shape}
 use Rattle.shapes.specs.declared.Shape.the-variants as Shapes
 use Rattle.robust.specs.declared.RingFit.{RingFit}
@@ -25,7 +25,7 @@ use Rattle.frames.specs.declared.Answer.the-variants.{Ring, Sector, Refu
 abbrev pub malformed : Answer
 malformed = Refused 0xff 5 0
 
--- an answer's type is the frame's plus 80
+-- a fit or a refusal, of its type
 abbrev pub ringAnswered : ℕ → RingAnswer → Answer
 ringAnswered kind (Rings.Fitted r known) = Ring kind r known
 ringAnswered kind (Rings.Refused number place) = Refused kind number place
@@ -35,7 +35,7 @@ abbrev pub ringOfLine : List ℕ → ℕ → RingAnswer
 ringOfLine l n = checkedRing n (valuesOf l 2 n) (valuesOf l (2 + 8 * n) n)
 
 abbrev pub ringAnswer : List ℕ → ℕ → Answer
-ringAnswer l kind = ringAnswered (0x80 + kind) (ringOfLine l (samplesOf kind))
+ringAnswer l kind = ringAnswered (answerType kind) (ringOfLine l (samplesOf kind))
 
 abbrev pub diskAnswered : DiskAnswer → Answer
 diskAnswered (Disks.Fitted m known) = Sector m known

@@ -7,7 +7,7 @@ use Prim.Native.Nat.{ℕ, _+_, _*_, _%_, _^_, _≤_, _<_}
 use native.Mathlib.Omega.{arith}
 use lib.ListN.{length, getD}
 use Rattle.hex.specs.Hex.{valueOf, valuesOf, byteText, countText, wordsText}
-use Rattle.shapes.specs.Shapes.{shapeOf, samplesOf}
+use Rattle.shapes.specs.Shapes.{shapeOf, samplesOf, answerType}
 use Rattle.shapes.specs.declared.Fault.{Fault}
 use Rattle.shapes.specs.declared.Shape.{Shape}
 use Rattle.shapes.specs.declared.Shape.the-variants as Shapes
@@ -48,7 +48,7 @@ module _ (line : List ℕ) where
   -- the text of an answered ring and of an answered disk
   abbrev pub ringLine : ℕ → List ℕ
   ringLine kind =
-      countText ((0x80 + kind) * 256) ++ wordsText (valueWords (ringValues (ringAt kind)) ++ (plainWord (ringCounts (ringAt kind)) ∷ [])) 7
+      countText (answerType kind * 256) ++ wordsText (valueWords (ringValues (ringAt kind)) ++ (plainWord (ringCounts (ringAt kind)) ∷ [])) 7
 
   abbrev pub diskLine : ℕ → List ℕ
   diskLine n =
@@ -62,7 +62,7 @@ module _ (line : List ℕ) where
         textOf a ≡ ringLine kind → LineCase a
     ring-refused :
         (kind : ℕ) → shapeOf line ≡ Shapes.Ring kind → 0 < ringNumber (ringAt kind) → numberOf a ≡ ringNumber (ringAt kind) →
-        textOf a ≡ refusalText (0x80 + kind) (ringNumber (ringAt kind)) (ringPlace (ringAt kind)) → LineCase a
+        textOf a ≡ refusalText (answerType kind) (ringNumber (ringAt kind)) (ringPlace (ringAt kind)) → LineCase a
     disk-fit : (n : ℕ) → shapeOf line ≡ Shapes.Disk n → diskNumber (diskAt n) ≡ 0 → numberOf a ≡ 0 → textOf a ≡ diskLine n → LineCase a
     disk-refused :
         (n : ℕ) → shapeOf line ≡ Shapes.Disk n → 0 < diskNumber (diskAt n) → numberOf a ≡ diskNumber (diskAt n) →
@@ -74,7 +74,7 @@ module _ (line : List ℕ) where
   -- the counts of an answer are below 256, and its trials below 65536
   ring-text :
       (kind : ℕ) (r : RingFit) (k : Bool) → ringAt kind ≡ Rings.Fitted r k → ringNumber (ringAt kind) ≡ 0 →
-      ringText (0x80 + kind) r k ≡ ringLine kind
+      ringText (answerType kind) r k ≡ ringLine kind
   unfolding ringText ringValues ringCounts
   ring-text kind r k e z =
       let n = samplesOf kind in
@@ -101,7 +101,7 @@ module _ (line : List ℕ) where
   at-ring : (kind : ℕ) → AtRing kind
   at-ring kind = let n = samplesOf kind in ring-cases n (valuesOf line 2 n) (valuesOf line (2 + 8 * n) n)
 
-  ring-line : (kind : ℕ) → shapeOf line ≡ Shapes.Ring kind → AtRing kind → LineCase (ringAnswered (0x80 + kind) (ringAt kind))
+  ring-line : (kind : ℕ) → shapeOf line ≡ Shapes.Ring kind → AtRing kind → LineCase (ringAnswered (answerType kind) (ringAt kind))
   unfolding ringNumber ringPlace C.ringFitted
   ring-line kind s (wrong-length l e) = rw e (ring-refused kind s (rw e (omega arith)) (rw e refl) (rw e refl))
   ring-line kind s (wrong-value p b f e) = rw e (ring-refused kind s (rw e (omega arith)) (rw e refl) (rw e refl))

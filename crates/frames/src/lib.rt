@@ -38,37 +38,38 @@ fn ring_answered(kind: u8, a: RingAnswer) -> Answer
 }
 
 // The samples and the angles of a ring of type 01, behind the type.
-fn ring_line(line: &[u8]) -> Answer
+fn ring_line(line: &[u8]) -> RingAnswer
     requires { ⌜ length (now line) ≡ ringLength 16 ⌝ }
-    ensures { λ r. ⌜ r ≡ F.ringAnswer (now (line .entry)) 1 ⌝ }
+    ensures { λ r. ⌜ r ≡ F.ringOfLine (now (line .entry)) 16 ⌝ }
 {
     let mut samples = [0.0f32; 16];
     let mut angles = [0.0f32; 16];
     hex::values(line, 2, &mut samples);
     hex::values(line, 130, &mut angles);
-    ring_answered(129, checked::fit_ring(&samples, &angles))
+    checked::fit_ring(&samples, &angles)
 }
 
 // The same of type 03.
-fn ring24_line(line: &[u8]) -> Answer
+fn ring24_line(line: &[u8]) -> RingAnswer
     requires { ⌜ length (now line) ≡ ringLength 24 ⌝ }
-    ensures { λ r. ⌜ r ≡ F.ringAnswer (now (line .entry)) 3 ⌝ }
+    ensures { λ r. ⌜ r ≡ F.ringOfLine (now (line .entry)) 24 ⌝ }
 {
     let mut samples = [0.0f32; 24];
     let mut angles = [0.0f32; 24];
     hex::values(line, 2, &mut samples);
     hex::values(line, 194, &mut angles);
-    ring_answered(131, checked::fit_ring24(&samples, &angles))
+    checked::fit_ring24(&samples, &angles)
 }
 
 fn typed_ring(line: &[u8], kind: u32) -> Answer
     requires { ⌜ RingType kind × (length (now line) ≡ ringLength (samplesOf kind)) ⌝ }
     ensures { λ r. ⌜ r ≡ F.ringAnswer (now (line .entry)) kind ⌝ }
 {
+    let answer = shapes::answer_type(kind) as u8;
     if kind == 3 {
-        return ring24_line(line);
+        return ring_answered(answer, ring24_line(line));
     }
-    ring_line(line)
+    ring_answered(answer, ring_line(line))
 }
 
 fn disk_answered(a: DiskAnswer) -> Answer

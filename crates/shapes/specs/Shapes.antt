@@ -33,6 +33,10 @@ samplesOf kind = cond (eqb kind 3) 24 16
 abbrev pub RingType : ℕ → Type 0
 RingType kind = T (eqb kind 1 || eqb kind 3)
 
+-- an answer's type is the frame's plus 80; ff, of a malformed line, stays
+abbrev pub answerType : ℕ → ℕ
+answerType kind = cond (ltb kind 128) (kind + 128) kind
+
 unfoldable pub ringShape : List ℕ → ℕ → Shape
 ringShape l kind = cond (eqb (length l) (ringLength (samplesOf kind))) (Ring kind) (Malformed (RingLength kind))
 

@@ -1,7 +1,7 @@
 // A frame's shape: what a line's type, length and characters say of it, before any value is read.
 // The order of the refusals is that of docs/RULES.md, Frame lines, and stands in specs/Shapes.antt.
 ghost use mathlib.Core.Path.{_≡_};
-ghost use Prim.Native.Nat.{_≤_, _<_};
+ghost use Prim.Native.Nat.{_+_, _≤_, _<_};
 ghost use lib.ListN.{length};
 ghost use Rattle.shapes.specs.Shapes as S;
 
@@ -47,6 +47,16 @@ pub fn samples_of(kind: u32) -> usize
         return 24;
     }
     16
+}
+
+// A frame is answered by its type plus 80, and a malformed line by ff.
+pub fn answer_type(kind: u32) -> u32
+    ensures { λ r. ⌜ (r ≤ 128 + kind) × (r ≡ S.answerType kind) ⌝ }
+{
+    if kind < 128 {
+        return kind + 128;
+    }
+    kind
 }
 
 fn ring_shape(line: &[u8], kind: u32) -> Shape

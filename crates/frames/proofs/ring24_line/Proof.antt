@@ -5,13 +5,13 @@ use Rattle.frames.proofs.ring24_line.Tie as tie
 
 returns : tie.Need-returns
 returns c =
-    let b5 = c .before .before .before .before .before in
-    let b8 = b5 .before .before .before in
-    rw (← b8 .values .ensures, ← b5 .values2 .ensures, ← c .before .fit-ring24 .ensures) (c .ring-answered .ensures)
+    let b4 = c .before .before .before .before in
+    let b7 = b4 .before .before .before in
+    rw (← b7 .values .ensures, ← b4 .values2 .ensures) (c .fit-ring24 .ensures)
 
 pub ring24-line-spec : {M : Type 1} → statement M
 ring24-line-spec =
     tie.close
     (tie.spec
     (λ c. search needs) (λ c κs. search needs) (λ c. search needs) (λ c κs. search needs) (λ c. search needs)
-    (λ c. search needs) (λ c κs. search needs) (λ c κs. search needs) returns)
+    (λ c. search needs) (λ c κs. search needs) returns)
