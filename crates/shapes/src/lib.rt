@@ -51,7 +51,7 @@ pub fn samples_of(kind: u32) -> usize
 
 // A frame is answered by its type plus 80, and a malformed line by ff.
 pub fn answer_type(kind: u32) -> u32
-    ensures { λ r. ⌜ (r ≤ 128 + kind) × (r ≡ S.answerType kind) ⌝ }
+    ensures { λ r. ⌜ (r ≡ S.answerType kind) × (r ≤ 128 + kind) ⌝ }
 {
     if kind < 128 {
         return kind + 128;

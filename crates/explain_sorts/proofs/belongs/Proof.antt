@@ -9,13 +9,13 @@ returns : tie.Need-returns
 unfolding S.belongs
 returns c =
     let b2 = c .before .before in
-    rw (ne-eqb _ _ (b2 .if1 .taken), b2 .before .before .answer-type .ensures .1)
+    rw (ne-eqb _ _ (b2 .if1 .taken), b2 .before .before .answer-type .ensures .0)
 
 returns-2 : tie.Need-returns-2
 unfolding S.belongs
 returns-2 c =
     let b3 = c .before .before .before in
-    rw (eq-eqb _ _ (b3 .if1 .left), c .if2 .taken, b3 .before .before .answer-type .ensures .1)
+    rw (eq-eqb _ _ (b3 .if1 .left), c .if2 .taken, b3 .before .before .answer-type .ensures .0)
 
 returns-3 : tie.Need-returns-3
 unfolding S.belongs

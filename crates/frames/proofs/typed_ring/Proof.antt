@@ -28,7 +28,7 @@ small kind t = go (eqb kind 1) (eqb kind 3) (eqb→eq kind 1) (eqb→eq kind 3) 
 cast-answer : tie.Need-cast-answer
 cast-answer c =
     let b2 = c .before .before in
-    omega (arith, c .answer-type .ensures .0, small (b2 .args .kind) (b2 .pre .0))
+    omega (arith, c .answer-type .ensures .1, small (b2 .args .kind) (b2 .pre .0))
 
 ring24-line-requires : tie.Need-ring24-line-requires
 ring24-line-requires c κs = rw (c .if1 .taken) at (c .before .before .before .pre .1)
@@ -36,7 +36,7 @@ ring24-line-requires c κs = rw (c .if1 .taken) at (c .before .before .before .p
 returns : tie.Need-returns
 returns c =
     let b2 = c .before .before in
-    rw (c .ring-answered .ensures, c .before .ring24-line .ensures, b2 .before .answer-type .ensures .1, b2 .if1 .taken)
+    rw (c .ring-answered .ensures, c .before .ring24-line .ensures, b2 .before .answer-type .ensures .0, b2 .if1 .taken)
 
 ring-line-requires : tie.Need-ring-line-requires
 ring-line-requires c κs =
@@ -48,7 +48,7 @@ returns-2 c =
     let b2 = c .before .before in
     let b5 = b2 .before .before .before in
     let one = other (b5 .args .kind) (b5 .pre .0) (ne-eqb _ _ (b2 .if1 .left)) in
-    rw (c .ring-answered2 .ensures, c .before .ring-line .ensures, b2 .before .answer-type .ensures .1, one)
+    rw (c .ring-answered2 .ensures, c .before .ring-line .ensures, b2 .before .answer-type .ensures .0, one)
 
 pub typed-ring-spec : {M : Type 1} → statement M
 typed-ring-spec =
