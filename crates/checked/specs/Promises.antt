@@ -55,7 +55,7 @@ module _ (n : ℕ) (samples angles : List Float) where
   -- place; a fit where all 2 n values are finite
   pub data RingCase (a : RingAnswer) : Type 0 where
     wrong-length : C.ringSized n samples angles ≡ false → a ≡ Refused 1 0 → RingCase a
-    wrong-value : (p : ℕ) → p < 2 * n → IsFirstWild inputs p → a ≡ Refused 3 p → RingCase a
+    wrong-value : (p : ℕ) → (C.ringSized n samples angles ≡ true) × (p < 2 * n) → IsFirstWild inputs p → a ≡ Refused 3 p → RingCase a
     answered : length samples ≡ n → length inputs ≡ 2 * n → AllFinite inputs → a ≡ C.ringFitted (fitRing n samples angles) → RingCase a
 
   pub ring-cases : RingCase answer
@@ -71,7 +71,7 @@ module _ (n : ℕ) (samples angles : List Float) where
       go : (x y : Bool) → eqb (length samples) n ≡ x → eqb (length angles) n ≡ y → (w : Wild) → firstWild inputs ≡ w →
           RingCase (cond (x && y) (C.ringLooked n samples angles w) (Refused 1 0))
       go true true p q Clean e = answered (sized samples p) (total p q) (clean-finite inputs e) refl
-      go true true p q (At i) e = let f = wild-first inputs i e in wrong-value i (omega (arith, f .inside, total p q)) f refl
+      go true true p q (At i) e = let f = wild-first inputs i e in wrong-value i (rw (p, q) refl, omega (arith, f .inside, total p q)) f refl
       go true false p q w e = wrong-length (rw (p, q) refl) refl
       go false y p q w e = wrong-length (rw p refl) refl
 
@@ -108,7 +108,7 @@ module _ (n : ℕ) (samples angles : List Float) where
 
       go : RingCase answer → IsFirstWild inputs (ringPlace answer) × (ringPlace answer < 2 * n)
       go (wrong-length l e) = no 1 (ap ringNumber e) (λ z. omega arith)
-      go (wrong-value p b f e) = rw e (f, b)
+      go (wrong-value p b f e) = rw e (f, b .1)
       go (answered s l c e) = no 0 (ap ringNumber e) (λ z. omega arith)
 
   -- what a residual of 0 says
@@ -213,15 +213,19 @@ module _ (D : DiskData) (base0 base1 : Float) where
   abbrev PixelsInRange : Type 0
   PixelsInRange = (eqb (D .n) 0 || ltb maxTanhPixels (D .n)) ≡ false
 
+  -- all lengths are the number of pixels, and it is in range
+  abbrev DiskSound : Type 0
+  DiskSound = PixelsInRange × (C.sameLengths D ≡ true)
+
   -- exactly when each answer is given: 2 for the number of pixels, then 1 for lengths that differ, 3 for a value that is not finite, at the first
   -- such place, 4 where the search answers nothing, at the number of its trials; else its fit
   pub data DiskCase (a : DiskAnswer) : Type 0 where
     wrong-count : (eqb (D .n) 0 || ltb maxTanhPixels (D .n)) ≡ true → a ≡ Disks.Refused 2 0 → DiskCase a
     wrong-lengths : PixelsInRange → C.sameLengths D ≡ false → a ≡ Disks.Refused 1 0 → DiskCase a
-    wrong-disk-value : (p : ℕ) → p < 3 + 5 * D .n → PixelsInRange → IsFirstWild disk-inputs p → a ≡ Disks.Refused 3 p → DiskCase a
-    no-fit : (t : ℕ) → length disk-inputs ≡ 3 + 5 * D .n → AllFinite disk-inputs → bestDiskFit D base0 base1 ≡ Missing t → a ≡ Disks.Refused 4 t → DiskCase a
-    disk-answered : (f : Fit) (t : ℕ) → length disk-inputs ≡ 3 + 5 * D .n → AllFinite disk-inputs → bestDiskFit D base0 base1 ≡ Best f t →
-        a ≡ C.measuredOf D f t → DiskCase a
+    wrong-disk-value : (p : ℕ) → p < 3 + 5 * D .n → DiskSound → IsFirstWild disk-inputs p → a ≡ Disks.Refused 3 p → DiskCase a
+    no-fit : (t : ℕ) → DiskSound → AllFinite disk-inputs → bestDiskFit D base0 base1 ≡ Missing t → a ≡ Disks.Refused 4 t → DiskCase a
+    disk-answered :
+        (f : Fit) (t : ℕ) → DiskSound → AllFinite disk-inputs → bestDiskFit D base0 base1 ≡ Best f t → a ≡ C.measuredOf D f t → DiskCase a
 
   -- lengths that do not differ are the number of pixels, and the values are 3 + 5 n
   same : (x a b c d : Bool) → (x && (a && (b && (c && d)))) ≡ true → T x × T a × T b × T c × T d
@@ -244,10 +248,10 @@ module _ (D : DiskData) (base0 base1 : Float) where
       let hw = eqb→eq (length (D .«grad_weights»)) (D .n) (s .4) in
       simp length-append (omega (arith, hx, hy, hv, hg, hw))
 
-  searched : length disk-inputs ≡ 3 + 5 * D .n → AllFinite disk-inputs → (r : DiskFit) → bestDiskFit D base0 base1 ≡ r → DiskCase (C.diskMeasured D r)
+  searched : DiskSound → AllFinite disk-inputs → (r : DiskFit) → bestDiskFit D base0 base1 ≡ r → DiskCase (C.diskMeasured D r)
   unfolding C.diskMeasured
-  searched l c (Missing u) g = no-fit u l c g refl
-  searched l c (Best f u) g = disk-answered f u l c g refl
+  searched s c (Missing u) g = no-fit u s c g refl
+  searched s c (Best f u) g = disk-answered f u s c g refl
 
   pub disk-cases : DiskCase disk-answer
   unfolding checkedDisk C.diskLooked C.diskFitted
@@ -257,8 +261,8 @@ module _ (D : DiskData) (base0 base1 : Float) where
           DiskCase (cond x (Disks.Refused 2 0) (cond y (C.diskLooked D base0 base1 w) (Disks.Refused 1 0)))
       go true y p q w e = wrong-count p refl
       go false false p q w e = wrong-lengths p q refl
-      go false true p q (At i) e = let f = wild-first disk-inputs i e in wrong-disk-value i (omega (arith, f .inside, disk-total q)) p f refl
-      go false true p q Clean e = searched (disk-total q) (clean-finite disk-inputs e) (bestDiskFit D base0 base1) refl
+      go false true p q (At i) e = let f = wild-first disk-inputs i e in wrong-disk-value i (omega (arith, f .inside, disk-total q)) (p, q) f refl
+      go false true p q Clean e = searched (p, q) (clean-finite disk-inputs e) (bestDiskFit D base0 base1) refl
 
   -- the numbers are 0 to 4
   pub disk-numbers : diskNumber disk-answer ≤ 4
@@ -326,7 +330,7 @@ module _ (D : DiskData) (base0 base1 : Float) where
         go (wrong-lengths x y e) = no 1 (ap diskNumber e) (λ z. omega arith)
         go (wrong-disk-value p b c f e) = no 3 (ap diskNumber e) (λ z. omega arith)
         go (no-fit u l c g e) = no 4 (ap diskNumber e) (λ z. omega arith)
-        go (disk-answered f u l c g e) = record { fit = f; trials = u; length = l; finite = c; found = g; answer = e }
+        go (disk-answered f u l c g e) = record { fit = f; trials = u; length = disk-total (l .1); finite = c; found = g; answer = e }
 
     abbrev it : DiskFitted
     it = disk-answered-is-the-fit
