@@ -6,7 +6,7 @@ use Prim.Native.Nat.{ℕ, _*_, _%_, _≤_, _<_}
 use lib.Dec.{T}
 use lib.Arith.{le→nltb}
 use borrow.Author.Tests.{lt-ltb}
-use lib.Ieee.{Float, nan, inf, fin, Format, binary32, isNan, nanBits, ofBits, toBits, ones, hid, top, ne}
+use lib.Ieee.{Float, nan, inf, fin, Format, binary32, add, mul, isNan, nanBits, ofBits, toBits, ones, hid, top, ne}
 use lib.Ieee.Bits.{nanBits-is, nanBits-above}
 use lib.Ieee.Compare.{differs-from-itself}
 use Rattle.floats.specs.FiniteLaws.{of-true}
@@ -27,3 +27,17 @@ no-nan-word f w h = subst (λ (b : Bool). T (not b)) (sym (nanBits-above f w)) (
 pub nan-bits : (x : Float) → ne x x ≡ true → 0x7fc0_0000 ≡ toBits binary32 x
 unfolding toBits
 nan-bits x d = subst (λ (y : Float). 0x7fc0_0000 ≡ toBits binary32 y) (sym (differs-from-itself x (of-true d))) refl
+
+-- what is made of a NaN is one; on the left by computation
+module _ (f : Format) where
+  pub add-nan : (x : Float) → add f x nan ≡ nan
+  unfolding add
+  add-nan nan = refl
+  add-nan (inf s) = refl
+  add-nan (fin s m e) = refl
+
+  pub mul-nan : (x : Float) → mul f x nan ≡ nan
+  unfolding mul
+  mul-nan nan = refl
+  mul-nan (inf s) = refl
+  mul-nan (fin s m e) = refl

@@ -15,6 +15,7 @@ use Rattle.floats.specs.Ops.{nought}
 use Rattle.floats.specs.UnitLaws.{Val, le-val, zero-val}
 use Rattle.floats.specs.RoundingLaws.{Rep, counted}
 use Rattle.floats.specs.NonNegLaws.{plus-nn, zero-nn, le-of}
+use Rattle.floats.specs.NanLaws.{add-nan}
 
 -- ---- numbers: infinities or finite
 abbrev pub Number : Float → Type 0
@@ -157,12 +158,6 @@ module _ (f : Format) where
       none : m ≡ 0 → m * up e * down d ≡ 0
       none z = ap (λ (w : ℕ). w * up e * down d) z ∙ ap (λ (w : ℕ). w * down d) (zero-mul (up e)) ∙ zero-mul (down d)
 
-  nan-right : (x : Float) → add f x nan ≡ nan
-  unfolding add
-  nan-right nan = refl
-  nan-right (inf s) = refl
-  nan-right (fin s m e) = refl
-
   square-is : (r : Float) → (mul f r r ≡ nan) ⊎ Clear (mul f r r)
   square-is nan = inl (unfold mul in refl)
   square-is (inf s) = inr (square-clear (inf s) (unfold isNan in tt))
@@ -177,7 +172,7 @@ module _ (f : Format) where
   add-level x r h = go (square-is r)
     where
       go : (mul f r r ≡ nan) ⊎ Clear (mul f r r) → Level (add f x (mul f r r))
-      go (inl e) = subst (λ (y : Float). Level (add f x y)) (sym e) (subst Level (sym (nan-right x)) (omega arith))
+      go (inl e) = subst (λ (y : Float). Level (add f x y)) (sym e) (subst Level (sym (add-nan f x)) (omega arith))
       go (inr c) = sum-level x (mul f r r) h c
 
   -- a number that is a sum of squares is not below 0

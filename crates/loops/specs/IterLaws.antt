@@ -6,6 +6,21 @@ use native.Mathlib.Numerals.{add-one}
 use native.Mathlib.Omega.{arith}
 use Rattle.loops.specs.Loops.{iter, range}
 
+-- two loops side by side: what every pair of turns keeps of their states, the loops keep
+module _ {ℓ κ μ} {S : Type ℓ} {T : Type κ} (R : S → T → Type μ) where
+  pub iter-related :
+      (f : ℕ → S → S) (g : ℕ → T → T) (s : S) (t : T) (n : ℕ) → R s t →
+      ((i : ℕ) (x : S) (y : T) → i < n → R x y → R (f i x) (g i y)) → R (iter f s n) (iter g t n)
+  unfolding iter
+  iter-related f g s t zero r h = r
+  iter-related f g s t (suc n) r h = h n (iter f s n) (iter g t n) (omega arith) (iter-related f g s t n r (λ i x y l q. h i x y (omega arith) q))
+
+-- a loop seen through g, which takes each turn to a turn
+pub iter-through {ℓ κ} :
+    {S : Type ℓ} {T : Type κ} (g : S → T) (f : ℕ → S → S) (h : ℕ → T → T) (s : S) (n : ℕ) → ((i : ℕ) (x : S) → g (f i x) ≡ h i (g x)) →
+    g (iter f s n) ≡ iter h (g s) n
+iter-through g f h s n e = iter-related (λ x y. g x ≡ y) f h s (g s) n refl (λ i x y l q. e i x ∙ ap (h i) q)
+
 module _ {ℓ} {S : Type ℓ} where
   pub iter-zero : (f : ℕ → S → S) (s : S) → iter f s 0 ≡ s
   unfolding iter
@@ -49,16 +64,12 @@ module _ {ℓ} {S : Type ℓ} where
 
   -- turns that agree below n make the same of a state
   pub iter-same : (f g : ℕ → S → S) (s : S) (n : ℕ) → ((i : ℕ) → i < n → (x : S) → f i x ≡ g i x) → iter f s n ≡ iter g s n
-  unfolding iter
-  iter-same f g s zero h = refl
-  iter-same f g s (suc n) h = ap (f n) (iter-same f g s n (λ i l. h i (omega arith))) ∙ h n (omega arith) (iter g s n)
+  iter-same f g s n h = iter-related _≡_ f g s s n refl (λ i x y l q. ap (f i) q ∙ h i l y)
 
   -- what every turn keeps that knows its index, the loop keeps
   pub iter-keeps-below :
       (P : S → Type 0) (f : ℕ → S → S) (s : S) (n : ℕ) → P s → ((i : ℕ) (x : S) → i < n → P x → P (f i x)) → P (iter f s n)
-  unfolding iter
-  iter-keeps-below P f s zero p h = p
-  iter-keeps-below P f s (suc n) p h = h n (iter f s n) (omega arith) (iter-keeps-below P f s n p (λ i x l q. h i x (omega arith) q))
+  iter-keeps-below P f s n p h = iter-related (λ x y. P x) f f s s n p (λ i x y l q. h i x l q)
 
   pub range-keeps-below :
       (P : S → Type 0) (f : ℕ → S → S) (s : S) (a b : ℕ) → P s → ((i : ℕ) (x : S) → i < b → P x → P (f i x)) → P (range f s a b)

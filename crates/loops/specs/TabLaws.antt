@@ -6,7 +6,8 @@ use Prim.Native.Nat.{ℕ, zero, suc, _+_, _-_, _≤_, _<_}
 use native.Mathlib.Omega.{arith}
 use native.Mathlib.Nat.{eq-or-lt-of-le, le-of-suc-le-suc}
 use lib.ListN.{List·getD-append, length, getD, take, drop, set, length-set, length-append, length-take, length-drop, take-append-drop}
-use lib.Seq.{drop-cons, set-at, take-at, take-length, drop-at, drop-length, take-append-le, drop-append-le, drop-append-add, drop-drop, getD-at, length-take-le}
+use lib.Seq.{drop-cons, set-at, take-at, take-length, drop-at, drop-length, take-append-le, drop-append-le, drop-append-add, drop-drop, getD-at}
+use lib.Seq.{length-take-le, ext-getD}
 use Rattle.loops.specs.Loops.{iter, tab}
 use Rattle.loops.specs.IterLaws.{iter-zero, iter-next}
 
@@ -73,6 +74,12 @@ module _ {A : Type 0} where
     | inl e ↦ subst (λ (k : ℕ). getD (tab f n ++ (f n ∷ [])) k d ≡ f k) (sym e) (getD-at (tab f n) (f n) [] d n (tab-length f n))
     | inr l ↦ List·getD-append (tab f n) (f n ∷ []) d i (subst (λ (k : ℕ). i < k) (sym (tab-length f n)) l) ∙ tab-at f d n i l
   ]
+
+  -- a list is the list of its elements
+  pub tab-self : (l : List A) (d : A) (n : ℕ) → length l ≡ n → tab (λ i. getD l i d) n ≡ l
+  tab-self l d n e =
+      ext-getD d (tab (λ i. getD l i d) n) l (tab-length (λ i. getD l i d) n ∙ sym e)
+      (λ i h. tab-at (λ i. getD l i d) d n i (rw (tab-length (λ i. getD l i d) n) at h))
 
   -- lists of elements that agree
   pub tab-same : (f g : ℕ → A) (n : ℕ) → ((i : ℕ) → i < n → f i ≡ g i) → tab f n ≡ tab g n

@@ -13,7 +13,7 @@ use lib.Ieee.{Float}
 use Rattle.floats.specs.Rows.{Row, at}
 use Rattle.geometry.specs.Geometry.{validPair}
 use Rattle.loops.specs.Loops.{iter, range}
-use Rattle.loops.specs.IterLaws.{range-start}
+use Rattle.loops.specs.IterLaws.{range-start, iter-through}
 use Rattle.data.specs.Data.{DiskData}
 use Rattle.candidates.specs.Candidates.{noPairs, pooledPair, pooledFrom, pooled, pairScore, buildPairPool}
 use Rattle.candidates.specs.declared.CandidateSet.{CandidateSet}
@@ -106,13 +106,6 @@ unfolding led firstLed triedAll triedAt iter
 none-led D candidates = refl
 
 -- ---- the pool has the allowed pairs: a turn adds one where the pair is allowed, and is counted so
-iter-through :
-    {S : Type 0} (g : S → ℕ) (f : ℕ → S → S) (h : ℕ → ℕ → ℕ) (s : S) (n : ℕ) → ((i : ℕ) (x : S) → g (f i x) ≡ h i (g x)) →
-    g (iter f s n) ≡ iter h (g s) n
-unfolding iter
-iter-through g f h s zero e = refl
-iter-through g f h s (suc n) e = e n (iter f s n) ∙ ap (h n) (iter-through g f h s n e)
-
 module _ (candidates : CandidateSet) (edgeAlign : Row) (gradTotal : Float) (forceSeed forceHist : Forced) where
   pair-counted :
       (i j : ℕ) (p : Pool) → pooledPair candidates edgeAlign gradTotal forceSeed forceHist i j p .n

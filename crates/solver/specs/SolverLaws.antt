@@ -3,7 +3,7 @@
 use mathlib.Core.Path.{_≡_, refl, sym, ap, _∙_}
 use mathlib.Core.Bool.{true, false}
 use mathlib.Core.Logic.{inl, inr}
-use Prim.Native.Nat.{ℕ, zero, suc, _+_, _-_, _*_, _≤_, _<_}
+use Prim.Native.Nat.{ℕ, suc, _+_, _-_, _*_, _≤_, _<_}
 use native.Mathlib.Nat.{eq-or-lt-of-le}
 use native.Mathlib.Omega.{arith}
 use lib.ListN.{length, set, length-set}
@@ -18,7 +18,7 @@ use Rattle.elementary.specs.Elementary.{sinCos, sinCosTwo, sinCosNear, turn}
 use Rattle.elementary.specs.declared.SinCos.{SinCos}
 use Rattle.elementary.specs.declared.TwoSinCos.{TwoSinCos}
 use Rattle.loops.specs.Loops.{iter, tab}
-use Rattle.loops.specs.IterLaws.{iter-same}
+use Rattle.loops.specs.IterLaws.{iter-same, iter-through}
 use Rattle.loops.specs.TabLaws.{tab-at, tab-length, tab-same}
 use Rattle.solver_elimination.specs.Solve.{Matrix, solve4x4}
 use Rattle.floats.specs.Rows.{Row, at}
@@ -153,9 +153,7 @@ packed-next t s =
     )
 
 pub packed-all : (js : Row) (n : ℕ) → spread (iter (λ i. packed (sampleFrom js i)) noSums n) ≡ summed n js
-unfolding iter
-packed-all js zero = unfold empty in refl
-packed-all js (suc n) = packed-next (sampleFrom js n) (iter (λ i. packed (sampleFrom js i)) noSums n) ∙ ap (added (sampleFrom js n)) (packed-all js n)
+packed-all js n = unfold empty in iter-through spread _ (λ i. added (sampleFrom js i)) noSums n (λ i s. packed-next (sampleFrom js i) s)
 
 pub pass-split : (p : Params) (samples sphi cphi js : Row) (l : Normal) (t : TwoSinCos) → t ≡ sinCosTwo (p .theta1) (p .theta2) →
     PassFilled p (record { s = t .s1; c = t .c1 }) (record { s = t .s2; c = t .c2 }) samples sphi cphi js → l ≡ summed (length samples) js →

@@ -1,2 +1,4 @@
 pub mod Solve
 pub mod SolveLaws
+pub mod Wide
+pub mod WideLaws

@@ -1,7 +1,7 @@
 -- Elimination of a 4 by 4 system, and the standard errors that two eliminations give: ring_fit/solver.rs. Definitions only.
 -- A matrix is the list of its rows.
 use mathlib.Core.Bool.{Bool, cond, not, _||_}
-use mathlib.Core.List.{List, [], _∷_}
+use mathlib.Core.List.{List, [], _∷_, map, zipWith}
 use Prim.Native.Nat.{ℕ, _+_, _-_}
 use lib.IntN.{pos}
 use lib.ListN.{getD, set}
@@ -43,14 +43,14 @@ pivotRow m i = range (larger m i) i (i + 1) 4
 unfoldable pub unusable : Float → Bool
 unusable p = not (finite p) || lt (abs p) (lit 0x1e3c_e508)
 
+-- every entry of the row, however many right sides it has
 abbrev pub scaled : Row → Float → Row
-scaled r f = at r 0 ⊗ f ∷ at r 1 ⊗ f ∷ at r 2 ⊗ f ∷ at r 3 ⊗ f ∷ at r 4 ⊗ f ∷ []
+scaled r f = map (λ v. v ⊗ f) r
 
--- row r less f times the pivot row p; a row whose factor is 0 is skipped
+-- row r less f times the pivot row p, entry by entry; a row whose factor is 0 is skipped
 unfoldable pub reduced : Row → Row → Float → Row
-reduced r p f =
-    cond (eq f nought) r
-    (at r 0 ⊖ f ⊗ at p 0 ∷ at r 1 ⊖ f ⊗ at p 1 ∷ at r 2 ⊖ f ⊗ at p 2 ∷ at r 3 ⊖ f ⊗ at p 3 ∷ at r 4 ⊖ f ⊗ at p 4 ∷ [])
+unfolding zipWith
+reduced r p f = cond (eq f nought) r (zipWith (λ rv pv. rv ⊖ f ⊗ pv) r p)
 
 unfoldable pub cleared : ℕ → Row → ℕ → Row → Row
 cleared i p k r = cond (eqb k i) r (reduced r p (at r i))
@@ -81,9 +81,12 @@ abbrev pub column : ℕ → Elim → Elim
 column i gone = gone
 column i (going m) = cond (stopped m i) gone (going (columned m i))
 
+abbrev pub columnOf : ℕ → Elim → Solved
+columnOf c gone = Failed
+columnOf c (going m) = Values (entry m 0 c) (entry m 1 c) (entry m 2 c) (entry m 3 c)
+
 abbrev pub lastColumn : Elim → Solved
-lastColumn gone = Failed
-lastColumn (going m) = Values (entry m 0 4) (entry m 1 4) (entry m 2 4) (entry m 3 4)
+lastColumn = columnOf 4
 
 unfoldable pub solve4x4 : Matrix → Row → Solved
 solve4x4 a b = lastColumn (iter column (going (augmented a b)) 4)

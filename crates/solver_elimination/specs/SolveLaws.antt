@@ -6,26 +6,33 @@ use Prim.Native.Nat.{ℕ, _+_, _-_, _<_}
 use native.Mathlib.Omega.{arith}
 use lib.Dec.{T, leb}
 use lib.IntN.{pos}
-use lib.Ieee.{Float, binary32, le, ofInt}
-use Rattle.floats.specs.Ops.{_⊗_, _⊘_, nought, pi}
+use lib.Ieee.{Float, nan, binary32, eq, le, ofInt}
+use lib.ListN.{length}
+use mathlib.Core.List.{zipWith}
+use Rattle.floats.specs.Ops.{_⊖_, _⊗_, _⊘_, nought, pi}
+use Rattle.floats.specs.Rows.{Row, at}
+use Rattle.loops.specs.TabLaws.{tab-self}
 use Rattle.floats.specs.Library.{max}
 use Rattle.floats.specs.RootRangeLaws.{capped-root, pi-between}
-use Rattle.loops.specs.Loops.{iter}
+use Rattle.loops.specs.Loops.{iter, tab}
 use Rattle.loops.specs.IterLaws.{iter-next, iter-stuck}
 use Rattle.solver_elimination.specs.declared.Solved.{Solved}
 use Rattle.solver_elimination.specs.declared.Solved.the-variants.{Values, Failed}
 use Rattle.solver_elimination.specs.declared.Errors.{Errors}
-use Rattle.solver_elimination.specs.Solve.{Matrix, Elim, gone, going, column, stopped, columned, augmented, solve4x4}
-use Rattle.floats.specs.Rows.{Row}
+use Rattle.solver_elimination.specs.Solve.{Matrix, Elim, gone, going, column, stopped, columned, reduced, solve4x4}
 use Rattle.solver_elimination.specs.Solve.{axisError, unknown, bothErrors, axisStdErrors, unit2, unit3}
+
+pub reduced-by :
+    (r p : Row) (f : Float) (n : ℕ) → length r ≡ n → length p ≡ n → eq f nought ≡ false →
+    zipWith (λ rv pv. rv ⊖ f ⊗ pv) (tab (at r) n) (tab (at p) n) ≡ reduced r p f
+unfolding reduced
+reduced-by r p f n lr lp e = rw (e, tab-self r nan n lr, tab-self p nan n lp)
 
 pub goes-on : (s : Elim) (i : ℕ) (m : Matrix) → going m ≡ iter column s i → stopped m i ≡ false → going (columned m i) ≡ iter column s (i + 1)
 goes-on s i m e t = rw (iter-next, ← e, t)
 
-pub fails : (a : Matrix) (b : Row) (i : ℕ) (m : Matrix) → i < 4 → going m ≡ iter column (going (augmented a b)) i → stopped m i ≡ true → Failed ≡ solve4x4 a b
-unfolding solve4x4
-fails a b i m h e f =
-    let s = going (augmented a b) in
+pub stops-at : (s : Elim) (i : ℕ) (m : Matrix) → i < 4 → going m ≡ iter column s i → stopped m i ≡ true → gone ≡ iter column s 4
+stops-at s i m h e f =
     let next : iter column s (i + 1) ≡ gone = rw (iter-next, ← e, f) in
     let z : 4 ≡ (i + 1) + (3 - i) = omega arith in
     rw (z, iter-stuck column s gone (i + 1) (3 - i) (λ _. refl) next)

@@ -1,15 +1,23 @@
-// Elimination of a 4 by 4 system, and the standard errors that two eliminations give:
-// ring_fit/solver.rs, solve_4x4 and axis_std_errors.
+// Elimination of a 4 by 4 system, and the standard errors that two right sides give, which go through one elimination:
+// ring_fit/solver.rs, solve_4x4 and axis_std_errors. A row has eight places: the matrix, two right sides, and two that lie
+// idle, so that it is two vectors of four.
 ghost use mathlib.Core.Path.{_≡_};
-ghost use mathlib.Core.Bool.{false};
+ghost use mathlib.Core.Bool.{false, cond};
 ghost use Prim.Native.Nat.{_^_, _<_};
 ghost use Rattle.floats.specs.Rows.{at};
 ghost use Rattle.solver_elimination.specs.Solve as S;
+ghost use Rattle.solver_elimination.specs.Wide as W;
 
 // The four values of a solution, or that the elimination failed.
 pub enum Solved {
     Values(f32, f32, f32, f32),
     Failed,
+}
+
+// The two entries on the inverse's diagonal that belong to the axes, or that there is no inverse.
+enum Inverse {
+    Entries(f32, f32),
+    Singular,
 }
 
 // The standard errors of the two axes.
@@ -18,24 +26,24 @@ pub struct Errors {
     pub error2: f32,
 }
 
-fn augmented_row(r: [f32; 4], b: f32) -> [f32; 5]
-    ensures { λ x. ⌜ x ≡ S.augmentedRow r b ⌝ }
+fn widened_row(r: [f32; 4], b: f32, c: f32) -> [f32; 8]
+    ensures { λ x. ⌜ x ≡ W.widenedRow r b c ⌝ }
 {
-    [r[0], r[1], r[2], r[3], b]
+    [r[0], r[1], r[2], r[3], b, c, 0.0, 0.0]
 }
 
-fn augmented(a: &[[f32; 4]; 4], b: &[f32; 4]) -> [[f32; 5]; 4]
-    ensures { λ x. ⌜ x ≡ S.augmented (now (a .entry)) (now (b .entry)) ⌝ }
+fn widened(a: &[[f32; 4]; 4], b: &[f32; 4], c: &[f32; 4]) -> [[f32; 8]; 4]
+    ensures { λ x. ⌜ x ≡ W.widened (now (a .entry)) (now (b .entry)) (now (c .entry)) ⌝ }
 {
-    let r0 = augmented_row(a[0], b[0]);
-    let r1 = augmented_row(a[1], b[1]);
-    let r2 = augmented_row(a[2], b[2]);
-    let r3 = augmented_row(a[3], b[3]);
+    let r0 = widened_row(a[0], b[0], c[0]);
+    let r1 = widened_row(a[1], b[1], c[1]);
+    let r2 = widened_row(a[2], b[2], c[2]);
+    let r3 = widened_row(a[3], b[3], c[3]);
     [r0, r1, r2, r3]
 }
 
 // Row k or the best so far: k where its entry in column i is larger in size.
-fn larger(m: &[[f32; 5]; 4], i: usize, k: usize, best: usize) -> usize
+fn larger(m: &[[f32; 8]; 4], i: usize, k: usize, best: usize) -> usize
     requires { ⌜ (i < 4) × (k < 4) × (best < 4) ⌝ }
     ensures { λ r. ⌜ (r < 4) × (r ≡ S.larger (now (m .entry)) i k best) ⌝ }
 {
@@ -46,7 +54,7 @@ fn larger(m: &[[f32; 5]; 4], i: usize, k: usize, best: usize) -> usize
 }
 
 // The row, from the diagonal down, that has the largest size in column i.
-fn pivot_row(m: &[[f32; 5]; 4], i: usize) -> usize
+fn pivot_row(m: &[[f32; 8]; 4], i: usize) -> usize
     requires { ⌜ i < 4 ⌝ }
     ensures { λ r. ⌜ (r < 4) × (r ≡ S.pivotRow (now (m .entry)) i) ⌝ }
 {
@@ -66,14 +74,23 @@ fn is_unusable(p: f32) -> bool
     true
 }
 
-fn scaled(r: [f32; 5], f: f32) -> [f32; 5]
+fn scaled(r: [f32; 8], f: f32) -> [f32; 8]
     ensures { λ x. ⌜ x ≡ S.scaled r f ⌝ }
 {
-    [r[0] * f, r[1] * f, r[2] * f, r[3] * f, r[4] * f]
+    [
+        r[0] * f,
+        r[1] * f,
+        r[2] * f,
+        r[3] * f,
+        r[4] * f,
+        r[5] * f,
+        r[6] * f,
+        r[7] * f,
+    ]
 }
 
 // Row r less f times the pivot row p, where f, the entry of r at the column, is not 0.
-fn reduced(r: [f32; 5], p: [f32; 5], f: f32) -> [f32; 5]
+fn reduced(r: [f32; 8], p: [f32; 8], f: f32) -> [f32; 8]
     ensures { λ x. ⌜ x ≡ S.reduced r p f ⌝ }
 {
     if f == 0.0 {
@@ -85,11 +102,14 @@ fn reduced(r: [f32; 5], p: [f32; 5], f: f32) -> [f32; 5]
         r[2] - f * p[2],
         r[3] - f * p[3],
         r[4] - f * p[4],
+        r[5] - f * p[5],
+        r[6] - f * p[6],
+        r[7] - f * p[7],
     ]
 }
 
 // Row k after column i was cleared by the pivot row p, which stays; f is the row's entry there.
-fn cleared(row: [f32; 5], p: [f32; 5], f: f32, i: usize, k: usize) -> [f32; 5]
+fn cleared(row: [f32; 8], p: [f32; 8], f: f32, i: usize, k: usize) -> [f32; 8]
     requires { ⌜ f ≡ at row i ⌝ }
     ensures { λ r. ⌜ r ≡ S.cleared i p k row ⌝ }
 {
@@ -99,7 +119,7 @@ fn cleared(row: [f32; 5], p: [f32; 5], f: f32, i: usize, k: usize) -> [f32; 5]
     reduced(row, p, f)
 }
 
-fn clear(m: &mut [[f32; 5]; 4], i: usize, p: [f32; 5])
+fn clear(m: &mut [[f32; 8]; 4], i: usize, p: [f32; 8])
     requires { ⌜ i < 4 ⌝ }
     ensures { λ _. ⌜ now (m .exit) ≡ S.clear (now (m .entry)) i p ⌝ }
 {
@@ -113,7 +133,7 @@ fn clear(m: &mut [[f32; 5]; 4], i: usize, p: [f32; 5])
 
 // Column i: the pivot's row comes to the diagonal, is scaled to 1 there, and clears the column in
 // the others. True where the pivot stops the elimination. It has one caller, so that the compiler puts it into that loop.
-fn column_stops(m: &mut [[f32; 5]; 4], i: usize) -> bool
+fn column_stops(m: &mut [[f32; 8]; 4], i: usize) -> bool
     requires { ⌜ i < 4 ⌝ }
     ensures { λ r. ⌜ (r ≡ S.stopped (now (m .entry)) i) × (r ≡ false → now (m .exit) ≡ S.columned (now (m .entry)) i) ⌝ }
 {
@@ -132,16 +152,40 @@ fn column_stops(m: &mut [[f32; 5]; 4], i: usize) -> bool
     false
 }
 
+// All four columns, for both right sides. True where a pivot stops it.
+fn stops(m: &mut [[f32; 8]; 4]) -> bool
+    ensures { λ r. ⌜ cond r S.gone (S.going (now (m .exit))) ≡ W.eliminated (now (m .entry)) ⌝ }
+{
+    for i in 0..4 {
+        if column_stops(m, i) {
+            return true;
+        }
+    }
+    false
+}
+
 pub fn solve_4x4(a: &[[f32; 4]; 4], b: &[f32; 4]) -> Solved
     ensures { λ r. ⌜ r ≡ S.solve4x4 (now (a .entry)) (now (b .entry)) ⌝ }
 {
-    let mut m = augmented(a, b);
-    for i in 0..4 {
-        if column_stops(&mut m, i) {
-            return Solved::Failed;
-        }
+    let none = [0.0f32, 0.0, 0.0, 0.0];
+    let mut m = widened(a, b, &none);
+    if stops(&mut m) {
+        return Solved::Failed;
     }
     Solved::Values(m[0][4], m[1][4], m[2][4], m[3][4])
+}
+
+// Of the inverse only the two entries that the errors need: their columns are the solutions for two right sides.
+fn inverse_of(a: &[[f32; 4]; 4]) -> Inverse
+    ensures { λ r. ⌜ r ≡ W.inverseOf (S.solve4x4 (now (a .entry)) S.unit2) (S.solve4x4 (now (a .entry)) S.unit3) ⌝ }
+{
+    let e2 = [0.0f32, 0.0, 1.0, 0.0];
+    let e3 = [0.0f32, 0.0, 0.0, 1.0];
+    let mut m = widened(a, &e2, &e3);
+    if stops(&mut m) {
+        return Inverse::Singular;
+    }
+    Inverse::Entries(m[2][4], m[3][5])
 }
 
 fn axis_error(v: f32, c: f32) -> f32
@@ -159,16 +203,11 @@ fn unknown() -> Errors
     }
 }
 
-// Both columns of the inverse that matter, one elimination each: a failure answers PI.
+// Both errors by one elimination: a failure answers PI.
 fn both_errors(jtj: &[[f32; 4]; 4], v: f32) -> Errors
     ensures { λ r. ⌜ r ≡ S.bothErrors v (S.solve4x4 (now (jtj .entry)) S.unit2) (S.solve4x4 (now (jtj .entry)) S.unit3) ⌝ }
 {
-    let e2 = [0.0f32, 0.0, 1.0, 0.0];
-    let Solved::Values(_, _, c2, _) = solve_4x4(jtj, &e2) else {
-        return unknown();
-    };
-    let e3 = [0.0f32, 0.0, 0.0, 1.0];
-    let Solved::Values(_, _, _, c3) = solve_4x4(jtj, &e3) else {
+    let Inverse::Entries(c2, c3) = inverse_of(jtj) else {
         return unknown();
     };
     let error1 = axis_error(v, c2);

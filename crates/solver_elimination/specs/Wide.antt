@@ -1,0 +1,53 @@
+-- What the code's elimination carries: the matrix with two right sides beside it, and how it carries a system with one.
+-- Definitions only.
+use mathlib.Core.Path.{_≡_}
+use mathlib.Core.Bool.{Bool, true, false}
+use mathlib.Core.List.{[], _∷_, Forall₂}
+use Prim.Native.Nat.{ℕ, _<_}
+use lib.ListN.{getD}
+use lib.Ieee.{Float}
+use Rattle.floats.specs.Ops.{nought}
+use Rattle.floats.specs.Rows.{Row, at}
+use Rattle.loops.specs.Loops.{iter}
+use Rattle.solver_elimination.specs.declared.Solved.{Solved}
+use Rattle.solver_elimination.specs.declared.Solved.the-variants.{Values, Failed}
+use Rattle.solver_elimination.specs.declared.Inverse.{Inverse}
+use Rattle.solver_elimination.specs.declared.Inverse.the-variants.{Entries, Singular}
+use Rattle.solver_elimination.specs.declared.Errors.{Errors}
+use Rattle.solver_elimination.specs.Solve.{Matrix, Elim, going, column, axisError, unknown}
+
+-- a row of the matrix, its entries of two right sides, and two places that lie idle
+abbrev pub widenedRow : Row → Float → Float → Row
+widenedRow r b c = at r 0 ∷ at r 1 ∷ at r 2 ∷ at r 3 ∷ b ∷ c ∷ nought ∷ nought ∷ []
+
+unfoldable pub widened : Matrix → Row → Row → Matrix
+widened a b c =
+    widenedRow (getD a 0 []) (at b 0) (at c 0) ∷ widenedRow (getD a 1 []) (at b 1) (at c 1) ∷
+    widenedRow (getD a 2 []) (at b 2) (at c 2) ∷ widenedRow (getD a 3 []) (at b 3) (at c 3) ∷ []
+
+abbrev pub eliminated : Matrix → Elim
+eliminated m = iter column (going m) 4
+
+abbrev pub failed : Solved → Bool
+failed Failed = true
+failed (Values a0 a1 a2 a3) = false
+
+-- solver.rs, axis_std_errors: of two solutions the entries on the inverse's diagonal
+unfoldable pub inverseOf : Solved → Solved → Inverse
+inverseOf Failed t = Singular
+inverseOf (Values a0 a1 a2 a3) Failed = Singular
+inverseOf (Values a0 a1 a2 a3) (Values b0 b1 b2 b3) = Entries a2 b3
+
+-- both errors by these entries; without an inverse they are PI
+abbrev pub errorsBy : Float → Inverse → Errors
+errorsBy v Singular = unknown
+errorsBy v (Entries c2 c3) = record { error1 = axisError v c2; error2 = axisError v c3 }
+
+-- ---- a system that a wider one carries: behind the same left side its column c stands there as column d
+module _ (c d : ℕ) where
+  pub record RowCarried (r s : Row) : Type 0 where
+    pub left : (j : ℕ) → j < 4 → at r j ≡ at s j
+    pub right : at r c ≡ at s d
+
+  abbrev pub Carried : Matrix → Matrix → Type 0
+  Carried = Forall₂ RowCarried
