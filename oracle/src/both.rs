@@ -25,6 +25,19 @@ pub fn fit_ring24(ring: &Ring<24>) -> (Fit6, Counts) {
     (fit, counts)
 }
 
+pub fn solve_4x4(matrix: &[[f32; 4]; 4], right: &[f32; 4]) -> (Option<[f32; 4]>, Counts) {
+    let (solution, counts) = support::counted(|| counted::ring::solver::solve_4x4(matrix, right));
+    let expected = plain::ring::solver::solve_4x4(matrix, right);
+    agree("solve_4x4", expected.as_ref().map(|words| &words[..]), solution.as_ref().map(|words| &words[..]));
+    (solution, counts)
+}
+
+pub fn axis_std_errors(matrix: &[[f32; 4]; 4], ssr: f32, n: usize) -> ([f32; 2], Counts) {
+    let (errors, counts) = support::counted(|| counted::ring::solver::axis_std_errors(matrix, ssr, n));
+    agree("axis_std_errors", Some(&plain::ring::solver::axis_std_errors(matrix, ssr, n)), Some(&errors));
+    (errors, counts)
+}
+
 pub fn fit_with_seed(ring: &Ring<16>, seed: [f32; 5]) -> (Fit6, Counts) {
     let (fit, counts) = support::counted(|| counted::ring::solver::fit_with_seed(ring, seed));
     agree("fit_with_seed", Some(&plain::ring::solver::fit_with_seed(ring, seed)), Some(&fit));

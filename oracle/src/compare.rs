@@ -41,7 +41,11 @@ impl Oracle {
 
     pub fn answer(&mut self, line: &[u8]) -> Vec<u8> {
         match self.lines {
-            Lines::Functions => functions::answer(line),
+            Lines::Functions => {
+                let (text, counts) = functions::answered(line);
+                counts.iter().for_each(|counts| self.paths.elimination(counts));
+                text
+            }
             Lines::Frames if !self.served.frame(line) => checked::malformed(),
             Lines::Frames => {
                 let answered = checked::answer(line);

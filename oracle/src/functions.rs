@@ -18,8 +18,16 @@ pub const NUMBERS: [u8; 53] = [
 /// Numbers that came later: lines are made for them only where they are named, so that a list of before stays as it was.
 pub const LATER: [u8; 1] = [65];
 
+/// Numbers whose function takes a matrix.
+pub const ELIMINATIONS: [u8; 2] = [40, 41];
+
 pub fn answer(line: &[u8]) -> Vec<u8> {
-    answer_words(line).map_or(b"?".to_vec(), |answer| answer.text())
+    answered(line).0
+}
+
+/// With what the eliminations did, where the function is one, or two.
+pub fn answered(line: &[u8]) -> (Vec<u8>, Option<Counts>) {
+    answer_words(line).map_or((b"?".to_vec(), None), |answer| (answer.text(), answer.counts))
 }
 
 fn answer_words(line: &[u8]) -> Option<Answer> {
@@ -106,12 +114,14 @@ fn solving(number: u8, a: &mut Arguments) -> Option<Answer> {
         40 => {
             let (matrix, right) = (a.matrix()?, a.floats()?);
             a.end()?;
-            Some(new().optional(solver::solve_4x4(&matrix, &right), |answer, x| answer.floats(&x)))
+            let (solution, counts) = both::solve_4x4(&matrix, &right);
+            Some(new().optional(solution, |answer, x| answer.floats(&x)).eliminated(counts))
         }
         41 => {
             let (matrix, ssr, n) = (a.matrix()?, a.float()?, a.count(PIXELS)?);
             a.end()?;
-            Some(new().floats(&solver::axis_std_errors(&matrix, ssr, n)))
+            let (errors, counts) = both::axis_std_errors(&matrix, ssr, n);
+            Some(new().floats(&errors).eliminated(counts))
         }
         42 | 44 => {
             let x = a.float()?;

@@ -25,7 +25,7 @@ const USAGE: &str = "usage: oracle frames
        oracle corners --program PATH --count N --seed S
        oracle bench --kind rings|rings24|disks --count N --seed S [--program PATH]
        oracle once
-KIND is rings, disks, bits, limits, damaged, rings24, bits24, limits24, damaged24 or functions; NUMBERS and LIST are such as 10-17,20-24
+KIND is rings, disks, bits, limits, damaged, rings24, bits24, limits24, damaged24, functions or matrices; NUMBERS and LIST are such as 10-17,20-24
 --numbers chooses the functions that lines are made for; a frame outside --types (01,02,03) is answered as malformed";
 
 fn answer_lines(answer: impl Fn(&[u8]) -> Vec<u8>) -> io::Result<()> {

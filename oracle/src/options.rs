@@ -1,7 +1,7 @@
 //! The words of the command line.
 
 use crate::compare::{Lines, Served};
-use crate::functions::{LATER, NUMBERS};
+use crate::functions::{ELIMINATIONS, LATER, NUMBERS};
 use crate::generate::{Kind, List, KINDS};
 
 /// `--name value` pairs.
@@ -64,12 +64,14 @@ pub fn list_of_words(words: &[String]) -> Result<List, String> {
 }
 
 fn list(kind: &str, count: &str, seed: &str, numbers: Option<&str>) -> Result<List, String> {
-    Ok(List {
-        kind: kind_of(kind)?,
-        count: whole(count)?,
-        seed: whole(seed)?,
-        numbers: numbers.map_or(Ok(NUMBERS.to_vec()), numbers_of)?,
-    })
+    let (kind, mut numbers) = (kind_of(kind)?, numbers.map_or(Ok(NUMBERS.to_vec()), numbers_of)?);
+    if kind == Kind::Matrices {
+        numbers.retain(|number| ELIMINATIONS.contains(number));
+        if numbers.is_empty() {
+            return Err("matrices are lines of the functions 40 and 41".to_string());
+        }
+    }
+    Ok(List { kind, count: whole(count)?, seed: whole(seed)?, numbers })
 }
 
 fn kind_of(text: &str) -> Result<Kind, String> {

@@ -64,6 +64,24 @@ impl Paths {
         self.add("disk: ", "best moved in refinement", counts.moved > 0);
     }
 
+    /// Of one elimination, or of two of one matrix.
+    pub fn elimination(&mut self, counts: &Counts) {
+        const STOPPED: [[&str; 4]; 2] = [
+            ["pivot 0 not finite", "pivot 1 not finite", "pivot 2 not finite", "pivot 3 not finite"],
+            ["pivot 0 too small", "pivot 1 too small", "pivot 2 too small", "pivot 3 too small"],
+        ];
+        self.add("elimination: ", "equal sizes in a column", counts.equal_sizes > 0);
+        self.add("elimination: ", "rows exchanged", counts.exchanges > 0);
+        self.add("elimination: ", "a factor of 0 skipped", counts.skipped > 0);
+        for (names, stopped) in STOPPED.iter().zip(&counts.stopped) {
+            for (&name, &times) in names.iter().zip(stopped) {
+                self.add("elimination: ", name, times > 0);
+            }
+        }
+        self.add("elimination: ", "solved", counts.eliminations > 0 && counts.stopped == [[0; 4]; 2]);
+        self.add("elimination: ", "none, for at most four samples", counts.eliminations == 0);
+    }
+
     pub fn print(&self) {
         for (what, name, taken) in &self.rows {
             println!("{taken:>12}  {what}{name}");

@@ -36,6 +36,13 @@ pub struct Counts {
     pub leaders: u32,
     pub theta2: u32,
     pub moved: u32,
+    pub eliminations: u32,
+    /// Of all eliminations of the call: entries as large as the best so far, rows exchanged, factors of 0 skipped.
+    pub equal_sizes: u32,
+    pub exchanges: u32,
+    pub skipped: u32,
+    /// Eliminations that stopped, by their pivot: not finite, too small.
+    pub stopped: [[u32; 4]; 2],
 }
 
 thread_local! {
@@ -72,6 +79,12 @@ fn note(counts: &mut Counts, event: u32) {
         11 => counts.theta2 += 1,
         12 => counts.moved += 1,
         13 => counts.ties_at_end += 1,
+        14 => counts.equal_sizes += 1,
+        15 => counts.exchanges += 1,
+        16 => counts.skipped += 1,
+        17..=20 => counts.stopped[0][event as usize - 17] += 1,
+        21..=24 => counts.stopped[1][event as usize - 21] += 1,
+        25 => counts.eliminations += 1,
         other => unreachable!("event {other}"),
     }
 }

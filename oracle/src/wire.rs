@@ -1,6 +1,7 @@
 //! Hexadecimal words: reading the arguments of a line, writing those of an answer.
 
 use shapes::{Disk, Fit9, Pair, Pool, Ring, Scored, Set, ANGLES, PAIRS, PIXELS};
+use support::Counts;
 
 /// The one NaN (docs/RULES.md, Floats).
 const NAN: u32 = 0x7fc0_0000;
@@ -171,13 +172,21 @@ impl Arguments {
     }
 }
 
-/// The words of an answer.
+/// The words of an answer, and of an elimination what it did.
 #[derive(Default)]
-pub struct Answer(Vec<u32>);
+pub struct Answer {
+    words: Vec<u32>,
+    pub counts: Option<Counts>,
+}
 
 impl Answer {
+    pub fn eliminated(mut self, counts: Counts) -> Self {
+        self.counts = Some(counts);
+        self
+    }
+
     pub fn number(mut self, number: usize) -> Self {
-        self.0.push(u32::try_from(number).expect("a number of at most 32 bits"));
+        self.words.push(u32::try_from(number).expect("a number of at most 32 bits"));
         self
     }
 
@@ -186,12 +195,12 @@ impl Answer {
     }
 
     pub fn float(mut self, x: f32) -> Self {
-        self.0.push(to_bits(x));
+        self.words.push(to_bits(x));
         self
     }
 
     pub fn floats(mut self, values: &[f32]) -> Self {
-        self.0.extend(values.iter().map(|&x| to_bits(x)));
+        self.words.extend(values.iter().map(|&x| to_bits(x)));
         self
     }
 
@@ -221,8 +230,8 @@ impl Answer {
     }
 
     pub fn text(&self) -> Vec<u8> {
-        let mut text = Vec::with_capacity(8 * self.0.len());
-        for &word in &self.0 {
+        let mut text = Vec::with_capacity(8 * self.words.len());
+        for &word in &self.words {
             push_hex(&mut text, word, 8);
         }
         text

@@ -5,6 +5,7 @@ mod curves;
 mod disks;
 mod frames;
 mod functions;
+mod matrices;
 mod random;
 mod rings;
 mod values;
@@ -20,9 +21,10 @@ pub enum Kind {
     Limits(usize),
     Damaged(usize),
     Functions,
+    Matrices,
 }
 
-pub const KINDS: [(&str, Kind); 10] = [
+pub const KINDS: [(&str, Kind); 11] = [
     ("rings", Kind::Rings(16)),
     ("disks", Kind::Disks),
     ("bits", Kind::Bits(16)),
@@ -33,6 +35,7 @@ pub const KINDS: [(&str, Kind); 10] = [
     ("limits24", Kind::Limits(24)),
     ("damaged24", Kind::Damaged(24)),
     ("functions", Kind::Functions),
+    ("matrices", Kind::Matrices),
 ];
 
 /// A list of lines that can be made again, from any thread.
@@ -56,6 +59,10 @@ impl List {
             Kind::Functions => {
                 let number = self.numbers[random.below(self.numbers.len())];
                 functions::line(random, number)
+            }
+            Kind::Matrices => {
+                let number = random.pick(&self.numbers);
+                matrices::line(random, number)
             }
         }
     }
