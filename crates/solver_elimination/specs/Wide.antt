@@ -11,8 +11,8 @@ use Rattle.floats.specs.Rows.{Row, at}
 use Rattle.loops.specs.Loops.{iter}
 use Rattle.solver_elimination.specs.declared.Solved.{Solved}
 use Rattle.solver_elimination.specs.declared.Solved.the-variants.{Values, Failed}
-use Rattle.solver_elimination.specs.declared.Inverse.{Inverse}
-use Rattle.solver_elimination.specs.declared.Inverse.the-variants.{Entries, Singular}
+use Rattle.solver_elimination.specs.declared.Sides.{Sides}
+use Rattle.solver_elimination.specs.declared.Sides.the-variants.{Both, Neither}
 use Rattle.solver_elimination.specs.declared.Errors.{Errors}
 use Rattle.solver_elimination.specs.Solve.{Matrix, Elim, going, column, axisError, unknown}
 
@@ -25,6 +25,10 @@ widened a b c =
     widenedRow (getD a 0 []) (at b 0) (at c 0) ∷ widenedRow (getD a 1 []) (at b 1) (at c 1) ∷
     widenedRow (getD a 2 []) (at b 2) (at c 2) ∷ widenedRow (getD a 3 []) (at b 3) (at c 3) ∷ []
 
+-- a right side, by its entries
+abbrev pub right : Float → Float → Float → Float → Row
+right b0 b1 b2 b3 = b0 ∷ b1 ∷ b2 ∷ b3 ∷ []
+
 abbrev pub eliminated : Matrix → Elim
 eliminated m = iter column (going m) 4
 
@@ -32,16 +36,20 @@ abbrev pub failed : Solved → Bool
 failed Failed = true
 failed (Values a0 a1 a2 a3) = false
 
--- solver.rs, axis_std_errors: of two solutions the entries on the inverse's diagonal
-unfoldable pub inverseOf : Solved → Solved → Inverse
-inverseOf Failed t = Singular
-inverseOf (Values a0 a1 a2 a3) Failed = Singular
-inverseOf (Values a0 a1 a2 a3) (Values b0 b1 b2 b3) = Entries a2 b3
+-- two solutions side by side
+unfoldable pub sides : Solved → Solved → Sides
+sides Failed t = Neither
+sides (Values a0 a1 a2 a3) Failed = Neither
+sides (Values a0 a1 a2 a3) (Values b0 b1 b2 b3) = Both a0 a1 a2 a3 b0 b1 b2 b3
 
--- both errors by these entries; without an inverse they are PI
-abbrev pub errorsBy : Float → Inverse → Errors
-errorsBy v Singular = unknown
-errorsBy v (Entries c2 c3) = record { error1 = axisError v c2; error2 = axisError v c3 }
+abbrev pub firstSide : Sides → Solved
+firstSide Neither = Failed
+firstSide (Both a0 a1 a2 a3 b0 b1 b2 b3) = Values a0 a1 a2 a3
+
+-- both errors, by the entries on the inverse's diagonal; without an inverse they are PI
+abbrev pub errorsBy : Float → Sides → Errors
+errorsBy v Neither = unknown
+errorsBy v (Both a0 a1 a2 a3 b0 b1 b2 b3) = record { error1 = axisError v a2; error2 = axisError v b3 }
 
 -- ---- a system that a wider one carries: behind the same left side its column c stands there as column d
 module _ (c d : ℕ) where

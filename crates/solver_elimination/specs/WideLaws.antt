@@ -1,7 +1,7 @@
 -- Pivots, exchanges, skipped factors and failure look at the left side alone, and each entry is made of entries in its own column:
 -- so a system that a wider one carries is carried by it after every column, and both fail together. Assumes nothing.
 use mathlib.Core.Path.{_≡_, refl, sym, ap, _∙_}
-use mathlib.Core.Bool.{Bool, true, false, cond}
+use mathlib.Core.Bool.{Bool, true, false, cond, false≢true}
 use mathlib.Core.List.{[], _∷_, zipWith, Forall₂, Forall₂·nil, Forall₂·cons}
 use Prim.Native.Nat.{ℕ, zero, suc, _+_, _<_}
 use native.Mathlib.Omega.{arith}
@@ -16,7 +16,7 @@ use Rattle.solver_elimination.specs.declared.Solved.{Solved}
 use Rattle.solver_elimination.specs.declared.Solved.the-variants.{Values, Failed}
 use Rattle.solver_elimination.specs.Solve as S
 use Rattle.solver_elimination.specs.Solve.{Matrix, Elim, gone, going}
-use Rattle.solver_elimination.specs.Wide.{RowCarried, Carried, widenedRow, widened, eliminated, failed, inverseOf, errorsBy}
+use Rattle.solver_elimination.specs.Wide.{RowCarried, Carried, widenedRow, widened, right, eliminated, failed, sides, firstSide, errorsBy}
 
 -- ---- entries: outside a row all is NaN, and what is made of a NaN is one
 at-scaled : (r : Row) (f : Float) (j : ℕ) → at (S.scaled r f) j ≡ at r j ⊗ f
@@ -162,13 +162,26 @@ fail-together a b c = rw (solved-first a b c, solved-second a b c) (go (eliminat
     go gone = refl
     go (going m) = refl
 
--- ---- the entries of the inverse, and the errors by them
-pub inverse-by : (a : Matrix) (b c : Row) →
-    inverseOf (S.columnOf 4 (eliminated (widened a b c))) (S.columnOf 5 (eliminated (widened a b c))) ≡ inverseOf (S.solve4x4 a b) (S.solve4x4 a c)
-inverse-by a b c = rw (solved-first a b c, solved-second a b c)
+-- ---- what one elimination gives for both
+pub sides-by : (a : Matrix) (b c : Row) →
+    sides (S.columnOf 4 (eliminated (widened a b c))) (S.columnOf 5 (eliminated (widened a b c))) ≡ sides (S.solve4x4 a b) (S.solve4x4 a c)
+sides-by a b c = rw (solved-first a b c, solved-second a b c)
 
-pub errors-by : (v : Float) (s t : Solved) → S.bothErrors v s t ≡ errorsBy v (inverseOf s t)
-unfolding S.bothErrors inverseOf
+pub right-listed : (a : Matrix) (b : Row) → S.solve4x4 a (right (at b 0) (at b 1) (at b 2) (at b 3)) ≡ S.solve4x4 a b
+unfolding S.solve4x4 S.augmented
+right-listed a b = refl
+
+pub first-by : (a : Matrix) (b c : Row) → S.solve4x4 a b ≡ firstSide (sides (S.solve4x4 a b) (S.solve4x4 a c))
+unfolding sides
+first-by a b c = go (S.solve4x4 a b) (S.solve4x4 a c) (fail-together a b c)
+  where
+    go : (s t : Solved) → failed s ≡ failed t → s ≡ firstSide (sides s t)
+    go Failed t e = refl
+    go (Values a0 a1 a2 a3) Failed e = absurd (false≢true e)
+    go (Values a0 a1 a2 a3) (Values b0 b1 b2 b3) e = refl
+
+pub errors-by : (v : Float) (s t : Solved) → S.bothErrors v s t ≡ errorsBy v (sides s t)
+unfolding S.bothErrors sides
 errors-by v Failed t = refl
 errors-by v (Values a0 a1 a2 a3) Failed = refl
 errors-by v (Values a0 a1 a2 a3) (Values b0 b1 b2 b3) = refl

@@ -2,7 +2,7 @@
 // ring_fit/solver.rs, solve_4x4 and axis_std_errors. A row has eight places: the matrix, two right sides, and two that lie
 // idle, so that it is two vectors of four.
 ghost use mathlib.Core.Path.{_≡_};
-ghost use mathlib.Core.Bool.{false, cond};
+ghost use mathlib.Core.Bool.{false};
 ghost use Prim.Native.Nat.{_^_, _<_};
 ghost use Rattle.floats.specs.Rows.{at};
 ghost use Rattle.solver_elimination.specs.Solve as S;
@@ -14,10 +14,11 @@ pub enum Solved {
     Failed,
 }
 
-// The two entries on the inverse's diagonal that belong to the axes, or that there is no inverse.
-enum Inverse {
-    Entries(f32, f32),
-    Singular,
+// What one elimination gives for two right sides: the four values of the first solution and then of the second, or that it
+// failed, which it does for both or for neither.
+enum Sides {
+    Both(f32, f32, f32, f32, f32, f32, f32, f32),
+    Neither,
 }
 
 // The standard errors of the two axes.
@@ -30,16 +31,6 @@ fn widened_row(r: [f32; 4], b: f32, c: f32) -> [f32; 8]
     ensures { λ x. ⌜ x ≡ W.widenedRow r b c ⌝ }
 {
     [r[0], r[1], r[2], r[3], b, c, 0.0, 0.0]
-}
-
-fn widened(a: &[[f32; 4]; 4], b: &[f32; 4], c: &[f32; 4]) -> [[f32; 8]; 4]
-    ensures { λ x. ⌜ x ≡ W.widened (now (a .entry)) (now (b .entry)) (now (c .entry)) ⌝ }
-{
-    let r0 = widened_row(a[0], b[0], c[0]);
-    let r1 = widened_row(a[1], b[1], c[1]);
-    let r2 = widened_row(a[2], b[2], c[2]);
-    let r3 = widened_row(a[3], b[3], c[3]);
-    [r0, r1, r2, r3]
 }
 
 // Row k or the best so far: k where its entry in column i is larger in size.
@@ -152,40 +143,56 @@ fn column_stops(m: &mut [[f32; 8]; 4], i: usize) -> bool
     false
 }
 
-// All four columns, for both right sides. True where a pivot stops it.
-fn stops(m: &mut [[f32; 8]; 4]) -> bool
-    ensures { λ r. ⌜ cond r S.gone (S.going (now (m .exit))) ≡ W.eliminated (now (m .entry)) ⌝ }
+// Both right sides, b and c, go through one elimination. They come by their entries, in registers, and the matrix is on its
+// way in this function's own frame: neither takes room in the frame of a caller, where a pass over the samples comes next.
+fn eliminate(
+    a: &[[f32; 4]; 4],
+    b0: f32,
+    b1: f32,
+    b2: f32,
+    b3: f32,
+    c0: f32,
+    c1: f32,
+    c2: f32,
+    c3: f32,
+) -> Sides
+    ensures { λ r. ⌜ r ≡ W.sides (S.solve4x4 (now (a .entry)) (W.right b0 b1 b2 b3)) (S.solve4x4 (now (a .entry)) (W.right c0 c1 c2 c3)) ⌝ }
 {
+    let r0 = widened_row(a[0], b0, c0);
+    let r1 = widened_row(a[1], b1, c1);
+    let r2 = widened_row(a[2], b2, c2);
+    let r3 = widened_row(a[3], b3, c3);
+    let mut m = [r0, r1, r2, r3];
     for i in 0..4 {
-        if column_stops(m, i) {
-            return true;
+        if column_stops(&mut m, i) {
+            return Sides::Neither;
         }
     }
-    false
+    Sides::Both(
+        m[0][4],
+        m[1][4],
+        m[2][4],
+        m[3][4],
+        m[0][5],
+        m[1][5],
+        m[2][5],
+        m[3][5],
+    )
 }
 
+// One right side is carried twice.
 pub fn solve_4x4(a: &[[f32; 4]; 4], b: &[f32; 4]) -> Solved
     ensures { λ r. ⌜ r ≡ S.solve4x4 (now (a .entry)) (now (b .entry)) ⌝ }
 {
-    let none = [0.0f32, 0.0, 0.0, 0.0];
-    let mut m = widened(a, b, &none);
-    if stops(&mut m) {
+    let b0 = b[0];
+    let b1 = b[1];
+    let b2 = b[2];
+    let b3 = b[3];
+    let sides = eliminate(a, b0, b1, b2, b3, b0, b1, b2, b3);
+    let Sides::Both(x0, x1, x2, x3, _, _, _, _) = sides else {
         return Solved::Failed;
-    }
-    Solved::Values(m[0][4], m[1][4], m[2][4], m[3][4])
-}
-
-// Of the inverse only the two entries that the errors need: their columns are the solutions for two right sides.
-fn inverse_of(a: &[[f32; 4]; 4]) -> Inverse
-    ensures { λ r. ⌜ r ≡ W.inverseOf (S.solve4x4 (now (a .entry)) S.unit2) (S.solve4x4 (now (a .entry)) S.unit3) ⌝ }
-{
-    let e2 = [0.0f32, 0.0, 1.0, 0.0];
-    let e3 = [0.0f32, 0.0, 0.0, 1.0];
-    let mut m = widened(a, &e2, &e3);
-    if stops(&mut m) {
-        return Inverse::Singular;
-    }
-    Inverse::Entries(m[2][4], m[3][5])
+    };
+    Solved::Values(x0, x1, x2, x3)
 }
 
 fn axis_error(v: f32, c: f32) -> f32
@@ -203,11 +210,12 @@ fn unknown() -> Errors
     }
 }
 
-// Both errors by one elimination: a failure answers PI.
+// Of the inverse the two columns that matter, by one elimination: a failure answers PI.
 fn both_errors(jtj: &[[f32; 4]; 4], v: f32) -> Errors
     ensures { λ r. ⌜ r ≡ S.bothErrors v (S.solve4x4 (now (jtj .entry)) S.unit2) (S.solve4x4 (now (jtj .entry)) S.unit3) ⌝ }
 {
-    let Inverse::Entries(c2, c3) = inverse_of(jtj) else {
+    let sides = eliminate(jtj, 0.0, 0.0, 1.0, 0.0, 0.0, 0.0, 0.0, 1.0);
+    let Sides::Both(_, _, c2, _, _, _, _, c3) = sides else {
         return unknown();
     };
     let error1 = axis_error(v, c2);

@@ -1,15 +1,15 @@
--- A singular matrix answers PI, and the entries of an inverse answer both errors. Assumes nothing.
+-- A failure answers PI, and two solutions answer both errors. Assumes nothing.
 use Rattle.solver_elimination.specs.WideLaws.{errors-by}
 use borrow.Author.Needs.{needs}
 use Rattle.solver_elimination.proofs.both_errors.Statement.{statement}
 use Rattle.solver_elimination.proofs.both_errors.Tie as tie
 
 returns : tie.Need-returns
-returns c = rw (errors-by, ← c .before .before .before .inverse-of .ensures, c .before .enum-told .given .1) (c .unknown .ensures)
+returns c = rw (errors-by, ← c .before .before .before .eliminate .ensures, c .before .enum-told .given .1) (c .unknown .ensures)
 
 returns-2 : tie.Need-returns-2
 returns-2 c = let e = c .before .before .before in
-    rw (errors-by, ← e .before .before .inverse-of .ensures, e .c2 .given .1, c .before .axis-error .ensures, c .axis-error2 .ensures)
+    rw (errors-by, ← e .before .before .eliminate .ensures, e .sides .given .1, c .before .axis-error .ensures, c .axis-error2 .ensures)
 
 pub both-errors-spec : {M : Type 1} → statement M
 both-errors-spec =
