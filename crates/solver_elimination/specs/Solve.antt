@@ -43,13 +43,12 @@ pivotRow m i = range (larger m i) i (i + 1) 4
 unfoldable pub unusable : Float → Bool
 unusable p = not (finite p) || lt (abs p) (lit 0x1e3c_e508)
 
--- every entry of the row, however many right sides it has
+-- every entry of the row, however many right sides there are
 abbrev pub scaled : Row → Float → Row
 scaled r f = map (λ v. v ⊗ f) r
 
 -- row r less f times the pivot row p, entry by entry; a row whose factor is 0 is skipped
 unfoldable pub reduced : Row → Row → Float → Row
-unfolding zipWith
 reduced r p f = cond (eq f nought) r (zipWith (λ rv pv. rv ⊖ f ⊗ pv) r p)
 
 unfoldable pub cleared : ℕ → Row → ℕ → Row → Row
