@@ -5,7 +5,7 @@ use mathlib.Core.Bool.{Bool, true, false, cond, false≢true}
 use mathlib.Core.List.{[], _∷_, zipWith, Forall₂, Forall₂·nil, Forall₂·cons}
 use Prim.Native.Nat.{ℕ, zero, suc, _+_, _<_}
 use native.Mathlib.Omega.{arith}
-use lib.ListN.{getD, set, List·getD-map}
+use lib.ListN.{getD, drop, set, List·getD-map}
 use lib.Dec.{eqb}
 use lib.Ieee.{Float, nan, binary32, add, sub, mul, neg, eq}
 use Rattle.floats.specs.Ops.{_⊖_, _⊗_, _⊘_, nought, one}
@@ -134,10 +134,10 @@ left-same r u v (suc (suc (suc zero))) h = refl
 left-same r u v (suc (suc (suc (suc j)))) h = absurd (omega arith)
 
 first-row : (r : Row) (b c : Float) → RowCarried 4 4 (S.augmentedRow r b) (widenedRow r b c)
-first-row r b c = record { left = left-same r (b ∷ []) (b ∷ c ∷ nought ∷ nought ∷ []); right = refl }
+first-row r b c = record { left = left-same r (drop 4 (S.augmentedRow r b)) (drop 4 (widenedRow r b c)); right = refl }
 
 second-row : (r : Row) (b c : Float) → RowCarried 4 5 (S.augmentedRow r c) (widenedRow r b c)
-second-row r b c = record { left = left-same r (c ∷ []) (b ∷ c ∷ nought ∷ nought ∷ []); right = refl }
+second-row r b c = record { left = left-same r (drop 4 (S.augmentedRow r c)) (drop 4 (widenedRow r b c)); right = refl }
 
 four : (R : Row → Row → Type 0) (f g : ℕ → Row) → ((k : ℕ) → R (f k) (g k)) → Forall₂ R (f 0 ∷ f 1 ∷ f 2 ∷ f 3 ∷ []) (g 0 ∷ g 1 ∷ g 2 ∷ g 3 ∷ [])
 four R f g h = Forall₂·cons (h 0) (Forall₂·cons (h 1) (Forall₂·cons (h 2) (Forall₂·cons (h 3) Forall₂·nil)))
