@@ -26,8 +26,8 @@ widened a b c =
     widenedRow (getD a 2 []) (at b 2) (at c 2) ∷ widenedRow (getD a 3 []) (at b 3) (at c 3) ∷ []
 
 -- a right side, by its entries
-abbrev pub right : Float → Float → Float → Float → Row
-right b0 b1 b2 b3 = b0 ∷ b1 ∷ b2 ∷ b3 ∷ []
+abbrev pub rightSide : Float → Float → Float → Float → Row
+rightSide b0 b1 b2 b3 = b0 ∷ b1 ∷ b2 ∷ b3 ∷ []
 
 abbrev pub eliminated : Matrix → Elim
 eliminated m = iter column (going m) 4

@@ -16,7 +16,7 @@ use Rattle.solver_elimination.specs.declared.Solved.{Solved}
 use Rattle.solver_elimination.specs.declared.Solved.the-variants.{Values, Failed}
 use Rattle.solver_elimination.specs.Solve as S
 use Rattle.solver_elimination.specs.Solve.{Matrix, Elim, gone, going}
-use Rattle.solver_elimination.specs.Wide.{RowCarried, Carried, widenedRow, widened, right, eliminated, failed, sides, firstSide, errorsBy}
+use Rattle.solver_elimination.specs.Wide.{RowCarried, Carried, widenedRow, widened, rightSide, eliminated, failed, sides, firstSide, errorsBy}
 
 -- ---- entries: outside a row all is NaN, and what is made of a NaN is one
 at-scaled : (r : Row) (f : Float) (j : ℕ) → at (S.scaled r f) j ≡ at r j ⊗ f
@@ -167,7 +167,7 @@ pub sides-by : (a : Matrix) (b c : Row) →
     sides (S.columnOf 4 (eliminated (widened a b c))) (S.columnOf 5 (eliminated (widened a b c))) ≡ sides (S.solve4x4 a b) (S.solve4x4 a c)
 sides-by a b c = rw (solved-first a b c, solved-second a b c)
 
-pub right-listed : (a : Matrix) (b : Row) → S.solve4x4 a (right (at b 0) (at b 1) (at b 2) (at b 3)) ≡ S.solve4x4 a b
+pub right-listed : (a : Matrix) (b : Row) → S.solve4x4 a (rightSide (at b 0) (at b 1) (at b 2) (at b 3)) ≡ S.solve4x4 a b
 unfolding S.solve4x4 S.augmented
 right-listed a b = refl
 

@@ -156,7 +156,7 @@ fn eliminate(
     c2: f32,
     c3: f32,
 ) -> Sides
-    ensures { λ r. ⌜ r ≡ W.sides (S.solve4x4 (now (a .entry)) (W.right b0 b1 b2 b3)) (S.solve4x4 (now (a .entry)) (W.right c0 c1 c2 c3)) ⌝ }
+    ensures { λ r. ⌜ r ≡ W.sides (S.solve4x4 (now (a .entry)) (W.rightSide b0 b1 b2 b3)) (S.solve4x4 (now (a .entry)) (W.rightSide c0 c1 c2 c3)) ⌝ }
 {
     let r0 = widened_row(a[0], b0, c0);
     let r1 = widened_row(a[1], b1, c1);

@@ -6,14 +6,14 @@ use Rattle.loops.specs.Loops.{iter}
 use Rattle.loops.specs.IterLaws.{iter-zero}
 use Rattle.solver_elimination.specs.Solve.{Elim, going, column, columnOf}
 use Rattle.solver_elimination.specs.SolveLaws.{goes-on, stops-at}
-use Rattle.solver_elimination.specs.Wide.{right, widened, sides}
+use Rattle.solver_elimination.specs.Wide.{rightSide, widened, sides}
 use Rattle.solver_elimination.specs.WideLaws.{sides-by}
 use borrow.Author.Needs.{needs}
 use Rattle.solver_elimination.proofs.eliminate.Statement.{statement}
 use Rattle.solver_elimination.proofs.eliminate.Tie as tie
 
 abbrev Inv-loop : tie.InvT-loop
-Inv-loop a b0 b1 b2 b3 c0 c1 c2 c3 m₀ i₀ m i = (i ≤ 4) × (going m ≡ iter column (going (widened a (right b0 b1 b2 b3) (right c0 c1 c2 c3))) i)
+Inv-loop a b0 b1 b2 b3 c0 c1 c2 c3 m₀ i₀ m i = (i ≤ 4) × (going m ≡ iter column (going (widened a (rightSide b0 b1 b2 b3) (rightSide c0 c1 c2 c3))) i)
 
 abbrev μ-loop : tie.MeasureT-loop
 μ-loop a b0 b1 b2 b3 c0 c1 c2 c3 m₀ i₀ m i = 4 - i
