@@ -43,6 +43,8 @@ pub struct Counts {
     pub skipped: u32,
     /// Eliminations that stopped, by their pivot: not finite, too small.
     pub stopped: [[u32; 4]; 2],
+    /// The events of eliminations in their order, as one number.
+    pub way: u64,
 }
 
 thread_local! {
@@ -64,6 +66,9 @@ pub extern "C" fn oracle_event(event: u32) {
 fn note(counts: &mut Counts, event: u32) {
     // An update or a degenerate answer belongs to the start under way; there are never more than two.
     let start = (counts.starts as usize).wrapping_sub(1);
+    if event >= 14 {
+        counts.way = counts.way.wrapping_mul(37).wrapping_add(u64::from(event));
+    }
     match event {
         0 => counts.starts += 1,
         1 => counts.updates[start] += 1,
@@ -80,11 +85,11 @@ fn note(counts: &mut Counts, event: u32) {
         12 => counts.moved += 1,
         13 => counts.ties_at_end += 1,
         14 => counts.equal_sizes += 1,
-        15 => counts.exchanges += 1,
-        16 => counts.skipped += 1,
-        17..=20 => counts.stopped[0][event as usize - 17] += 1,
-        21..=24 => counts.stopped[1][event as usize - 21] += 1,
-        25 => counts.eliminations += 1,
+        15 => counts.eliminations += 1,
+        16..=19 => counts.exchanges += 1,
+        20..=23 => counts.skipped += 1,
+        24..=27 => counts.stopped[0][event as usize - 24] += 1,
+        28..=31 => counts.stopped[1][event as usize - 28] += 1,
         other => unreachable!("event {other}"),
     }
 }

@@ -17,12 +17,25 @@ macro_rules! events {
 events! {
     0 start, 1 update, 2 degenerate, 3 failed_elimination, 4 suspicious, 5 second_answered,
     6 trial, 7 tie_kept, 8 nan_score, 9 search, 10 leader, 11 theta2, 12 moved, 13 tie_at_end,
-    14 equal_sizes, 15 exchange, 16 skipped, 25 elimination,
+    14 equal_sizes, 15 elimination,
 }
 
-/// The elimination stopped at this pivot: 17 to 20 where it is not finite, 21 to 24 where it is too small.
-pub fn stopped(pivot: usize, value: f32) {
-    let kind = if value.is_finite() { 21 } else { 17 };
+fn of_row(first: u32, row: usize) {
     // SAFETY: as above.
-    unsafe { oracle_event(kind + pivot as u32) }
+    unsafe { oracle_event(first + row as u32) }
+}
+
+/// The pivot's row, which is not the diagonal's.
+pub fn exchanged(row: usize) {
+    of_row(16, row);
+}
+
+/// A row whose factor is 0.
+pub fn skipped(row: usize) {
+    of_row(20, row);
+}
+
+/// The elimination stopped at this pivot: 24 to 27 where it is not finite, 28 to 31 where it is too small.
+pub fn stopped(pivot: usize, value: f32) {
+    of_row(if value.is_finite() { 28 } else { 24 }, pivot);
 }
