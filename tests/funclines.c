@@ -274,7 +274,7 @@ static void line_34(void)
 
 static void line_35(void) { test(fl_valid_pair); }
 
-/* ---- 40 to 45: the solver */
+/* ---- 40 to 46: the solver */
 
 static void line_40(void)
 {
@@ -314,6 +314,17 @@ static void line_45(void)
     const float *samples = floats(SAMPLES), *ring_phi = floats(SAMPLES), *seed = floats(4);
     float centered_var = value();
     if (ends()) put_start(fl_fit_with_seed(samples, ring_phi, seed, centered_var));
+}
+
+static void line_46(void)
+{
+    const float *jtj = floats(16);
+    float ssr = value();
+    size_t n = number(PIXELS);
+    if (!ends()) return;
+    struct known2 e = fl_axis_std_errors_known(jtj, ssr, n);
+    put_values(e.values, 2);
+    put(e.known);
 }
 
 /* ---- 50 to 54: seeds */
@@ -539,7 +550,7 @@ static void (*const lines[256])(void) = {
     ROW(10), ROW(11), ROW(12), ROW(13), ROW(14), ROW(15), ROW(16), ROW(17),
     ROW(20), ROW(21), ROW(22), ROW(23), ROW(24),
     ROW(30), ROW(31), ROW(32), ROW(33), ROW(34), ROW(35),
-    ROW(40), ROW(41), ROW(42), ROW(43), ROW(44), ROW(45),
+    ROW(40), ROW(41), ROW(42), ROW(43), ROW(44), ROW(45), ROW(46),
     ROW(50), ROW(51), ROW(52), ROW(53), ROW(54),
     ROW(60), ROW(61), ROW(62), ROW(63), ROW(64), ROW(65),
     ROW(70), ROW(71), ROW(72), ROW(73), ROW(74), ROW(75), ROW(76), ROW(77),

@@ -17,6 +17,7 @@
 
 /* `some` is false where there is nothing. */
 struct two { float values[2]; };
+struct known2 { float values[2]; bool known; };
 struct four { bool some; float values[4]; };
 struct swapped { float values[3]; bool swapped; };
 struct seed5 { bool some; float values[5]; };
@@ -60,9 +61,10 @@ float fl_line_separation(float a0, float a1);
 float fl_pair_disagreement(float a0, float a1, float b0, float b1);
 bool fl_valid_pair(float a0, float a1);
 
-/* 40 to 45; a matrix goes by rows, and the seed is theta1, theta2, amp, mu */
+/* 40 to 46; a matrix goes by rows, and the seed is theta1, theta2, amp, mu */
 struct four fl_solve_4x4(const float a[16], const float b[4]);
 struct two fl_axis_std_errors(const float jtj[16], float ssr, size_t n);
+struct known2 fl_axis_std_errors_known(const float jtj[16], float ssr, size_t n);
 struct fit6 fl_degenerate_fit(float centered_var);
 struct swapped fl_canonicalize_tracking_swap(float theta1, float theta2, float amp);
 float fl_wrap_to_tau(float x);

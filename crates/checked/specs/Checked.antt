@@ -1,16 +1,15 @@
 -- The checked entries (docs/RULES.md, Refusals): what is refused by number and place, and what is answered. Definitions only.
-use mathlib.Core.Bool.{Bool, cond, not, _&&_, _||_}
+use mathlib.Core.Bool.{Bool, cond, _&&_, _||_}
 use mathlib.Core.List.{List, [], _∷_, _++_}
 use Prim.Native.Nat.{ℕ, zero, suc, _+_}
 use lib.ListN.{length, getD}
 use lib.Dec.{eqb, ltb}
-use lib.Ieee.{Float, nan, eq}
+use lib.Ieee.{Float, nan}
 use lib.Ieee.Scale.{finite}
-use Rattle.floats.specs.Ops.{pi}
 use Rattle.robust.specs.Robust.{fitRing}
 use Rattle.robust.specs.declared.RingFit.{RingFit}
 use Rattle.solver.specs.declared.TwoAxisFit.{TwoAxisFit}
-use Rattle.score.specs.Score.{fitStdErrors}
+use Rattle.score.specs.Score.{fitEstimate}
 use Rattle.score.specs.declared.Fit.{Fit}
 use Rattle.data.specs.Data.{DiskData, maxTanhPixels}
 use Rattle.search.specs.Search.{bestDiskFit}
@@ -32,20 +31,13 @@ wildFrom l (suc left) i = cond (finite (getD l i nan)) (wildFrom l left (i + 1))
 unfoldable pub firstWild : List Float → Wild
 firstWild l = wildFrom l (length l) 0
 
--- the errors are known unless both equal PI
-unfoldable pub errorsKnown : Float → Float → Bool
-errorsKnown e1 e2 = not (eq e1 pi && eq e2 pi)
-
 -- ---- the ring of n samples: 1 for a length that is not n, then 3 for the first value that is not finite
 -- the values in the order of their places: the samples, then the angles
 abbrev pub ringInputs : List Float → List Float → List Float
 ringInputs samples angles = samples ++ angles
 
-unfoldable pub ringFitted : RingFit → RingAnswer
-ringFitted r = Fitted r (errorsKnown (r .fit .«fit_std_error_theta1») (r .fit .«fit_std_error_theta2»))
-
 unfoldable pub ringLooked : ℕ → List Float → List Float → Wild → RingAnswer
-ringLooked n samples angles Clean = ringFitted (fitRing n samples angles)
+ringLooked n samples angles Clean = Fitted (fitRing n samples angles)
 ringLooked n samples angles (At i) = Refused 3 i
 
 -- the two slices are as long as the ring has samples
@@ -60,11 +52,11 @@ checkedRing n samples angles =
 
 -- ---- number, place and values of each case (docs/RULES.md, Refusals)
 unfoldable pub ringNumber : RingAnswer → ℕ
-ringNumber (Fitted r k) = 0
+ringNumber (Fitted r) = 0
 ringNumber (Refused number place) = number
 
 unfoldable pub ringPlace : RingAnswer → ℕ
-ringPlace (Fitted r k) = 0
+ringPlace (Fitted r) = 0
 ringPlace (Refused number place) = place
 
 -- amp, theta1, theta2, both errors, rms: the order of a ring's values stands here alone
@@ -73,18 +65,18 @@ fitValues f = f .amp ∷ f .theta1 ∷ f .theta2 ∷ f .«fit_std_error_theta1»
 
 -- nothing of a refusal
 unfoldable pub ringValues : RingAnswer → List Float
-ringValues (Fitted r k) = fitValues (r .fit)
+ringValues (Fitted r) = fitValues (r .fit)
 ringValues (Refused number place) = []
 
 -- starts, updates of the first and of the second start, known
 abbrev pub flag : Bool → ℕ
 flag b = cond b 1 0
 
-abbrev pub fitCounts : RingFit → Bool → List ℕ
-fitCounts r k = r .starts ∷ r .first ∷ r .second ∷ flag k ∷ []
+abbrev pub fitCounts : RingFit → List ℕ
+fitCounts r = r .starts ∷ r .first ∷ r .second ∷ flag (r .standing .known) ∷ []
 
 unfoldable pub ringCounts : RingAnswer → List ℕ
-ringCounts (Fitted r k) = fitCounts r k
+ringCounts (Fitted r) = fitCounts r
 ringCounts (Refused number place) = []
 
 -- ---- the disk: 2 for the number of pixels, 1 for lengths that differ, 3 for the first value that is not finite, 4 where the search answers nothing
@@ -92,16 +84,14 @@ ringCounts (Refused number place) = []
 abbrev pub diskInputs : DiskData → Float → Float → List Float
 diskInputs D base0 base1 = D .«val_energy» ∷ base0 ∷ base1 ∷ (D .xs ++ (D .ys ++ (D .«vals_centered» ++ (D .«grad_angles» ++ D .«grad_weights»))))
 
--- the fit with its errors, or that there is none after so many trials
-unfoldable pub measuredOf : DiskData → Fit → ℕ → DiskAnswer
-measuredOf D f trials =
-    let e = fitStdErrors D f in
-    Disks.Fitted (record { fit = f; «fit_std_error_theta1» = e .error1; «fit_std_error_theta2» = e .error2; trials = trials })
-    (errorsKnown (e .error1) (e .error2))
+-- the fit with its errors and their standing
+abbrev pub measuredOf : DiskData → Fit → ℕ → Measured
+measuredOf D f trials = record { fit = f; estimate = fitEstimate D f; trials = trials }
 
+-- or that there is none after so many trials
 unfoldable pub diskMeasured : DiskData → DiskFit → DiskAnswer
 diskMeasured D (Missing trials) = Disks.Refused 4 trials
-diskMeasured D (Best f trials) = measuredOf D f trials
+diskMeasured D (Best f trials) = Disks.Fitted (measuredOf D f trials)
 
 unfoldable pub diskFitted : DiskData → Float → Float → DiskAnswer
 diskFitted D base0 base1 = diskMeasured D (bestDiskFit D base0 base1)
@@ -124,27 +114,27 @@ checkedDisk D base0 base1 =
     (Disks.Refused 1 0))
 
 unfoldable pub diskNumber : DiskAnswer → ℕ
-diskNumber (Disks.Fitted m k) = 0
+diskNumber (Disks.Fitted m) = 0
 diskNumber (Disks.Refused number place) = number
 
 unfoldable pub diskPlace : DiskAnswer → ℕ
-diskPlace (Disks.Fitted m k) = 0
+diskPlace (Disks.Fitted m) = 0
 diskPlace (Disks.Refused number place) = place
 
 -- theta1, theta2, width, amp, rms, rel_rms, corr, edge_score, objective, both errors: the order of a disk's values stands here alone
 abbrev pub measuredValues : Measured → List Float
 measuredValues m =
     m .fit .theta1 ∷ m .fit .theta2 ∷ m .fit .width ∷ m .fit .amp ∷ m .fit .rms ∷ m .fit .«rel_rms» ∷ m .fit .corr ∷ m .fit .«edge_score» ∷
-    m .fit .objective ∷ m .«fit_std_error_theta1» ∷ m .«fit_std_error_theta2» ∷ []
+    m .fit .objective ∷ m .estimate .errors .error1 ∷ m .estimate .errors .error2 ∷ []
 
 unfoldable pub diskValues : DiskAnswer → List Float
-diskValues (Disks.Fitted m k) = measuredValues m
+diskValues (Disks.Fitted m) = measuredValues m
 diskValues (Disks.Refused number place) = []
 
 -- trials, known
-abbrev pub measuredCounts : Measured → Bool → List ℕ
-measuredCounts m k = m .trials ∷ flag k ∷ []
+abbrev pub measuredCounts : Measured → List ℕ
+measuredCounts m = m .trials ∷ flag (m .estimate .standing .known) ∷ []
 
 unfoldable pub diskCounts : DiskAnswer → List ℕ
-diskCounts (Disks.Fitted m k) = measuredCounts m k
+diskCounts (Disks.Fitted m) = measuredCounts m
 diskCounts (Disks.Refused number place) = []

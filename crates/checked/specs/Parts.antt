@@ -11,8 +11,8 @@ use Rattle.loops.specs.Loops.{iter}
 use Rattle.robust.specs.Robust.{fitRing}
 use Rattle.checked.specs.declared.Refusal.{Refusal}
 use Rattle.checked.specs.declared.Refusal.the-variants.{By, Nothing}
-use Rattle.checked.specs.declared.RingAnswer.the-variants.{Refused}
-use Rattle.checked.specs.Checked.{ringFitted, checkedRing}
+use Rattle.checked.specs.declared.RingAnswer.the-variants.{Fitted, Refused}
+use Rattle.checked.specs.Checked.{checkedRing}
 use Rattle.checked.specs.declared.Wild.{Wild}
 use Rattle.checked.specs.declared.Wild.the-variants.{At, Clean}
 
@@ -41,4 +41,4 @@ loneAt x place next = cond (finite x) next (At place)
 abbrev pub RingRefusal : ℕ → List Float → List Float → Refusal → Type 0
 RingRefusal n samples angles (By number place) = Refused number place ≡ checkedRing n samples angles
 RingRefusal n samples angles Nothing =
-    (length samples ≡ n) × (length angles ≡ n) × (ringFitted (fitRing n samples angles) ≡ checkedRing n samples angles)
+    (length samples ≡ n) × (length angles ≡ n) × (Fitted (fitRing n samples angles) ≡ checkedRing n samples angles)

@@ -11,7 +11,7 @@ use lib.Dec.{T, eqb, ltb, eqb→eq}
 use lib.Ieee.{Float, nan, lt, le, eq, isNan}
 use lib.Ieee.Scale.{finite}
 use Rattle.floats.specs.Ops.{nought, pi, tau}
-use Rattle.robust.specs.Robust.{fitRing, ringSum}
+use Rattle.robust.specs.Robust.{ofPass, ring, fitRing, ringSum}
 use Rattle.robust.specs.SoundLaws.{SoundRing, ring-sound}
 use Rattle.robust.specs.Residual.{half, Share}
 use Rattle.robust.specs.ResidualLaws.{ring-tiny, share-16, share-24}
@@ -32,7 +32,7 @@ use Rattle.checked.specs.declared.Measured.{Measured}
 use Rattle.checked.specs.declared.DiskAnswer.{DiskAnswer}
 use Rattle.checked.specs.declared.DiskAnswer.the-variants as Disks
 use Rattle.checked.specs.declared.RingAnswer.{RingAnswer}
-use Rattle.checked.specs.declared.RingAnswer.the-variants.{Refused}
+use Rattle.checked.specs.declared.RingAnswer.the-variants.{Fitted, Refused}
 use Rattle.checked.specs.Checked as C
 use Rattle.checked.specs.Checked.{firstWild, ringInputs, checkedRing, ringNumber, ringPlace, ringValues, ringCounts, diskInputs, checkedDisk, diskNumber}
 use Rattle.checked.specs.Checked.{diskPlace, diskValues, diskCounts}
@@ -56,7 +56,7 @@ module _ (n : ℕ) (samples angles : List Float) where
   pub data RingCase (a : RingAnswer) : Type 0 where
     wrong-length : C.ringSized n samples angles ≡ false → a ≡ Refused 1 0 → RingCase a
     wrong-value : (p : ℕ) → (C.ringSized n samples angles ≡ true) × (p < 2 * n) → IsFirstWild inputs p → a ≡ Refused 3 p → RingCase a
-    answered : length samples ≡ n → length inputs ≡ 2 * n → AllFinite inputs → a ≡ C.ringFitted (fitRing n samples angles) → RingCase a
+    answered : length samples ≡ n → length inputs ≡ 2 * n → AllFinite inputs → a ≡ Fitted (fitRing n samples angles) → RingCase a
 
   pub ring-cases : RingCase answer
   unfolding checkedRing C.ringLooked
@@ -77,7 +77,7 @@ module _ (n : ℕ) (samples angles : List Float) where
 
   -- the numbers are 0, 1 and 3
   pub ring-numbers : T (eqb (ringNumber answer) 0 || (eqb (ringNumber answer) 1 || eqb (ringNumber answer) 3))
-  unfolding ringNumber C.ringFitted
+  unfolding ringNumber
   ring-numbers = go ring-cases
     where
       go : RingCase answer → T (eqb (ringNumber answer) 0 || (eqb (ringNumber answer) 1 || eqb (ringNumber answer) 3))
@@ -87,7 +87,7 @@ module _ (n : ℕ) (samples angles : List Float) where
 
   -- what number 1 means: a length is not n, and the place is 0
   pub ring-wrong-length : ringNumber answer ≡ 1 → (C.ringSized n samples angles ≡ false) × (ringPlace answer ≡ 0)
-  unfolding ringNumber ringPlace C.ringFitted
+  unfolding ringNumber ringPlace
   ring-wrong-length one = go ring-cases
     where
       no : {A : Type 0} (m : ℕ) → ringNumber answer ≡ m → (m ≡ 1 → ⊥) → A
@@ -100,7 +100,7 @@ module _ (n : ℕ) (samples angles : List Float) where
 
   -- what number 3 means: the value at the place is not finite, all before it are, and the place is one of the 2 n
   pub ring-wrong-value : ringNumber answer ≡ 3 → IsFirstWild inputs (ringPlace answer) × (ringPlace answer < 2 * n)
-  unfolding ringNumber ringPlace C.ringFitted
+  unfolding ringNumber ringPlace
   ring-wrong-value three = go ring-cases
     where
       no : {A : Type 0} (m : ℕ) → ringNumber answer ≡ m → (m ≡ 3 → ⊥) → A
@@ -120,11 +120,11 @@ module _ (n : ℕ) (samples angles : List Float) where
     pub sized : length samples ≡ n
     pub length : length inputs ≡ 2 * n
     pub finite : AllFinite inputs
-    pub answer : checkedRing n samples angles ≡ C.ringFitted (fitRing n samples angles)
+    pub answer : checkedRing n samples angles ≡ Fitted (fitRing n samples angles)
 
   module _ (zero-number : ringNumber answer ≡ 0) where
     pub answered-is-the-fit : RingFitted
-    unfolding ringNumber C.ringFitted
+    unfolding ringNumber
     answered-is-the-fit = go ring-cases
       where
         no : (m : ℕ) → ringNumber answer ≡ m → (m ≡ 0 → ⊥) → ⊥
@@ -139,11 +139,11 @@ module _ (n : ℕ) (samples angles : List Float) where
     theFit = fitRing n samples angles
 
     values-are : ringValues answer ≡ C.fitValues (theFit .fit)
-    unfolding ringValues C.ringFitted
+    unfolding ringValues
     values-are = rw (answered-is-the-fit .answer)
 
-    counts-are : ringCounts answer ≡ C.fitCounts theFit (C.errorsKnown (theFit .fit .«fit_std_error_theta1») (theFit .fit .«fit_std_error_theta2»))
-    unfolding ringCounts C.ringFitted
+    counts-are : ringCounts answer ≡ C.fitCounts theFit
+    unfolding ringCounts
     counts-are = rw (answered-is-the-fit .answer)
 
     -- amp, theta1, theta2, both errors, rms; and starts, updates of the first and of the second
@@ -158,8 +158,7 @@ module _ (n : ℕ) (samples angles : List Float) where
     answered-finite = (answered-is-the-fit .length, answered-is-the-fit .finite)
 
     -- demand 2: the six values and the counts are those of the definition that follows the Rust
-    pub answered-values : (ringValues answer ≡ C.fitValues (theFit .fit)) ×
-        (ringCounts answer ≡ C.fitCounts theFit (C.errorsKnown (theFit .fit .«fit_std_error_theta1») (theFit .fit .«fit_std_error_theta2»)))
+    pub answered-values : (ringValues answer ≡ C.fitValues (theFit .fit)) × (ringCounts answer ≡ C.fitCounts theFit)
     answered-values = (values-are, counts-are)
 
     sound : SoundRing theFit
@@ -225,7 +224,7 @@ module _ (D : DiskData) (base0 base1 : Float) where
     wrong-disk-value : (p : ℕ) → p < 3 + 5 * D .n → DiskSound → IsFirstWild disk-inputs p → a ≡ Disks.Refused 3 p → DiskCase a
     no-fit : (t : ℕ) → DiskSound → AllFinite disk-inputs → bestDiskFit D base0 base1 ≡ Missing t → a ≡ Disks.Refused 4 t → DiskCase a
     disk-answered :
-        (f : Fit) (t : ℕ) → DiskSound → AllFinite disk-inputs → bestDiskFit D base0 base1 ≡ Best f t → a ≡ C.measuredOf D f t → DiskCase a
+        (f : Fit) (t : ℕ) → DiskSound → AllFinite disk-inputs → bestDiskFit D base0 base1 ≡ Best f t → a ≡ Disks.Fitted (C.measuredOf D f t) → DiskCase a
 
   -- lengths that do not differ are the number of pixels, and the values are 3 + 5 n
   same : (x a b c d : Bool) → (x && (a && (b && (c && d)))) ≡ true → T x × T a × T b × T c × T d
@@ -266,7 +265,7 @@ module _ (D : DiskData) (base0 base1 : Float) where
 
   -- the numbers are 0 to 4
   pub disk-numbers : diskNumber disk-answer ≤ 4
-  unfolding diskNumber C.measuredOf
+  unfolding diskNumber
   disk-numbers = go disk-cases
     where
       go : DiskCase disk-answer → diskNumber disk-answer ≤ 4
@@ -278,7 +277,7 @@ module _ (D : DiskData) (base0 base1 : Float) where
 
   -- number 3: the value at the place is not finite, all before it are, and the place is one of the 3 + 5 n
   pub disk-wrong-value : diskNumber disk-answer ≡ 3 → IsFirstWild disk-inputs (diskPlace disk-answer) × (diskPlace disk-answer < 3 + 5 * D .n)
-  unfolding diskNumber diskPlace C.measuredOf
+  unfolding diskNumber diskPlace
   disk-wrong-value n = go disk-cases
     where
       no : {A : Type 0} (m : ℕ) → diskNumber disk-answer ≡ m → (m ≡ 3 → ⊥) → A
@@ -294,7 +293,7 @@ module _ (D : DiskData) (base0 base1 : Float) where
   -- number 4: every value is finite, the search answers nothing, its trials are the place, exactly 4 k of them, and no trial had answered
   pub disk-nothing : diskNumber disk-answer ≡ 4 → AllFinite disk-inputs × (bestDiskFit D base0 base1 ≡ Missing (diskPlace disk-answer)) ×
       (diskPlace disk-answer ≡ 4 * pairsKept D base0 base1) × (leadersKept D base0 base1 ≡ 0)
-  unfolding diskNumber diskPlace C.measuredOf
+  unfolding diskNumber diskPlace
   disk-nothing n = go disk-cases
     where
       no : {A : Type 0} (m : ℕ) → diskNumber disk-answer ≡ m → (m ≡ 4 → ⊥) → A
@@ -315,7 +314,7 @@ module _ (D : DiskData) (base0 base1 : Float) where
     pub length : length disk-inputs ≡ 3 + 5 * D .n
     pub finite : AllFinite disk-inputs
     pub found : bestDiskFit D base0 base1 ≡ Best fit trials
-    pub answer : checkedDisk D base0 base1 ≡ C.measuredOf D fit trials
+    pub answer : checkedDisk D base0 base1 ≡ Disks.Fitted (C.measuredOf D fit trials)
 
   module _ (zero-number : diskNumber disk-answer ≡ 0) where
     pub disk-answered-is-the-fit : DiskFitted
@@ -336,16 +335,14 @@ module _ (D : DiskData) (base0 base1 : Float) where
     it = disk-answered-is-the-fit
 
     abbrev measured : Measured
-    measured =
-        let e = fitStdErrors D (it .fit) in
-        record { fit = it .fit; «fit_std_error_theta1» = e .error1; «fit_std_error_theta2» = e .error2; trials = it .trials }
+    measured = C.measuredOf D (it .fit) (it .trials)
 
     disk-values-are : diskValues disk-answer ≡ C.measuredValues measured
-    unfolding diskValues C.measuredOf
+    unfolding diskValues
     disk-values-are = rw (it .answer)
 
-    disk-counts-are : diskCounts disk-answer ≡ C.measuredCounts measured (C.errorsKnown (measured .«fit_std_error_theta1») (measured .«fit_std_error_theta2»))
-    unfolding diskCounts C.measuredOf
+    disk-counts-are : diskCounts disk-answer ≡ C.measuredCounts measured
+    unfolding diskCounts
     disk-counts-are = rw (it .answer)
 
     -- theta1, theta2, width, amp, rms, rel_rms, corr, edge_score, objective, both errors; and the trials
@@ -360,8 +357,7 @@ module _ (D : DiskData) (base0 base1 : Float) where
     disk-answered-finite = (it .length, it .finite)
 
     -- demand 2: the eleven values and the counts are those of the definition that follows the Rust
-    pub disk-answered-values : (diskValues disk-answer ≡ C.measuredValues measured) ×
-        (diskCounts disk-answer ≡ C.measuredCounts measured (C.errorsKnown (measured .«fit_std_error_theta1») (measured .«fit_std_error_theta2»)))
+    pub disk-answered-values : (diskValues disk-answer ≡ C.measuredValues measured) × (diskCounts disk-answer ≡ C.measuredCounts measured)
     disk-answered-values = (disk-values-are, disk-counts-are)
 
     -- demand 3, the bill: exactly 4 k + 24 m trials, k the pairs kept and m the leaders kept by the definition; at most 144

@@ -3,8 +3,7 @@
 use robust::RingFit;
 use score::Fit;
 use search::DiskFit;
-use solver::TwoAxisFit;
-use solver_elimination::Errors;
+use solver_elimination::Estimate;
 ghost use mathlib.Core.Path.{_≡_};
 ghost use Prim.Native.Nat.{_<_, _≤_};
 ghost use lib.ListN.{length};
@@ -26,9 +25,9 @@ pub enum Refusal {
     Nothing,
 }
 
-// A ring's fit with whether its errors are known, or a refusal with its number and place.
+// A ring's fit, or a refusal with its number and place.
 pub enum RingAnswer {
-    Fitted(RingFit, bool),
+    Fitted(RingFit),
     Refused(u8, u16),
 }
 
@@ -97,24 +96,6 @@ fn lone(x: f32, place: u16, next: Wild) -> Wild
     Wild::At(place)
 }
 
-// The errors of a fit are known unless both equal PI.
-fn errors_known(e1: f32, e2: f32) -> bool
-    ensures { λ r. ⌜ r ≡ C.errorsKnown e1 e2 ⌝ }
-{
-    if e1 == floats::PI && e2 == floats::PI {
-        return false;
-    }
-    true
-}
-
-fn ring_fitted(r: RingFit) -> RingAnswer
-    ensures { λ a. ⌜ a ≡ C.ringFitted r ⌝ }
-{
-    let f = r.fit;
-    let known = errors_known(f.fit_std_error_theta1, f.fit_std_error_theta2);
-    RingAnswer::Fitted(r, known)
-}
-
 // The angles' places count on from the number of samples.
 fn ring_wild(samples: &[f32], angles: &[f32]) -> Wild
     requires { ⌜ (length (now samples) ≤ maxSamples) × (length (now angles) ≤ maxSamples) ⌝ }
@@ -145,7 +126,7 @@ pub fn fit_ring(samples: &[f32], angles: &[f32]) -> RingAnswer
 {
     match ring_refusal(16, samples, angles) {
         Refusal::By(number, place) => RingAnswer::Refused(number, place),
-        Refusal::Nothing => ring_fitted(robust::fit_ring(samples, angles)),
+        Refusal::Nothing => RingAnswer::Fitted(robust::fit_ring(samples, angles)),
     }
 }
 
@@ -155,21 +136,20 @@ pub fn fit_ring24(samples: &[f32], angles: &[f32]) -> RingAnswer
 {
     match ring_refusal(24, samples, angles) {
         Refusal::By(number, place) => RingAnswer::Refused(number, place),
-        Refusal::Nothing => ring_fitted(robust::fit_ring24(samples, angles)),
+        Refusal::Nothing => RingAnswer::Fitted(robust::fit_ring24(samples, angles)),
     }
 }
 
-// A disk's fit with the errors of its axes, and the number of trials.
+// A disk's fit with the errors of its axes and their standing, and the number of trials.
 pub struct Measured {
     pub fit: Fit,
-    pub fit_std_error_theta1: f32,
-    pub fit_std_error_theta2: f32,
+    pub estimate: Estimate,
     pub trials: usize,
 }
 
-// A disk's fit with whether its errors are known, or a refusal with its number and place.
+// A disk's fit, or a refusal with its number and place.
 pub enum DiskAnswer {
-    Fitted(Measured, bool),
+    Fitted(Measured),
     Refused(u8, u16),
 }
 
@@ -195,19 +175,16 @@ fn disk_wild(
     lone(val_energy, 0, lone(base0, 1, lone(base1, 2, a)))
 }
 
-fn with_errors(xs: &[f32], ys: &[f32], vals_centered: &[f32], f: Fit, trials: usize) -> DiskAnswer
+fn with_errors(xs: &[f32], ys: &[f32], vals_centered: &[f32], f: Fit, trials: usize) -> Measured
     requires { ⌜ (length (now xs) ≤ maxTanhPixels) × (length (now ys) ≡ length (now xs)) × (length (now «vals_centered») ≡ length (now xs)) ⌝ }
     ensures { λ r. ⌜ ((energy : Float) → OfPixels energy xs ys «vals_centered» (λ D. r ≡ C.measuredOf D f trials)) ⌝ }
 {
-    let e = score::fit_std_errors(xs, ys, vals_centered, f);
-    let known = errors_known(e.error1, e.error2);
-    let m = Measured {
+    let estimate = score::fit_std_errors(xs, ys, vals_centered, f);
+    Measured {
         fit: f,
-        fit_std_error_theta1: e.error1,
-        fit_std_error_theta2: e.error2,
+        estimate,
         trials,
-    };
-    DiskAnswer::Fitted(m, known)
+    }
 }
 
 fn disk_fitted(
@@ -234,7 +211,9 @@ fn disk_fitted(
         grad_weights,
     );
     match found {
-        DiskFit::Best(f, trials) => with_errors(xs, ys, vals_centered, f, trials),
+        DiskFit::Best(f, trials) => {
+            DiskAnswer::Fitted(with_errors(xs, ys, vals_centered, f, trials))
+        }
         DiskFit::Missing(trials) => DiskAnswer::Refused(4, (trials % 65536) as u16),
     }
 }

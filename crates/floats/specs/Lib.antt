@@ -23,3 +23,4 @@ pub mod NanLaws
 pub mod RootRangeLaws
 pub mod RootOrderLaws
 pub mod DiscreteLaws
+pub mod WithinLaws

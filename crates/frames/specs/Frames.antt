@@ -27,7 +27,7 @@ malformed = Refused 0xff 5 0
 
 -- a fit or a refusal, of its type
 abbrev pub ringAnswered : ℕ → RingAnswer → Answer
-ringAnswered kind (Rings.Fitted r known) = Ring kind r known
+ringAnswered kind (Rings.Fitted r) = Ring kind r
 ringAnswered kind (Rings.Refused number place) = Refused kind number place
 
 -- a ring's line has a word for each sample behind the type, and then one for each angle
@@ -38,7 +38,7 @@ abbrev pub ringAnswer : List ℕ → ℕ → Answer
 ringAnswer l kind = ringAnswered (answerType kind) (ringOfLine l (samplesOf kind))
 
 abbrev pub diskAnswered : DiskAnswer → Answer
-diskAnswered (Disks.Fitted m known) = Sector m known
+diskAnswered (Disks.Fitted m) = Sector m
 diskAnswered (Disks.Refused number place) = Refused 0x82 number place
 
 -- a disk's has the count of four digits, three values and five runs of n values behind the type
@@ -78,31 +78,32 @@ abbrev pub valueWords : List Float → List ℕ
 valueWords = map (toBits binary32)
 
 -- the six values, and a word of the four counts
-abbrev pub ringWords : RingFit → Bool → List ℕ
-ringWords r known = valueWords (fitValues (r .fit)) ++ (countsWord (fitCounts r known) ∷ [])
+abbrev pub ringWords : RingFit → List ℕ
+ringWords r = valueWords (fitValues (r .fit)) ++ (countsWord (fitCounts r) ∷ [])
 
 -- 8100 or 8300, then seven words: 60 characters
-unfoldable pub ringText : ℕ → RingFit → Bool → List ℕ
-ringText kind r known = countText (kind * 256) ++ wordsText (ringWords r known) 7
+unfoldable pub ringText : ℕ → RingFit → List ℕ
+ringText kind r = countText (kind * 256) ++ wordsText (ringWords r) 7
 
 abbrev pub diskWords : Measured → List ℕ
 diskWords m = valueWords (measuredValues m)
 
 -- 8200, then eleven words, the trials in four digits and known: 98 characters
-unfoldable pub diskText : Measured → Bool → List ℕ
-diskText m known = countText 0x8200 ++ (wordsText (diskWords m) 11 ++ (countText (m .trials % 65536) ++ byteText (flag known)))
+unfoldable pub diskText : Measured → List ℕ
+diskText m =
+    countText 0x8200 ++ (wordsText (diskWords m) 11 ++ (countText (m .trials % 65536) ++ byteText (flag (m .estimate .standing .known))))
 
 unfoldable pub refusalText : ℕ → ℕ → ℕ → List ℕ
 refusalText kind number place = byteText kind ++ (byteText number ++ countText place)
 
 abbrev pub textOf : Answer → List ℕ
-textOf (Ring kind r known) = ringText kind r known
-textOf (Sector m known) = diskText m known
+textOf (Ring kind r) = ringText kind r
+textOf (Sector m) = diskText m
 textOf (Refused kind number place) = refusalText kind number place
 
 abbrev pub numberOf : Answer → ℕ
-numberOf (Ring kind r known) = 0
-numberOf (Sector m known) = 0
+numberOf (Ring kind r) = 0
+numberOf (Sector m) = 0
 numberOf (Refused kind number place) = number
 
 -- ---- the line call: the number that it returns, and the whole of the lent buffer afterwards

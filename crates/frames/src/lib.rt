@@ -14,11 +14,10 @@ ghost use Rattle.checked.specs.Checked.{checkedDisk, fitCounts, flag};
 ghost use Rattle.frames.specs.Frames as F;
 ghost use Rattle.frames.specs.RunsLaws.{diskOfRuns};
 
-// What a line is answered: a ring's fit, with its type, or a disk's, each with whether its errors are
-// known, or a refusal with its type, its number and its place.
+// What a line is answered: a ring's fit, with its type, or a disk's, or a refusal with its type, its number and its place.
 pub enum Answer {
-    Ring(u8, RingFit, bool),
-    Sector(Measured, bool),
+    Ring(u8, RingFit),
+    Sector(Measured),
     Refused(u8, u8, u16),
 }
 
@@ -32,7 +31,7 @@ fn ring_answered(kind: u8, a: RingAnswer) -> Answer
     ensures { λ r. ⌜ r ≡ F.ringAnswered kind a ⌝ }
 {
     match a {
-        RingAnswer::Fitted(r, known) => Answer::Ring(kind, r, known),
+        RingAnswer::Fitted(r) => Answer::Ring(kind, r),
         RingAnswer::Refused(number, place) => Answer::Refused(kind, number, place),
     }
 }
@@ -76,7 +75,7 @@ fn disk_answered(a: DiskAnswer) -> Answer
     ensures { λ r. ⌜ r ≡ F.diskAnswered a ⌝ }
 {
     match a {
-        DiskAnswer::Fitted(m, known) => Answer::Sector(m, known),
+        DiskAnswer::Fitted(m) => Answer::Sector(m),
         DiskAnswer::Refused(number, place) => Answer::Refused(130, number, place),
     }
 }
@@ -149,18 +148,19 @@ fn as_number(b: bool) -> u32
     0
 }
 
-fn counts_word(r: RingFit, known: bool) -> u32
-    ensures { λ w. ⌜ w ≡ F.countsWord (fitCounts r known) ⌝ }
+fn counts_word(r: RingFit) -> u32
+    ensures { λ w. ⌜ w ≡ F.countsWord (fitCounts r) ⌝ }
 {
+    let s = r.standing;
     let starts = (r.starts % 256) as u32;
     let first = (r.first % 256) as u32;
     let second = (r.second % 256) as u32;
-    starts * 16777216 + first * 65536 + second * 256 + as_number(known)
+    starts * 16777216 + first * 65536 + second * 256 + as_number(s.known)
 }
 
 // The words of a ring's fit, after its first four digits.
-fn ring_words(r: RingFit, known: bool) -> [u32; 7]
-    ensures { λ x. ⌜ (x ≡ F.ringWords r known) × (7 ≡ length x) ⌝ }
+fn ring_words(r: RingFit) -> [u32; 7]
+    ensures { λ x. ⌜ (x ≡ F.ringWords r) × (7 ≡ length x) ⌝ }
 {
     let f = r.fit;
     let a = floats::to_bits(f.amp);
@@ -169,15 +169,15 @@ fn ring_words(r: RingFit, known: bool) -> [u32; 7]
     let d = floats::to_bits(f.fit_std_error_theta1);
     let e = floats::to_bits(f.fit_std_error_theta2);
     let g = floats::to_bits(f.rms);
-    let w = counts_word(r, known);
+    let w = counts_word(r);
     [a, b, c, d, e, g, w]
 }
 
-fn write_ring(kind: u8, r: RingFit, known: bool, out: &mut [u8], at: usize) -> u32
+fn write_ring(kind: u8, r: RingFit, out: &mut [u8], at: usize) -> u32
     requires { ⌜ at + 98 ≤ length (now out) ⌝ }
-    ensures { λ n. ⌜ (n ≡ 0) × (now (out .exit) ≡ put (now (out .entry)) at (F.ringText kind r known)) ⌝ }
+    ensures { λ n. ⌜ (n ≡ 0) × (now (out .exit) ≡ put (now (out .entry)) at (F.ringText kind r)) ⌝ }
 {
-    let ws = ring_words(r, known);
+    let ws = ring_words(r);
     hex::put_count(out, at, kind as u32 * 256);
     hex::put_words(out, at + 4, &ws);
     0
@@ -188,6 +188,8 @@ fn disk_words(m: Measured) -> [u32; 11]
     ensures { λ x. ⌜ (x ≡ F.diskWords m) × (11 ≡ length x) ⌝ }
 {
     let f = m.fit;
+    let estimate = m.estimate;
+    let errors = estimate.errors;
     let a = floats::to_bits(f.theta1);
     let b = floats::to_bits(f.theta2);
     let c = floats::to_bits(f.width);
@@ -197,18 +199,20 @@ fn disk_words(m: Measured) -> [u32; 11]
     let h = floats::to_bits(f.corr);
     let i = floats::to_bits(f.edge_score);
     let j = floats::to_bits(f.objective);
-    let k = floats::to_bits(m.fit_std_error_theta1);
-    let l = floats::to_bits(m.fit_std_error_theta2);
+    let k = floats::to_bits(errors.error1);
+    let l = floats::to_bits(errors.error2);
     [a, b, c, d, e, g, h, i, j, k, l]
 }
 
-fn write_disk(m: Measured, known: bool, out: &mut [u8], at: usize) -> u32
+fn write_disk(m: Measured, out: &mut [u8], at: usize) -> u32
     requires { ⌜ at + 98 ≤ length (now out) ⌝ }
-    ensures { λ n. ⌜ (n ≡ 0) × (now (out .exit) ≡ put (now (out .entry)) at (F.diskText m known)) ⌝ }
+    ensures { λ n. ⌜ (n ≡ 0) × (now (out .exit) ≡ put (now (out .entry)) at (F.diskText m)) ⌝ }
 {
     let ws = disk_words(m);
     let trials = (m.trials % 65536) as u32;
-    let k = as_number(known);
+    let e = m.estimate;
+    let s = e.standing;
+    let k = as_number(s.known);
     hex::put_count(out, at, 0x8200);
     hex::put_words(out, at + 4, &ws);
     hex::put_count(out, at + 92, trials);
@@ -231,8 +235,8 @@ pub fn write_answer(a: Answer, out: &mut [u8], at: usize) -> u32
     ensures { λ r. ⌜ (r ≡ F.numberOf a) × (now (out .exit) ≡ put (now (out .entry)) at (F.textOf a)) ⌝ }
 {
     match a {
-        Answer::Ring(kind, r, known) => write_ring(kind, r, known, out, at),
-        Answer::Sector(m, known) => write_disk(m, known, out, at),
+        Answer::Ring(kind, r) => write_ring(kind, r, out, at),
+        Answer::Sector(m) => write_disk(m, out, at),
         Answer::Refused(kind, number, place) => write_refusal(kind, number, place, out, at),
     }
 }

@@ -20,6 +20,12 @@ pub struct Two {
 }
 
 #[repr(C)]
+pub struct Known2 {
+    pub values: [f32; 2],
+    pub known: bool,
+}
+
+#[repr(C)]
 pub struct Four {
     pub some: bool,
     pub values: [f32; 4],
@@ -234,7 +240,7 @@ pub extern "C" fn fl_valid_pair(a0: f32, a1: f32) -> bool {
     geometry::valid_pair(a0, a1)
 }
 
-// ---- 40 to 45: the solver
+// ---- 40 to 46: the solver
 
 #[no_mangle]
 pub extern "C" fn fl_solve_4x4(a: &[[f32; 4]; 4], b: &[f32; 4]) -> Four {
@@ -255,8 +261,22 @@ pub extern "C" fn fl_axis_std_errors(jtj: &[[f32; 4]; 4], ssr: f32, n: usize) ->
     requires { ⌜ n < 2 ^ 32 ⌝ }
 {
     let e = solver_elimination::axis_std_errors(jtj, ssr, n);
+    let errors = e.errors;
     Two {
-        values: [e.error1, e.error2],
+        values: [errors.error1, errors.error2],
+    }
+}
+
+#[no_mangle]
+pub extern "C" fn fl_axis_std_errors_known(jtj: &[[f32; 4]; 4], ssr: f32, n: usize) -> Known2
+    requires { ⌜ n < 2 ^ 32 ⌝ }
+{
+    let e = solver_elimination::axis_std_errors(jtj, ssr, n);
+    let errors = e.errors;
+    let standing = e.standing;
+    Known2 {
+        values: [errors.error1, errors.error2],
+        known: standing.known,
     }
 }
 

@@ -364,8 +364,9 @@ pub extern "C" fn fl_fit_std_errors(
     requires { ⌜ length (now xs) ≤ maxTanhPixels ⌝ }
 {
     let e = score::fit_std_errors(xs, ys, vals_centered, fit_of(*fit));
+    let errors = e.errors;
     Two {
-        values: [e.error1, e.error2],
+        values: [errors.error1, errors.error2],
     }
 }
 

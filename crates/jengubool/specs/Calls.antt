@@ -29,7 +29,7 @@ pub record Stored : Type 0 where
 
 -- 0 for a fit, whose values and counts stand in front; of a refusal number * 65536 + place, with both buffers as they were
 unfoldable pub ringStored : RingAnswer → List Float → List ℕ → Stored
-ringStored (Fitted r known) fit counts = record { code = 0; fit = putFrom (fitValues (r .fit)) 0 fit; counts = putFrom (map wide (fitCounts r known)) 0 counts }
+ringStored (Fitted r) fit counts = record { code = 0; fit = putFrom (fitValues (r .fit)) 0 fit; counts = putFrom (map wide (fitCounts r)) 0 counts }
 ringStored (Refused number place) fit counts = record { code = number * 65536 + place; fit = fit; counts = counts }
 
 -- the call for a ring of n samples; a buffer that is too short gives number 1
@@ -40,8 +40,8 @@ ringCall n samples angles fit counts =
     (ringStored (checkedRing n samples angles) fit counts))
 
 unfoldable pub diskStored : DiskAnswer → List Float → List ℕ → Stored
-diskStored (Disks.Fitted m known) fit counts =
-    record { code = 0; fit = putFrom (measuredValues m) 0 fit; counts = putFrom (map wide (measuredCounts m known)) 0 counts }
+diskStored (Disks.Fitted m) fit counts =
+    record { code = 0; fit = putFrom (measuredValues m) 0 fit; counts = putFrom (map wide (measuredCounts m)) 0 counts }
 diskStored (Disks.Refused number place) fit counts = record { code = number * 65536 + place; fit = fit; counts = counts }
 
 unfoldable pub diskCall : DiskData → Float → Float → List Float → List ℕ → Stored

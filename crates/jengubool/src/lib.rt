@@ -96,11 +96,12 @@ fn as_number(b: bool) -> u32
     0
 }
 
-fn put_counts(r: RingFit, known: bool, counts: &mut [u32])
+fn put_counts(r: RingFit, counts: &mut [u32])
     requires { ⌜ 4 ≤ length (now counts) ⌝ }
-    ensures { λ _. ⌜ now (counts .exit) ≡ J.putFrom (map J.wide (fitCounts r known)) 0 (now (counts .entry)) ⌝ }
+    ensures { λ _. ⌜ now (counts .exit) ≡ J.putFrom (map J.wide (fitCounts r)) 0 (now (counts .entry)) ⌝ }
 {
-    let k = as_number(known);
+    let s = r.standing;
+    let k = as_number(s.known);
     counts[0] = (r.starts % 4294967296) as u32;
     counts[1] = (r.first % 4294967296) as u32;
     counts[2] = (r.second % 4294967296) as u32;
@@ -113,9 +114,9 @@ fn ring_stored(a: RingAnswer, fit: &mut [f32], counts: &mut [u32]) -> u32
         (J.ringStored a (now (fit .entry)) (now (counts .entry))) ⌝ }
 {
     match a {
-        RingAnswer::Fitted(r, known) => {
+        RingAnswer::Fitted(r) => {
             put_fit(r.fit, fit);
-            put_counts(r, known, counts);
+            put_counts(r, counts);
             0
         }
         RingAnswer::Refused(number, place) => (number as u32) * 65536 + place as u32,
@@ -168,6 +169,8 @@ fn put_disk(m: Measured, fit: &mut [f32])
     ensures { λ _. ⌜ now (fit .exit) ≡ J.putFrom (measuredValues m) 0 (now (fit .entry)) ⌝ }
 {
     let f = m.fit;
+    let e = m.estimate;
+    let errors = e.errors;
     fit[0] = f.theta1;
     fit[1] = f.theta2;
     fit[2] = f.width;
@@ -177,15 +180,17 @@ fn put_disk(m: Measured, fit: &mut [f32])
     fit[6] = f.corr;
     fit[7] = f.edge_score;
     fit[8] = f.objective;
-    fit[9] = m.fit_std_error_theta1;
-    fit[10] = m.fit_std_error_theta2;
+    fit[9] = errors.error1;
+    fit[10] = errors.error2;
 }
 
-fn put_trials(m: Measured, known: bool, counts: &mut [u32])
+fn put_trials(m: Measured, counts: &mut [u32])
     requires { ⌜ 2 ≤ length (now counts) ⌝ }
-    ensures { λ _. ⌜ now (counts .exit) ≡ J.putFrom (map J.wide (measuredCounts m known)) 0 (now (counts .entry)) ⌝ }
+    ensures { λ _. ⌜ now (counts .exit) ≡ J.putFrom (map J.wide (measuredCounts m)) 0 (now (counts .entry)) ⌝ }
 {
-    let k = as_number(known);
+    let e = m.estimate;
+    let s = e.standing;
+    let k = as_number(s.known);
     counts[0] = (m.trials % 4294967296) as u32;
     counts[1] = k;
 }
@@ -196,9 +201,9 @@ fn disk_stored(a: DiskAnswer, fit: &mut [f32], counts: &mut [u32]) -> u32
         (J.diskStored a (now (fit .entry)) (now (counts .entry))) ⌝ }
 {
     match a {
-        DiskAnswer::Fitted(m, known) => {
+        DiskAnswer::Fitted(m) => {
             put_disk(m, fit);
-            put_trials(m, known, counts);
+            put_trials(m, counts);
             0
         }
         DiskAnswer::Refused(number, place) => (number as u32) * 65536 + place as u32,

@@ -4,3 +4,4 @@ pub mod RobustLaws
 pub mod SoundLaws
 pub mod Residual
 pub mod ResidualLaws
+pub mod KnownLaws

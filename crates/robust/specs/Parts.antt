@@ -1,4 +1,4 @@
--- What the contracts of crates/robust speak of besides the definitions: the lent buffers, and the code's own starts, which carry no sum. Definitions only.
+-- What the contracts of crates/robust speak of besides the definitions: the lent buffers, and the code's own starts, which do not keep their sums. Definitions only.
 use mathlib.Core.Path.{_≡_}
 use mathlib.Core.Option.{Option, none, some}
 use Prim.Native.Nat.{ℕ, _+_, _*_, _≤_}
@@ -34,9 +34,9 @@ pub record Ready (samples ringPhi sphi cphi js : Row) : Type 0 where
 pub record Rows (samples h : Row) : Type 0 where
   pub places : length h ≡ gridPlaces * length samples + 2
 
--- ---- starts without their sum
+-- ---- starts without what they were made of
 abbrev pub startedOf : R.Start → Started
-startedOf s = record { fit = s .fit; updates = s .updates }
+startedOf s = record { fit = s .fit; standing = s .standing; updates = s .updates }
 
 abbrev pub secondOf : Option R.Start → Second
 secondOf none = Missing

@@ -31,9 +31,9 @@ use Rattle.loops.specs.Loops.{iter}
 use Rattle.loops.specs.IterLaws.{iter-keeps}
 use Rattle.solver.specs.SolverLaws.{run-full, run-stay, run-to}
 use Rattle.solver.specs.Solver.{Normal, empty, added, pass, Step, stay, to, Final, updatesFrom, updates, sines, cosines, startFrom}
-use Rattle.solver.specs.Solver.{degenerate, degenerateFit, finished, assembled, fitWithSeed}
+use Rattle.solver.specs.Solver.{degenerate, degenerateFit, refused, finished, assembled, fitWithSeed}
 use Rattle.solver.specs.declared.Params.{Params}
-use Rattle.robust.specs.Robust.{negativeZero, total, deviations, meanOf, varianceOf, Squares, ofPass, ofMean, start, ring, fitRing, sumOf, ringSum}
+use Rattle.robust.specs.Robust.{negativeZero, total, deviations, meanOf, varianceOf, Source, ofPass, ofMean, start, ring, fitRing, sumOf, ringSum}
 use Rattle.robust.specs.SoundLaws.{ring-each}
 use Rattle.robust.specs.Residual.{MadeOf, half, Tiny, oneUnit, Share}
 
@@ -255,44 +255,45 @@ module _ (n : ℕ) (vs ss cs : Row) where
 
 -- ---- how each rms is made
 start-made : (n : ℕ) (samples ringPhi : Row) (seed : Params) (centeredVar : Float)
-    → MadeOf n centeredVar (start n samples ringPhi seed centeredVar .fit .rms) (start n samples ringPhi seed centeredVar .squares)
+    → MadeOf n centeredVar (start n samples ringPhi seed centeredVar .fit .rms) (start n samples ringPhi seed centeredVar .source)
 unfolding start fitWithSeed
 start-made n samples ringPhi seed centeredVar = go (degenerate (seed .amp) centeredVar)
   where
     end : Final
     end = updates n samples (sines n ringPhi) (cosines n ringPhi) seed
 
-    go : (b : Bool) → MadeOf n centeredVar (cond b (record { fit = degenerateFit centeredVar; updates = 0 }) (startFrom n end) .fit .rms)
-        (cond b ofMean (ofPass (end .last .ssr)))
+    go : (b : Bool) → MadeOf n centeredVar (cond b (refused centeredVar) (startFrom n end) .fit .rms)
+        (cond b ofMean (ofPass (end .last)))
     go true = unfold degenerateFit in refl
     go false = unfold finished assembled in refl
 
 -- a pass's sum fits f32, and is a NaN or not below zero
-abbrev Summed : Squares → Type 0
-Summed (ofPass ssr) = Good ssr
+abbrev Summed : Source → Type 0
+Summed (ofPass last) = Good (last .ssr)
 Summed ofMean = 0 ≤ 0
 
-start-summed : (n : ℕ) (samples ringPhi : Row) (seed : Params) (centeredVar : Float) → Summed (start n samples ringPhi seed centeredVar .squares)
+start-summed : (n : ℕ) (samples ringPhi : Row) (seed : Params) (centeredVar : Float) → Summed (start n samples ringPhi seed centeredVar .source)
 unfolding start
 start-summed n samples ringPhi seed centeredVar = go (degenerate (seed .amp) centeredVar)
   where
-    go : (b : Bool) → Summed (cond b ofMean (ofPass (updates n samples (sines n ringPhi) (cosines n ringPhi) seed .last .ssr)))
+    go : (b : Bool) → Summed (cond b ofMean (ofPass (updates n samples (sines n ringPhi) (cosines n ringPhi) seed .last)))
     go true = omega arith
     go false = updates-good n samples (sines n ringPhi) (cosines n ringPhi) seed
 
 -- for every number of samples and all values: what the answered rms was made of
 pub ring-made : (n : ℕ) (samples ringPhi : Row)
-    → MadeOf n (varianceOf n samples (meanOf n samples)) (fitRing n samples ringPhi .fit .rms) (ring n samples ringPhi .answered .squares)
+    → MadeOf n (varianceOf n samples (meanOf n samples)) (fitRing n samples ringPhi .fit .rms) (ring n samples ringPhi .answered .source)
 unfolding fitRing
 ring-made n samples ringPhi =
     let centeredVar = varianceOf n samples (meanOf n samples) in
-    ring-each (λ s. MadeOf n centeredVar (s .fit .rms) (s .squares)) n samples ringPhi (λ seed h. start-made n samples ringPhi seed centeredVar)
+    ring-each (λ s. MadeOf n centeredVar (s .fit .rms) (s .source)) n samples ringPhi (λ seed h. start-made n samples ringPhi seed centeredVar)
 
 -- ---- n finite samples: an rms of 0
 module _ (n : ℕ) (share : Share n) where
-  made-tiny : (dev rms : Float) (s : Squares) → Fit dev → Upright dev → Summed s → MadeOf n (dev ⊘ count n) rms s → eq rms nought ≡ true
+  made-tiny : (dev rms : Float) (s : Source) → Fit dev → Upright dev → Summed s → MadeOf n (dev ⊘ count n) rms s → eq rms nought ≡ true
       → Tiny n (sumOf dev s)
-  made-tiny dev rms (ofPass ssr) p u q e z =
+  made-tiny dev rms (ofPass last) p u q e z =
+      let ssr = last .ssr in
       let root = zero-root (ssr ⊘ count n) (div-fits binary32 ssr (count n)) (subst (λ (r : Float). eq r nought ≡ true) e z) in
       let low = nth-low n share ssr (q .0) root in
       record { number = low .number; above = upright-above binary32 ssr (q .0) (level-upright ssr (low .number) (q .1)); small = low .small }
@@ -308,6 +309,6 @@ module _ (n : ℕ) (share : Share n) where
   ring-tiny samples ringPhi h z =
       let mean = meanOf n samples in
       let upright = deviations-upright n samples mean h (nth-number n share (total n samples) (total-fits n samples) (total-number n samples h)) in
-      let summed = ring-each (λ s. Summed (s .squares)) n samples ringPhi (λ seed k. start-summed n samples ringPhi seed (varianceOf n samples mean)) in
-      made-tiny (deviations n samples mean) _ (ring n samples ringPhi .answered .squares) (deviations-fit n samples mean) upright summed
+      let summed = ring-each (λ s. Summed (s .source)) n samples ringPhi (λ seed k. start-summed n samples ringPhi seed (varianceOf n samples mean)) in
+      made-tiny (deviations n samples mean) _ (ring n samples ringPhi .answered .source) (deviations-fit n samples mean) upright summed
       (ring-made n samples ringPhi) z

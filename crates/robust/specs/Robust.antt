@@ -11,7 +11,8 @@ use Rattle.floats.specs.Rows.{Row, at, count}
 use Rattle.floats.specs.Library.{max, toRadians}
 use Rattle.geometry.specs.Geometry.{lineSeparation}
 use Rattle.loops.specs.Loops.{iter, tab}
-use Rattle.solver.specs.Solver.{sines, cosines, updates, degenerate, fitWithSeed}
+use Rattle.solver.specs.Solver.{Normal, sines, cosines, updates, degenerate, fitWithSeed}
+use Rattle.solver_elimination.specs.declared.Standing.{Standing}
 use Rattle.solver.specs.declared.Params.{Params}
 use Rattle.solver.specs.declared.TwoAxisFit.{TwoAxisFit}
 use Rattle.seed.specs.Seed.{secondHarmonic, flat}
@@ -64,22 +65,28 @@ triggered f = outside (lineSeparation (f .theta1) (f .theta2)) || le robustRelRm
 unfoldable pub fitIsSuspicious : TwoAxisFit → Bool
 fitIsSuspicious f = cond (not (finite (f .amp)) || (not (finite (f .rms)) || lt (f .amp) ampFloor)) false (triggered f)
 
--- ---- a start: fit_with_seed's fit and its number of updates, and of which sum of squares its rms was made: the residuals of the last pass, or,
--- where the start is refused, the deviations from the mean
-pub data Squares : Type 0 where
-  ofPass : Float → Squares
-  ofMean : Squares
+-- ---- a start: fit_with_seed's fit, the standing of its errors and its number of updates, and what rms and errors were made of: the sums of the
+-- last pass, or, where the start is refused, the deviations from the mean
+pub data Source : Type 0 where
+  ofPass : Normal → Source
+  ofMean : Source
 
 pub record Start : Type 0 where
   pub fit : TwoAxisFit
+  pub standing : Standing
   pub updates : ℕ
-  pub squares : Squares
+  pub source : Source
 
 unfoldable pub start : ℕ → Row → Row → Params → Float → Start
 start n samples ringPhi seed centeredVar =
     let s = fitWithSeed n samples ringPhi seed centeredVar in
     let last = updates n samples (sines n ringPhi) (cosines n ringPhi) seed .last in
-    record { fit = s .fit; updates = s .updates; squares = cond (degenerate (seed .amp) centeredVar) ofMean (ofPass (last .ssr)) }
+    record {
+      fit = s .fit;
+      standing = s .standing;
+      updates = s .updates;
+      source = cond (degenerate (seed .amp) centeredVar) ofMean (ofPass last);
+    }
 
 -- ---- robust.rs: refine_seed_candidates, ROBUST_TOP_SEEDS being 1
 abbrev pub seeded : SeedCandidate → Params
@@ -135,15 +142,15 @@ ring n samples ringPhi =
     cond (fitIsSuspicious (primary .fit)) (chosen primary (robustGridFit n samples ringPhi mean centeredVar)) (single primary)
 
 abbrev pub ringFitOf : Ring → RingFit
-ringFitOf r = record { fit = r .answered .fit; starts = r .starts; first = r .first; second = r .second }
+ringFitOf r = record { fit = r .answered .fit; standing = r .answered .standing; starts = r .starts; first = r .first; second = r .second }
 
 unfoldable pub fitRing : ℕ → Row → Row → RingFit
 fitRing n samples ringPhi = ringFitOf (ring n samples ringPhi)
 
 -- the sum of squares that the answered rms was made of
-abbrev pub sumOf : Float → Squares → Float
-sumOf dev (ofPass ssr) = ssr
+abbrev pub sumOf : Float → Source → Float
+sumOf dev (ofPass last) = last .ssr
 sumOf dev ofMean = dev
 
 unfoldable pub ringSum : ℕ → Row → Row → Float
-ringSum n samples ringPhi = sumOf (deviations n samples (meanOf n samples)) (ring n samples ringPhi .answered .squares)
+ringSum n samples ringPhi = sumOf (deviations n samples (meanOf n samples)) (ring n samples ringPhi .answered .source)

@@ -1,5 +1,5 @@
 -- What the code's own steps come to: constants as they are derived, a refused start that is never suspicious, the starts of a seed and of the grid, and the
--- answers of one or two starts, which need no sum. Assumes nothing.
+-- answers of one or two starts, which need no sums. Assumes nothing.
 use mathlib.Core.Path.{_≡_, refl, sym, ap, _∙_, subst}
 use mathlib.Core.Bool.{Bool, true, false, cond, not, _||_, false≢true}
 use mathlib.Core.List.{_++_}
@@ -13,13 +13,12 @@ use Rattle.floats.specs.Ops.{lit}
 use Rattle.floats.specs.Rows.{Row}
 use Rattle.floats.specs.Library.{toRadians}
 use Rattle.loops.specs.TabLaws.{tab-length, part-same}
-use Rattle.solver.specs.Solver.{sines, cosines, updates, startFrom, degenerate, degenerateFit, fitWithSeed}
+use Rattle.solver.specs.Solver.{sines, cosines, updates, startFrom, degenerate, degenerateFit, refused, fitWithSeed}
 use Rattle.solver.specs.Buffers.{Prepared, PassRoom, maxSamples}
 use Rattle.robust_lanes.specs.Lanes.{gridPlaces}
 use Rattle.solver.specs.SolverLaws.{prepared-length, whole-prepared}
 use Rattle.solver.specs.declared.Params.{Params}
 use Rattle.solver.specs.declared.Started.{Started}
-use Rattle.solver.specs.declared.TwoAxisFit.{TwoAxisFit}
 use Rattle.seed.specs.Seed.{flat, secondHarmonic}
 use Rattle.seed.specs.declared.Seed.{Seed}
 use Rattle.seed.specs.declared.Seed.the-variants.{Found, Nothing}
@@ -52,8 +51,9 @@ degenerate-calm centeredVar = go (not (finite (degenerateFit centeredVar .rms)))
     go true = refl
     go false = refl
 
-pub refused-calm : {P : Type 0} (f : TwoAxisFit) (centeredVar : Float) → f ≡ degenerateFit centeredVar → R.fitIsSuspicious f ≡ true → P
-refused-calm f centeredVar e t = absurd (false≢true (sym (degenerate-calm centeredVar) ∙ sym (ap R.fitIsSuspicious e) ∙ t))
+pub refused-calm : {P : Type 0} (s : Started) (centeredVar : Float) → s ≡ refused centeredVar → R.fitIsSuspicious (s .fit) ≡ true → P
+refused-calm s centeredVar e t =
+    absurd (false≢true (sym (degenerate-calm centeredVar) ∙ sym (ap (λ (x : Started). R.fitIsSuspicious (x .fit)) e) ∙ t))
 
 -- ---- the buffers of a start are those of the solver
 pub ready-room : {samples ringPhi sphi cphi js : Row} → Ready samples ringPhi sphi cphi js → PassRoom samples sphi cphi js
@@ -71,10 +71,10 @@ ready-rows {samples} {ringPhi} {sphi} {cphi} r w =
 
 -- ---- a start, where it is refused and where the sines and cosines are at hand
 module _ (n : ℕ) (samples ringPhi : Row) (seed : Params) (centeredVar : Float) where
-  pub start-refused : {b : Bool} {f : TwoAxisFit} → b ≡ degenerate (seed .amp) centeredVar → b ≡ true → f ≡ degenerateFit centeredVar
-      → _≡_ {A = Started} (record { fit = f; updates = 0 }) (fitWithSeed n samples ringPhi seed centeredVar)
+  pub start-refused : {b : Bool} {s : Started} → b ≡ degenerate (seed .amp) centeredVar → b ≡ true → s ≡ refused centeredVar
+      → s ≡ fitWithSeed n samples ringPhi seed centeredVar
   unfolding fitWithSeed
-  start-refused d t e = rw (← d, t, e)
+  start-refused d t e = rw (← d, t) e
 
   pub start-made : (sphi cphi : Row) {b : Bool} {s : Started} → b ≡ degenerate (seed .amp) centeredVar → b ≡ false → length ringPhi ≡ n
       → Prepared ringPhi sphi cphi → s ≡ startFrom n (updates n samples sphi cphi seed) → s ≡ fitWithSeed n samples ringPhi seed centeredVar
@@ -138,8 +138,13 @@ module _ (n : ℕ) (samples ringPhi : Row) (mean centeredVar : Float) (centered 
       rw (ev, t, ← s, ← ec, ← eS, ← eC, ← best) er
 
 -- ---- the answers of one start, and of two
-pub alone-is : (primary : Started) → Alone primary (record { fit = primary .fit; starts = 1; first = primary .updates; second = 0 })
+pub alone-is : (primary : Started)
+    → Alone primary (record { fit = primary .fit; standing = primary .standing; starts = 1; first = primary .updates; second = 0 })
 alone-is primary = record { is = λ f e. rw e }
+
+-- the start that is answered, of two
+abbrev pub two : Started → ℕ → ℕ → RingFit
+two answered m n = record { fit = answered .fit; standing = answered .standing; starts = 2; first = m; second = n }
 
 module _ (primary : Started) (s : Second) where
   pub chosen-alone : (r : RingFit) → s ≡ Missing → Alone primary r → Chosen primary s r
@@ -153,13 +158,13 @@ module _ (primary : Started) (s : Second) where
           never : Made (startedOf g) ≡ Missing → ⊥
           never e = let z : _≡_ {A = ℕ} 0 1 = cc in omega arith
 
-  pub chosen-two : (candidate : Started) (fit : TwoAxisFit) → s ≡ Made candidate
-      → fit ≡ cond (R.isLower (candidate .fit) (primary .fit)) (candidate .fit) (primary .fit)
-      → Chosen primary s (record { fit = fit; starts = 2; first = primary .updates; second = candidate .updates })
+  pub chosen-two : (candidate answered : Started) → s ≡ Made candidate
+      → answered ≡ cond (R.isLower (candidate .fit) (primary .fit)) candidate primary
+      → Chosen primary s (two answered (primary .updates) (candidate .updates))
   unfolding R.chosen
-  chosen-two candidate fit e h = record { is = go }
+  chosen-two candidate answered e h = record { is = go }
     where
-      pick : (b : Bool) (f g : R.Start) → cond b (g .fit) (f .fit) ≡ cond b g f .fit
+      pick : (b : Bool) (f g : R.Start) → cond b (startedOf g) (startedOf f) ≡ startedOf (cond b g f)
       pick true f g = refl
       pick false f g = refl
 
@@ -167,17 +172,13 @@ module _ (primary : Started) (s : Second) where
       same g e = cc
 
       go : (f : R.Start) (o : Option R.Start) → primary ≡ startedOf f → s ≡ secondOf o
-          → record { fit = fit; starts = 2; first = primary .updates; second = candidate .updates } ≡ R.ringFitOf (R.chosen f o)
+          → two answered (primary .updates) (candidate .updates) ≡ R.ringFitOf (R.chosen f o)
       go f none p q = absurd (never (sym e ∙ q))
         where
           never : Made candidate ≡ Missing → ⊥
           never e = let z : _≡_ {A = ℕ} 0 1 = cc in omega arith
       go f (some g) p q =
-          rw (h, p, same g (sym e ∙ q))
-          (ap (λ (x : TwoAxisFit). answer x (f .updates) (g .updates)) (pick (R.isLower (g .fit) (f .fit)) f g))
-        where
-          answer : TwoAxisFit → ℕ → ℕ → RingFit
-          answer x m n = record { fit = x; starts = 2; first = m; second = n }
+          rw (h, p, same g (sym e ∙ q)) (ap (λ (x : Started). two x (f .updates) (g .updates)) (pick (R.isLower (g .fit) (f .fit)) f g))
 
 -- ---- the whole fit: the first start is not suspicious, or is followed by the grid's
 module _ (n : ℕ) (samples ringPhi : Row) (f : First) (r : RingFit) (e : f ≡ firstOf n samples ringPhi) where

@@ -5,6 +5,7 @@ use seed::Seed;
 use solver::Params;
 use solver::Started;
 use solver::TwoAxisFit;
+use solver_elimination::Standing;
 ghost use mathlib.Core.Path.{_≡_};
 ghost use mathlib.Core.Bool.{true, cond};
 ghost use lib.ListN.{length};
@@ -33,9 +34,10 @@ pub enum Second {
     Missing,
 }
 
-// The fit that is answered, the number of starts, and the updates of each.
+// The fit that is answered with the standing of its errors, the number of starts, and the updates of each.
 pub struct RingFit {
     pub fit: TwoAxisFit,
+    pub standing: Standing,
     pub starts: usize,
     pub first: usize,
     pub second: usize,
@@ -133,8 +135,7 @@ fn started(
     ensures { λ r. ⌜ r ≡ fitWithSeed (length (now (samples .entry))) (now (samples .entry)) (now («ring_phi» .entry)) seed «centered_var» ⌝ }
 {
     if solver::is_degenerate(seed.amp, centered_var) {
-        let fit = solver::degenerate_fit(centered_var);
-        return Started { fit, updates: 0 };
+        return solver::refused(centered_var);
     }
     solver::fit_prepared(samples, seed, sphi, cphi, js)
 }
@@ -269,8 +270,7 @@ fn start(
     ensures { λ r. ⌜ (R.fitIsSuspicious (r .fit) ≡ true → Prepared (now («ring_phi» .entry)) (now (sphi .exit)) (now (cphi .exit))) ⌝ }
 {
     if solver::is_degenerate(seed.amp, centered_var) {
-        let fit = solver::degenerate_fit(centered_var);
-        return Started { fit, updates: 0 };
+        return solver::refused(centered_var);
     }
     let n = ring_phi.len();
     solver::prepare(ring_phi, &mut js[0..n], sphi, cphi);
@@ -307,22 +307,26 @@ fn alone(primary: Started) -> RingFit
     ensures { λ r. ⌜ P.Alone primary r ⌝ }
 {
     let fit = primary.fit;
+    let standing = primary.standing;
     RingFit {
         fit,
+        standing,
         starts: 1,
         first: primary.updates,
         second: 0,
     }
 }
 
-// Of two fits the second is answered only where its residual is lower by more than 1e-3.
-fn lower(f: TwoAxisFit, g: TwoAxisFit) -> TwoAxisFit
-    ensures { λ r. ⌜ r ≡ cond (R.isLower g f) g f ⌝ }
+// Of two starts the second is answered only where its residual is lower by more than 1e-3.
+fn lower(primary: Started, candidate: Started) -> Started
+    ensures { λ r. ⌜ r ≡ cond (R.isLower (candidate .fit) (primary .fit)) candidate primary ⌝ }
 {
+    let f = primary.fit;
+    let g = candidate.fit;
     if g.rms < f.rms - 1e-3 {
-        return g;
+        return candidate;
     }
-    f
+    primary
 }
 
 // The answer with a second start.
@@ -332,11 +336,12 @@ fn chosen(primary: Started, s: Second) -> RingFit
     let Second::Made(candidate) = s else {
         return alone(primary);
     };
-    let f = primary.fit;
-    let g = candidate.fit;
-    let fit = lower(f, g);
+    let answered = lower(primary, candidate);
+    let fit = answered.fit;
+    let standing = answered.standing;
     RingFit {
         fit,
+        standing,
         starts: 2,
         first: primary.updates,
         second: candidate.updates,

@@ -11,8 +11,10 @@ use Rattle.elementary.specs.Elementary.{sinCos, tanh}
 use Rattle.elementary.specs.declared.SinCos.{SinCos}
 use Rattle.geometry.specs.Geometry.{validPair}
 use Rattle.solver_axes.specs.Canonical.{canonicalizeTrackingSwap}
-use Rattle.solver_elimination.specs.Solve.{Matrix, axisStdErrors}
+use Rattle.solver_elimination.specs.Solve.{Matrix, axisStdErrors, standing}
 use Rattle.solver_elimination.specs.declared.Errors.{Errors}
+use Rattle.solver_elimination.specs.declared.Standing.{Standing}
+use Rattle.solver_elimination.specs.declared.Estimate.{Estimate}
 use Rattle.floats.specs.Rows.{Row, at, count}
 use Rattle.data.specs.Data.{DiskData}
 use Rattle.candidates.specs.declared.CandidateSet.{CandidateSet}
@@ -185,3 +187,16 @@ unfoldable pub fitStdErrors : DiskData → Fit → Errors
 fitStdErrors D fit =
     let m = momentsOf (D .n) (D .xs) (D .ys) (D .«vals_centered») fit in
     axisStdErrors (normal (D .n) m) (narrow (residual (D .n) (fit .amp) m)) (D .n)
+
+-- ours: whether they are known, by the matrix and the sum that they are made of
+abbrev pub errorMatrix : DiskData → Fit → Matrix
+errorMatrix D fit = normal (D .n) (momentsOf (D .n) (D .xs) (D .ys) (D .«vals_centered») fit)
+
+abbrev pub errorSum : DiskData → Fit → Float
+errorSum D fit = narrow (residual (D .n) (fit .amp) (momentsOf (D .n) (D .xs) (D .ys) (D .«vals_centered») fit))
+
+unfoldable pub fitStanding : DiskData → Fit → Standing
+fitStanding D fit = standing (errorMatrix D fit) (errorSum D fit) (D .n)
+
+abbrev pub fitEstimate : DiskData → Fit → Estimate
+fitEstimate D fit = record { errors = fitStdErrors D fit; standing = fitStanding D fit }

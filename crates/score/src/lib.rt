@@ -1,7 +1,7 @@
 // The score of a pair of axes, the order of fits and the errors of a fit: disk_sector/score.rs.
 use candidates::CandidateSet;
 use elementary::SinCos;
-use solver_elimination::Errors;
+use solver_elimination::Estimate;
 ghost use mathlib.Core.Path.{_≡_};
 ghost use Prim.Native.Nat.{_≤_};
 ghost use lib.Ieee.{Float};
@@ -343,12 +343,12 @@ fn normal(n: usize, m: Moments) -> [[f32; 4]; 4]
     ]
 }
 
-// The standard errors of a fit's two axes, from one pass at its own angles and width.
-pub fn fit_std_errors(xs: &[f32], ys: &[f32], vals_centered: &[f32], fit: Fit) -> Errors
+// The standard errors of a fit's two axes and their standing, from one pass at its own angles and width.
+pub fn fit_std_errors(xs: &[f32], ys: &[f32], vals_centered: &[f32], fit: Fit) -> Estimate
     requires { ⌜ (length (now ys) ≡ length (now xs)) × (length (now «vals_centered») ≡ length (now xs))
         × (length (now xs) ≤ maxTanhPixels) ⌝ }
     ensures { λ r. ⌜ ((energy : Float) →
-        OfPixels energy xs ys «vals_centered» (λ D. r ≡ S.fitStdErrors D fit)) ⌝ }
+        OfPixels energy xs ys «vals_centered» (λ D. r ≡ S.fitEstimate D fit)) ⌝ }
 {
     let n = xs.len();
     let m = moments_of(xs, ys, vals_centered, fit);

@@ -11,7 +11,7 @@ use Rattle.floats.specs.Library.{abs, signum, max, sqrt}
 use Rattle.elementary.specs.Elementary.{sinCos, tanh}
 use Rattle.elementary.specs.declared.SinCos.{SinCos}
 use Rattle.loops.specs.Loops.{iter, tab}
-use Rattle.solver_elimination.specs.Solve.{Matrix, solve4x4, axisStdErrors}
+use Rattle.solver_elimination.specs.Solve.{Matrix, solve4x4, axisStdErrors, unfounded, standing}
 use Rattle.floats.specs.Rows.{Row, at, count}
 use Rattle.solver_elimination.specs.declared.Solved.{Solved}
 use Rattle.solver_elimination.specs.declared.Solved.the-variants.{Values, Failed}
@@ -179,11 +179,18 @@ sines n ringPhi = tab (λ i. sinCos (at ringPhi i) .s) n
 abbrev pub cosines : ℕ → Row → Row
 cosines n ringPhi = tab (λ i. sinCos (at ringPhi i) .c) n
 
-abbrev pub startFrom : ℕ → Final → Started
-startFrom n f = record { fit = finished n (f .p) (f .last .m) (f .last .ssr); updates = f .updates }
+-- the fit, the standing of its errors, and the number of updates
+abbrev pub startOf : ℕ → Params → Matrix → Float → ℕ → Started
+startOf n p m ssr k = record { fit = finished n p m ssr; standing = standing m ssr n; updates = k }
 
--- solver.rs: fit_with_seed, with the number of updates that it made
+abbrev pub startFrom : ℕ → Final → Started
+startFrom n f = startOf n (f .p) (f .last .m) (f .last .ssr) (f .updates)
+
+abbrev pub refused : Float → Started
+refused centeredVar = record { fit = degenerateFit centeredVar; standing = unfounded; updates = 0 }
+
+-- solver.rs: fit_with_seed, with the number of updates that it made, and whether its errors are known
 unfoldable pub fitWithSeed : ℕ → Row → Row → Params → Float → Started
 fitWithSeed n samples ringPhi seed centeredVar =
-    cond (degenerate (seed .amp) centeredVar) (record { fit = degenerateFit centeredVar; updates = 0 })
+    cond (degenerate (seed .amp) centeredVar) (refused centeredVar)
     (startFrom n (updates n samples (sines n ringPhi) (cosines n ringPhi) seed))

@@ -27,10 +27,9 @@ use Rattle.solver_elimination.specs.declared.Solved.the-variants.{Values}
 use Rattle.solver.specs.declared.Params.{Params}
 use Rattle.solver.specs.declared.Sample.{Sample}
 use Rattle.solver.specs.declared.Sums.{Sums}
-use Rattle.solver.specs.declared.TwoAxisFit.{TwoAxisFit}
 use Rattle.solver.specs.declared.Started.{Started}
 use Rattle.solver.specs.Solver.{sampleAt, Normal, empty, added, grown, pass, cut, small, moved, stay, to, stepOf}
-use Rattle.solver.specs.Solver.{Final, updatesFrom, updates, sines, cosines, startFrom, finished}
+use Rattle.solver.specs.Solver.{Final, updatesFrom, updates, sines, cosines, startOf, startFrom}
 use Rattle.solver.specs.Buffers.{RingNear, TurnedTo, Sines, Prepared, sampleFrom, PassFilled, summed, noSums, packed, spread, Stopped}
 
 -- ---- the angles
@@ -206,9 +205,9 @@ stopped-at p l jtj ssr k f em es e =
       updates = ap (λ (x : Final). x .updates) e;
     }
 
-pub whole-stopped : (n : ℕ) (p : Params) (jtj : Matrix) (ssr : Float) (k : ℕ) (f : Final) (fit : TwoAxisFit) → Stopped p jtj ssr k f →
-    fit ≡ finished n p jtj ssr → _≡_ {A = Started} (record { fit = fit; updates = k }) (startFrom n f)
-whole-stopped n p jtj ssr k f fit s e = rw (← s .params, ← s .matrix, ← s .squares, ← s .updates, e)
+pub whole-stopped : (n : ℕ) (p : Params) (jtj : Matrix) (ssr : Float) (k : ℕ) (f : Final) (r : Started) → Stopped p jtj ssr k f →
+    r ≡ startOf n p jtj ssr k → r ≡ startFrom n f
+whole-stopped n p jtj ssr k f r s e = rw (← s .params, ← s .matrix, ← s .squares, ← s .updates, e)
 
 pub whole-prepared : (n : ℕ) (samples ringPhi sphi cphi : Row) (seed : Params) → Prepared ringPhi sphi cphi → length ringPhi ≡ n →
     startFrom n (updates n samples sphi cphi seed) ≡ startFrom n (updates n samples (sines n ringPhi) (cosines n ringPhi) seed)

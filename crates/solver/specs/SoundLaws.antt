@@ -1,5 +1,6 @@
 -- Every start's fit is sound, whatever went in: its axes and errors lie in their ranges and its amplitude is NaN or not below zero.
--- A start makes at most six updates. Assumes nothing.
+-- A start makes at most six updates. Its errors are those of its last pass's matrix. Assumes nothing.
+use mathlib.Core.Path.{_≡_, refl}
 use mathlib.Core.Bool.{Bool, true, false, cond, _||_}
 use Prim.Native.Nat.{ℕ, zero, suc, _+_, _≤_}
 use native.Mathlib.Omega.{arith}
@@ -19,7 +20,7 @@ use Rattle.solver_axes.specs.declared.Axes.{Axes}
 use Rattle.solver.specs.declared.Params.{Params}
 use Rattle.solver.specs.declared.TwoAxisFit.{TwoAxisFit}
 use Rattle.solver.specs.Solver.{pass, cut, small, moved, Step, stay, to, stepOf, after, Final, updatesFrom, updates}
-use Rattle.solver.specs.Solver.{degenerateFit, degenerate, assembled, finished, startFrom, sines, cosines, fitWithSeed}
+use Rattle.solver.specs.Solver.{degenerateFit, degenerate, assembled, finished, startFrom, refused, sines, cosines, fitWithSeed}
 
 -- ---- at most six updates
 after-most : (s : Step) (k m : ℕ) (a : Final) (f : Params → Final) → a .updates ≤ m → ((q : Params) → f q .updates ≤ m) → after s a f .updates ≤ m
@@ -45,7 +46,7 @@ start-most n samples ringPhi p centeredVar = go (degenerate (p .amp) centeredVar
     end : Final
     end = updates n samples (sines n ringPhi) (cosines n ringPhi) p
 
-    go : (b : Bool) → cond b (record { fit = degenerateFit centeredVar; updates = 0 }) (startFrom n end) .updates ≤ 6
+    go : (b : Bool) → cond b (refused centeredVar) (startFrom n end) .updates ≤ 6
     go true = omega arith
     go false = updates-most n samples (sines n ringPhi) (cosines n ringPhi) p
 
@@ -129,6 +130,17 @@ start-sound n samples ringPhi p centeredVar h = go (degenerate (p .amp) centered
     held : ParamsHeld (end .p)
     held = unfold updates in from-held n samples (sines n ringPhi) (cosines n ringPhi) 6 0 p h
 
-    go : (b : Bool) → Sound (cond b (record { fit = degenerateFit centeredVar; updates = 0 }) (startFrom n end) .fit)
+    go : (b : Bool) → Sound (cond b (refused centeredVar) (startFrom n end) .fit)
     go true = degenerate-sound centeredVar
     go false = finished-sound n (end .p) (end .last .m) (end .last .ssr) held
+
+-- ---- the two errors of a fit, as they are or exchanged with the axes
+pub record ErrorsOf (e : Errors) (f : TwoAxisFit) : Type 0 where
+  pub swapped : Bool
+  pub first : f .«fit_std_error_theta1» ≡ cond swapped (e .error2) (e .error1)
+  pub second : f .«fit_std_error_theta2» ≡ cond swapped (e .error1) (e .error2)
+
+pub finished-errors : (n : ℕ) (p : Params) (m : Matrix) (ssr : Float) → ErrorsOf (axisStdErrors m ssr n) (finished n p m ssr)
+unfolding finished assembled
+finished-errors n p m ssr =
+    record { swapped = canonicalizeTrackingSwap (p .theta1) (p .theta2) (p .amp) .swapped; first = refl; second = refl }

@@ -3,6 +3,7 @@ use elementary::SinCos;
 use solver_axes::Axes;
 use solver_elimination::Errors;
 use solver_elimination::Solved;
+use solver_elimination::Standing;
 ghost use mathlib.Core.Path.{_≡_};
 ghost use mathlib.Core.Bool.{true};
 ghost use Prim.Native.Nat.{_*_, _^_, _<_, _≤_};
@@ -35,9 +36,10 @@ pub struct TwoAxisFit {
     pub rms: f32,
 }
 
-// A start's fit, and how many updates it made.
+// A start's fit, the standing of its errors, and how many updates it made.
 pub struct Started {
     pub fit: TwoAxisFit,
+    pub standing: Standing,
     pub updates: usize,
 }
 
@@ -362,6 +364,19 @@ pub fn degenerate_fit(centered_var: f32) -> TwoAxisFit
     }
 }
 
+// A start that is degenerate: no update, and nothing is known of the errors.
+pub fn refused(centered_var: f32) -> Started
+    ensures { λ r. ⌜ r ≡ S.refused «centered_var» ⌝ }
+{
+    let fit = degenerate_fit(centered_var);
+    let standing = solver_elimination::unfounded();
+    Started {
+        fit,
+        standing,
+        updates: 0,
+    }
+}
+
 pub fn is_degenerate(amp: f32, centered_var: f32) -> bool
     ensures { λ r. ⌜ r ≡ S.degenerate amp «centered_var» ⌝ }
 {
@@ -392,14 +407,21 @@ fn assembled(a: Axes, e: Errors, rms: f32) -> TwoAxisFit
     }
 }
 
-fn finished(p: Params, jtj: &[[f32; 4]; 4], ssr: f32, n: usize) -> TwoAxisFit
+fn finished(p: Params, jtj: &[[f32; 4]; 4], ssr: f32, n: usize, updates: usize) -> Started
     requires { ⌜ n < 2 ^ 32 ⌝ }
-    ensures { λ r. ⌜ r ≡ S.finished n p (now (jtj .entry)) ssr ⌝ }
+    ensures { λ r. ⌜ r ≡ S.startOf n p (now (jtj .entry)) ssr updates ⌝ }
 {
     let e = solver_elimination::axis_std_errors(jtj, ssr, n);
+    let errors = e.errors;
+    let standing = e.standing;
     let rms = roots::sqrt(ssr / floats::count_f32(n));
     let a = solver_axes::canonicalize_tracking_swap(p.theta1, p.theta2, p.amp);
-    assembled(a, e, rms)
+    let fit = assembled(a, errors, rms);
+    Started {
+        fit,
+        standing,
+        updates,
+    }
 }
 
 // A start that is not degenerate, once the sines and cosines are there. `js` is lent: four places a
@@ -418,11 +440,7 @@ pub fn fit_prepared(
     let mut jtj = [[0.0f32; 4]; 4];
     let run = run_updates(samples, sphi, cphi, seed, js, &mut jtj);
     let s = run.s;
-    let fit = finished(run.p, &jtj, s.rr, samples.len());
-    Started {
-        fit,
-        updates: run.count,
-    }
+    finished(run.p, &jtj, s.rr, samples.len(), run.count)
 }
 
 // The buffers are lent: as long as the samples, `js` four times that, and of no meaning afterwards.
@@ -439,8 +457,7 @@ pub fn fit_with_seed(
     ensures { λ r. ⌜ r ≡ S.fitWithSeed (length (now (samples .entry))) (now (samples .entry)) (now («ring_phi» .entry)) seed «centered_var» ⌝ }
 {
     if is_degenerate(seed.amp, centered_var) {
-        let fit = degenerate_fit(centered_var);
-        return Started { fit, updates: 0 };
+        return refused(centered_var);
     }
     let n = ring_phi.len();
     prepare(ring_phi, &mut js[0..n], sphi, cphi);

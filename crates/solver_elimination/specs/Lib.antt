@@ -2,3 +2,5 @@ pub mod Solve
 pub mod SolveLaws
 pub mod Wide
 pub mod WideLaws
+pub mod PivotLaws
+pub mod LastEntryLaws

@@ -1,6 +1,6 @@
 -- Elimination of a 4 by 4 system, and the standard errors that two eliminations give: ring_fit/solver.rs. Definitions only.
 -- A matrix is the list of its rows.
-use mathlib.Core.Bool.{Bool, cond, not, _||_}
+use mathlib.Core.Bool.{Bool, false, cond, not, _&&_, _||_}
 use mathlib.Core.List.{List, [], _∷_, map, zipWith}
 use Prim.Native.Nat.{ℕ, _+_, _-_}
 use lib.IntN.{pos}
@@ -15,6 +15,8 @@ use Rattle.loops.specs.Loops.{iter, range}
 use Rattle.solver_elimination.specs.declared.Solved.{Solved}
 use Rattle.solver_elimination.specs.declared.Solved.the-variants.{Values, Failed}
 use Rattle.solver_elimination.specs.declared.Errors.{Errors}
+use Rattle.solver_elimination.specs.declared.Standing.{Standing}
+use Rattle.solver_elimination.specs.declared.Estimate.{Estimate}
 
 abbrev pub Matrix : Type 0
 Matrix = List Row
@@ -111,3 +113,24 @@ bothErrors v (Values a0 a1 a2 a3) (Values b0 b1 b2 b3) = record { error1 = axisE
 
 unfoldable pub axisStdErrors : Matrix → Float → ℕ → Errors
 axisStdErrors m ssr n = cond (leb n 4) unknown (bothErrors (ssr ⊘ ofInt binary32 (pos (n - 4))) (solve4x4 m unit2) (solve4x4 m unit3))
+
+-- ---- ours: whether those errors are known (docs/RULES.md, Known)
+-- nothing is known of a start that is refused, of too few samples and of an elimination that failed
+abbrev pub unfounded : Standing
+unfounded = record { known = false }
+
+-- the residual sum and the two entries on the inverse's diagonal are finite, before an entry below 0 is taken as 0 and an error is capped
+unfoldable pub standingBy : Float → Float → Float → Standing
+standingBy ssr c2 c3 = record { known = finite ssr && (finite c2 && finite c3) }
+
+unfoldable pub bothStanding : Float → Solved → Solved → Standing
+bothStanding ssr Failed t = unfounded
+bothStanding ssr (Values a0 a1 a2 a3) Failed = unfounded
+bothStanding ssr (Values a0 a1 a2 a3) (Values b0 b1 b2 b3) = standingBy ssr a2 b3
+
+unfoldable pub standing : Matrix → Float → ℕ → Standing
+standing m ssr n = cond (leb n 4) unfounded (bothStanding ssr (solve4x4 m unit2) (solve4x4 m unit3))
+
+-- the Rust's numbers, with their standing
+abbrev pub estimate : Matrix → Float → ℕ → Estimate
+estimate m ssr n = record { errors = axisStdErrors m ssr n; standing = standing m ssr n }

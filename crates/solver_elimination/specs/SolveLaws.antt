@@ -1,14 +1,17 @@
 -- A column with a usable pivot is one turn more, and one without ends the elimination whatever follows.
--- Errors lie from 0 to PI for every matrix. Assumes nothing.
+-- Errors lie from 0 to PI for every matrix, and they are known exactly if what is asked of them holds. Assumes nothing.
 use mathlib.Core.Path.{_≡_, refl}
-use mathlib.Core.Bool.{Bool, true, false, cond}
+use mathlib.Core.Bool.{Bool, true, false, cond, _&&_, false≢true}
 use Prim.Native.Nat.{ℕ, _+_, _-_, _<_}
 use native.Mathlib.Omega.{arith}
-use lib.Dec.{T, leb}
+use lib.Dec.{T, leb, nleb→lt}
+use lib.Ieee.Bits.{is-true}
+use lib.Ieee.Scale.{finite}
+use borrow.Author.Tests.{lt-leb}
 use lib.IntN.{pos}
 use lib.Ieee.{Float, nan, binary32, eq, le, ofInt}
 use lib.ListN.{length}
-use mathlib.Core.List.{zipWith}
+use mathlib.Core.List.{[], _∷_, zipWith}
 use Rattle.floats.specs.Ops.{_⊖_, _⊗_, _⊘_, nought, pi}
 use Rattle.floats.specs.Rows.{Row, at}
 use Rattle.loops.specs.TabLaws.{tab-self}
@@ -20,7 +23,7 @@ use Rattle.solver_elimination.specs.declared.Solved.{Solved}
 use Rattle.solver_elimination.specs.declared.Solved.the-variants.{Values, Failed}
 use Rattle.solver_elimination.specs.declared.Errors.{Errors}
 use Rattle.solver_elimination.specs.Solve.{Matrix, Elim, gone, going, column, stopped, columned, reduced, solve4x4}
-use Rattle.solver_elimination.specs.Solve.{axisError, unknown, bothErrors, axisStdErrors, unit2, unit3}
+use Rattle.solver_elimination.specs.Solve.{axisError, unknown, bothErrors, axisStdErrors, unit2, unit3, unfounded, bothStanding, standingBy, standing}
 
 pub reduced-by :
     (r p : Row) (f : Float) (n : ℕ) → length r ≡ n → length p ≡ n → eq f nought ≡ false →
@@ -63,3 +66,55 @@ errors-bounded m ssr n = go (leb n 4)
     go : (b : Bool) → Bounded (cond b unknown both)
     go true = let p = pi-between in record { low1 = p .0; high1 = p .1; low2 = p .0; high2 = p .1 }
     go false = both-bounded (ssr ⊘ ofInt binary32 (pos (n - 4))) (solve4x4 m unit2) (solve4x4 m unit3)
+
+-- ---- known
+-- an elimination that succeeded, and a finite value k of its solution
+pub record FiniteAt (k : ℕ) (s : Solved) : Type 0 where
+  pub solution : Row
+  pub solved : s ≡ Values (at solution 0) (at solution 1) (at solution 2) (at solution 3)
+  pub value : T (finite (at solution k))
+
+-- what is asked of errors that are known: more than four samples, a finite residual sum, and both eliminations with their entry on the diagonal
+pub record KnownErrors (m : Matrix) (ssr : Float) (n : ℕ) : Type 0 where
+  pub samples : 4 < n
+  pub sum : T (finite ssr)
+  pub first : FiniteAt 2 (solve4x4 m unit2)
+  pub second : FiniteAt 3 (solve4x4 m unit3)
+
+module _ (ssr : Float) where
+  both-known : (s t : Solved) → bothStanding ssr s t .known ≡ true → T (finite ssr) × FiniteAt 2 s × FiniteAt 3 t
+  unfolding bothStanding standingBy
+  both-known Failed t e = absurd (false≢true e)
+  both-known (Values a0 a1 a2 a3) Failed e = absurd (false≢true e)
+  both-known (Values a0 a1 a2 a3) (Values b0 b1 b2 b3) e =
+      let h = three (finite ssr) (finite a2) (finite b3) e in (
+        h .0,
+        record { solution = a0 ∷ a1 ∷ a2 ∷ a3 ∷ []; solved = refl; value = h .1 },
+        record { solution = b0 ∷ b1 ∷ b2 ∷ b3 ∷ []; solved = refl; value = h .2 },
+      )
+    where
+      three : (a b c : Bool) → (a && (b && c)) ≡ true → T a × T b × T c
+      three true true true e = (tt, tt, tt)
+      three true true false e = absurd (false≢true e)
+      three true false c e = absurd (false≢true e)
+      three false b c e = absurd (false≢true e)
+
+  known-both : (s t : Solved) → T (finite ssr) → FiniteAt 2 s → FiniteAt 3 t → bothStanding ssr s t .known ≡ true
+  unfolding bothStanding standingBy
+  known-both s t h u v = rw (u .solved, v .solved, is-true (finite ssr) h, is-true (finite (at (u .solution) 2)) (u .value), is-true (finite (at (v .solution) 3)) (v .value))
+
+-- Errors are known exactly if that holds.
+module _ (m : Matrix) (ssr : Float) (n : ℕ) where
+  pub known-only : standing m ssr n .known ≡ true → KnownErrors m ssr n
+  unfolding standing
+  known-only = go (leb n 4) refl
+    where
+      go : (b : Bool) → leb n 4 ≡ b → cond b unfounded (bothStanding ssr (solve4x4 m unit2) (solve4x4 m unit3)) .known ≡ true → KnownErrors m ssr n
+      go true p e = absurd (false≢true e)
+      go false p e =
+          let h = both-known ssr (solve4x4 m unit2) (solve4x4 m unit3) e in
+          record { samples = nleb→lt n 4 (rw p tt); sum = h .0; first = h .1; second = h .2 }
+
+  pub known-if : KnownErrors m ssr n → standing m ssr n .known ≡ true
+  unfolding standing
+  known-if k = rw (lt-leb n 4 (k .samples)) (known-both ssr (solve4x4 m unit2) (solve4x4 m unit3) (k .sum) (k .first) (k .second))

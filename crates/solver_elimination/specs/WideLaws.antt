@@ -16,10 +16,10 @@ use Rattle.solver_elimination.specs.declared.Solved.{Solved}
 use Rattle.solver_elimination.specs.declared.Solved.the-variants.{Values, Failed}
 use Rattle.solver_elimination.specs.Solve as S
 use Rattle.solver_elimination.specs.Solve.{Matrix, Elim, gone, going}
-use Rattle.solver_elimination.specs.Wide.{RowCarried, Carried, widenedRow, widened, rightSide, eliminated, failed, sides, firstSide, errorsBy}
+use Rattle.solver_elimination.specs.Wide.{RowCarried, Carried, widenedRow, widened, rightSide, eliminated, failed, sides, firstSide, bothEstimated, estimateBy}
 
 -- ---- entries: outside a row all is NaN, and what is made of a NaN is one
-at-scaled : (r : Row) (f : Float) (j : ℕ) → at (S.scaled r f) j ≡ at r j ⊗ f
+pub at-scaled : (r : Row) (f : Float) (j : ℕ) → at (S.scaled r f) j ≡ at r j ⊗ f
 unfolding mul
 at-scaled r f j = List·getD-map (λ v. v ⊗ f) r j nan
 
@@ -30,7 +30,7 @@ at-zip f (x ∷ r) [] j = unfold sub neg in sym (rw (mul-nan binary32 f) (add-na
 at-zip f (x ∷ r) (y ∷ p) zero = refl
 at-zip f (x ∷ r) (y ∷ p) (suc j) = at-zip f r p j
 
-at-reduced : (r p : Row) (f : Float) (j : ℕ) → at (S.reduced r p f) j ≡ cond (eq f nought) (at r j) (at r j ⊖ f ⊗ at p j)
+pub at-reduced : (r p : Row) (f : Float) (j : ℕ) → at (S.reduced r p f) j ≡ cond (eq f nought) (at r j) (at r j ⊖ f ⊗ at p j)
 unfolding S.reduced
 at-reduced r p f j = go (eq f nought)
   where
@@ -180,8 +180,8 @@ first-by a b c = go (S.solve4x4 a b) (S.solve4x4 a c) (fail-together a b c)
     go (Values a0 a1 a2 a3) Failed e = absurd (false≢true e)
     go (Values a0 a1 a2 a3) (Values b0 b1 b2 b3) e = refl
 
-pub errors-by : (v : Float) (s t : Solved) → S.bothErrors v s t ≡ errorsBy v (sides s t)
-unfolding S.bothErrors sides
-errors-by v Failed t = refl
-errors-by v (Values a0 a1 a2 a3) Failed = refl
-errors-by v (Values a0 a1 a2 a3) (Values b0 b1 b2 b3) = refl
+pub estimate-by : (ssr v : Float) (s t : Solved) → bothEstimated ssr v s t ≡ estimateBy ssr v (sides s t)
+unfolding S.bothErrors S.bothStanding sides
+estimate-by ssr v Failed t = refl
+estimate-by ssr v (Values a0 a1 a2 a3) Failed = refl
+estimate-by ssr v (Values a0 a1 a2 a3) (Values b0 b1 b2 b3) = refl

@@ -27,6 +27,18 @@ pub struct Errors {
     pub error2: f32,
 }
 
+// What is to be said of a fit's errors beside their numbers: whether they are known. Callers hand it on whole, so that what
+// is to be said besides needs a place here and none of its own in their records.
+pub struct Standing {
+    pub known: bool,
+}
+
+// Errors with their standing.
+pub struct Estimate {
+    pub errors: Errors,
+    pub standing: Standing,
+}
+
 fn widened_row(r: [f32; 4], b: f32, c: f32) -> [f32; 8]
     ensures { λ x. ⌜ x ≡ W.widenedRow r b c ⌝ }
 {
@@ -201,34 +213,53 @@ fn axis_error(v: f32, c: f32) -> f32
     floats::min(roots::sqrt(v * floats::max(c, 0.0)), floats::PI)
 }
 
-fn unknown() -> Errors
-    ensures { λ r. ⌜ r ≡ S.unknown ⌝ }
+pub fn unfounded() -> Standing
+    ensures { λ r. ⌜ r ≡ S.unfounded ⌝ }
 {
-    Errors {
+    Standing { known: false }
+}
+
+// No errors to be had: PI stands in their place.
+fn nothing() -> Estimate
+    ensures { λ r. ⌜ r ≡ W.nothing ⌝ }
+{
+    let errors = Errors {
         error1: floats::PI,
         error2: floats::PI,
-    }
+    };
+    let standing = unfounded();
+    Estimate { errors, standing }
+}
+
+// The residual sum and the two entries on the inverse's diagonal, as the elimination left them.
+fn standing_by(ssr: f32, c2: f32, c3: f32) -> Standing
+    ensures { λ r. ⌜ r ≡ S.standingBy ssr c2 c3 ⌝ }
+{
+    let known = floats::is_finite(ssr) & (floats::is_finite(c2) & floats::is_finite(c3));
+    Standing { known }
 }
 
 // Of the inverse the two columns that matter, by one elimination: a failure answers PI.
-fn both_errors(jtj: &[[f32; 4]; 4], v: f32) -> Errors
-    ensures { λ r. ⌜ r ≡ S.bothErrors v (S.solve4x4 (now (jtj .entry)) S.unit2) (S.solve4x4 (now (jtj .entry)) S.unit3) ⌝ }
+fn both_errors(jtj: &[[f32; 4]; 4], ssr: f32, v: f32) -> Estimate
+    ensures { λ r. ⌜ r ≡ W.bothEstimated ssr v (S.solve4x4 (now (jtj .entry)) S.unit2) (S.solve4x4 (now (jtj .entry)) S.unit3) ⌝ }
 {
     let sides = eliminate(jtj, 0.0, 0.0, 1.0, 0.0, 0.0, 0.0, 0.0, 1.0);
     let Sides::Both(_, _, c2, _, _, _, _, c3) = sides else {
-        return unknown();
+        return nothing();
     };
     let error1 = axis_error(v, c2);
     let error2 = axis_error(v, c3);
-    Errors { error1, error2 }
+    let errors = Errors { error1, error2 };
+    let standing = standing_by(ssr, c2, c3);
+    Estimate { errors, standing }
 }
 
-pub fn axis_std_errors(jtj: &[[f32; 4]; 4], ssr: f32, n: usize) -> Errors
+pub fn axis_std_errors(jtj: &[[f32; 4]; 4], ssr: f32, n: usize) -> Estimate
     requires { ⌜ n < 2 ^ 32 ⌝ }
-    ensures { λ r. ⌜ r ≡ S.axisStdErrors (now (jtj .entry)) ssr n ⌝ }
+    ensures { λ r. ⌜ r ≡ S.estimate (now (jtj .entry)) ssr n ⌝ }
 {
     if n <= 4 {
-        return unknown();
+        return nothing();
     }
-    both_errors(jtj, ssr / floats::count_f32(n - 4))
+    both_errors(jtj, ssr, ssr / floats::count_f32(n - 4))
 }

@@ -2,7 +2,8 @@
 use Rattle.checked.specs.CheckedLaws.{refused-place}
 use Rattle.search.specs.BillLaws.{missing-trials}
 use Rattle.checked.specs.Checked as C
-use mathlib.Core.Path.{sym, _∙_}
+use Rattle.checked.specs.declared.DiskAnswer.the-variants.{Fitted}
+use mathlib.Core.Path.{sym, ap, _∙_}
 use borrow.Author.Needs.{needs}
 use Rattle.checked.proofs.disk_fitted.Statement.{statement}
 use Rattle.checked.proofs.disk_fitted.Tie as tie
@@ -12,7 +13,7 @@ unfolding C.diskFitted C.diskMeasured
 returns c =
     let a = c .before .before .before .before .before .before .before .before .before .before .args in
     rw (← c .before .before .before .before .best-disk-fit .ensures, c .before .before .found .given .1)
-    (c .with-errors .ensures (a .val-energy) (a .grad-angles .now) (a .grad-weights .now))
+    (ap Fitted (c .with-errors .ensures (a .val-energy) (a .grad-angles .now) (a .grad-weights .now)))
 
 returns-2 : tie.Need-returns-2
 unfolding C.diskFitted C.diskMeasured

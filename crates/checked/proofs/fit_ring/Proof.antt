@@ -16,12 +16,12 @@ returns c = subst (P.RingRefusal 16 _ _) (c .before .number .given .1) (c .befor
 
 returns-2 : tie.Need-returns-2
 returns-2 c =
-    let b2 = c .before .before in
-    let looked = subst (P.RingRefusal 16 _ _) (b2 .enum-told .given .1) (b2 .before .before .ring-refusal .ensures) in
-    rw (c .ring-fitted .ensures, c .before .fit-ring .ensures, looked .0) (looked .2)
+    let b1 = c .before in
+    let looked = subst (P.RingRefusal 16 _ _) (b1 .enum-told .given .1) (b1 .before .before .ring-refusal .ensures) in
+    rw (c .fit-ring .ensures, looked .0) (looked .2)
 
 pub fit-ring-spec : {M : Type 1} → statement M
 fit-ring-spec =
     tie.close
     (tie.spec
-    (λ c κs. search needs) (λ c. search needs) (λ c. search needs) fit-ring-requires (λ c κs. search needs) returns returns-2)
+    (λ c κs. search needs) (λ c. search needs) (λ c. search needs) fit-ring-requires returns returns-2)

@@ -16,12 +16,12 @@ returns c = subst (P.RingRefusal 24 _ _) (c .before .number .given .1) (c .befor
 
 returns-2 : tie.Need-returns-2
 returns-2 c =
-    let b2 = c .before .before in
-    let looked = subst (P.RingRefusal 24 _ _) (b2 .enum-told .given .1) (b2 .before .before .ring-refusal .ensures) in
-    rw (c .ring-fitted .ensures, c .before .fit-ring24 .ensures, looked .0) (looked .2)
+    let b1 = c .before in
+    let looked = subst (P.RingRefusal 24 _ _) (b1 .enum-told .given .1) (b1 .before .before .ring-refusal .ensures) in
+    rw (c .fit-ring24 .ensures, looked .0) (looked .2)
 
 pub fit-ring24-spec : {M : Type 1} → statement M
 fit-ring24-spec =
     tie.close
     (tie.spec
-    (λ c κs. search needs) (λ c. search needs) (λ c. search needs) fit-ring24-requires (λ c κs. search needs) returns returns-2)
+    (λ c κs. search needs) (λ c. search needs) (λ c. search needs) fit-ring24-requires returns returns-2)

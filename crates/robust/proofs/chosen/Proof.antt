@@ -9,8 +9,8 @@ returns c = chosen-alone _ _ _ (c .before .enum-told .given .1) (c .alone .ensur
 
 returns-2 : tie.Need-returns-2
 returns-2 c =
-    let c4 = c .before .before .before .before in
-    chosen-two _ _ _ _ (c4 .s .given .1) (c .lower .ensures)
+    let l = c .before .before in
+    chosen-two _ _ _ _ (l .before .before .s .given .1) (l .lower .ensures)
 
 pub chosen-spec : {M : Type 1} → statement M
 chosen-spec =

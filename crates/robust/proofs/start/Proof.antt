@@ -6,8 +6,8 @@ use Rattle.robust.proofs.start.Tie as tie
 
 returns : tie.Need-returns
 returns c =
-    let degenerate = c .degenerate-fit .ensures in
-    (start-refused _ _ _ _ _ (c .before .before .is-degenerate .ensures) (c .before .if1 .taken) degenerate, refused-calm _ _ degenerate)
+    let refused = c .refused .ensures in
+    (start-refused _ _ _ _ _ (c .before .before .is-degenerate .ensures) (c .before .if1 .taken) refused, refused-calm _ _ refused)
 
 returns-2 : tie.Need-returns-2
 returns-2 c =

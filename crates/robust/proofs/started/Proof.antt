@@ -5,7 +5,7 @@ use Rattle.robust.proofs.started.Statement.{statement}
 use Rattle.robust.proofs.started.Tie as tie
 
 returns : tie.Need-returns
-returns c = start-refused _ _ _ _ _ (c .before .before .is-degenerate .ensures) (c .before .if1 .taken) (c .degenerate-fit .ensures)
+returns c = start-refused _ _ _ _ _ (c .before .before .is-degenerate .ensures) (c .before .if1 .taken) (c .refused .ensures)
 
 fit-prepared-requires : tie.Need-fit-prepared-requires
 fit-prepared-requires c κs =

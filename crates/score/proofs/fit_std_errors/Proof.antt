@@ -5,7 +5,7 @@ use Rattle.score.proofs.fit_std_errors.Statement.{statement}
 use Rattle.score.proofs.fit_std_errors.Tie as tie
 
 returns : tie.Need-returns
-unfolding S.fitStdErrors
+unfolding S.fitStdErrors S.fitStanding
 returns c =
     let c3 = c .before .before .before in
     let c4 = c3 .before in

@@ -8,7 +8,7 @@ use Rattle.solver.proofs.fit_with_seed.Tie as tie
 
 returns : tie.Need-returns
 unfolding fitWithSeed
-returns c = rw (← c .before .before .is-degenerate .ensures, c .before .if1 .taken, c .degenerate-fit .ensures)
+returns c = rw (← c .before .before .is-degenerate .ensures, c .before .if1 .taken) (c .refused .ensures)
 
 returns-2 : tie.Need-returns-2
 unfolding fitWithSeed

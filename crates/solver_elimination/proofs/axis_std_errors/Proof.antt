@@ -1,16 +1,16 @@
 -- Up to four samples answer PI, and more go to both eliminations. Assumes nothing.
 use borrow.Author.Tests.{le-leb, lt-leb}
-use Rattle.solver_elimination.specs.Solve.{axisStdErrors}
+use Rattle.solver_elimination.specs.Solve.{axisStdErrors, standing}
 use borrow.Author.Needs.{needs}
 use Rattle.solver_elimination.proofs.axis_std_errors.Statement.{statement}
 use Rattle.solver_elimination.proofs.axis_std_errors.Tie as tie
 
 returns : tie.Need-returns
-unfolding axisStdErrors
-returns c = rw (le-leb _ _ (c .before .if1 .taken)) (c .unknown .ensures)
+unfolding axisStdErrors standing
+returns c = rw (le-leb _ _ (c .before .if1 .taken)) (c .nothing .ensures)
 
 returns-2 : tie.Need-returns-2
-unfolding axisStdErrors
+unfolding axisStdErrors standing
 returns-2 c = rw (lt-leb _ _ (c .before .before .if1 .left), ← c .before .count-f32 .ensures) (c .both-errors .ensures)
 
 pub axis-std-errors-spec : {M : Type 1} → statement M

@@ -1,19 +1,25 @@
--- A failure answers PI, and two solutions answer both errors. Assumes nothing.
-use Rattle.solver_elimination.specs.WideLaws.{errors-by}
+-- A failure answers PI, and two solutions answer both errors, with what their entries say of them. Assumes nothing.
+use mathlib.Core.Path.{sym, ap, _∙_}
+use Rattle.solver_elimination.specs.Wide.{estimateBy}
+use Rattle.solver_elimination.specs.WideLaws.{estimate-by}
 use borrow.Author.Needs.{needs}
 use Rattle.solver_elimination.proofs.both_errors.Statement.{statement}
 use Rattle.solver_elimination.proofs.both_errors.Tie as tie
 
 returns : tie.Need-returns
-returns c = rw (errors-by, ← c .before .before .before .eliminate .ensures, c .before .enum-told .given .1) (c .unknown .ensures)
+returns c =
+    c .nothing .ensures ∙ ap (estimateBy _ _) (sym (c .before .enum-told .given .1) ∙ c .before .before .before .eliminate .ensures) ∙
+    sym (estimate-by _ _ _ _)
 
 returns-2 : tie.Need-returns-2
-returns-2 c = let e = c .before .before .before in
-    rw (errors-by, ← e .before .before .eliminate .ensures, e .sides .given .1, c .before .axis-error .ensures, c .axis-error2 .ensures)
+returns-2 c = let f = c .before .before in
+    let s = f .before .before in
+    rw (f .axis-error .ensures, c .before .axis-error2 .ensures, c .standing-by .ensures)
+    (ap (estimateBy _ _) (sym (s .sides .given .1) ∙ s .before .before .eliminate .ensures) ∙ sym (estimate-by _ _ _ _))
 
 pub both-errors-spec : {M : Type 1} → statement M
 both-errors-spec =
     tie.close
     (tie.spec
     (λ c κs. search needs) (λ c. search needs) (λ c. search needs) (λ c κs. search needs) returns
-    (λ c κs. search needs) (λ c κs. search needs) returns-2)
+    (λ c κs. search needs) (λ c κs. search needs) (λ c κs. search needs) returns-2)

@@ -1,0 +1,119 @@
+-- Rounding keeps the order and changes nothing at a held number, so a rounded result is no larger than a held number which the exact one does not
+-- pass. With powers of two for the bounds, those of products, quotients and differences follow from the operands'. Assumes nothing.
+use mathlib.Core.Path.{_≡_, sym, ap, _∙_, subst}
+use mathlib.Core.Logic.{inl, inr}
+use Prim.Native.Nat.{ℕ, suc, _+_, _-_, _*_, _^_, _≤_, _<_}
+use native.Mathlib.Nat.{le-trans, le-of-eq, lt-irrefl, lt-of-le-of-lt, lt-of-lt-of-le, one-mul, mul-comm, mul-assoc, mul-pos, mul-le-mul, mul-le-mul-left}
+use native.Mathlib.Nat.{mul-le-mul-right}
+use native.Mathlib.Omega.{arith}
+use mathlib.Core.Bool.{Bool, true, false, not, _&&_, Bool·beq, cond}
+use lib.Dec.{T, ltb, lit≤}
+use lib.Pow.{pow-add, pow-pos, pow-lt}
+use lib.Ieee.{Float, Format, binary32, binary64, prec, emax, low, unlike, round, sum, sub, mul, div}
+use lib.Ieee.Fits.{round-fits}
+use lib.Ieee.Order.{round-mono}
+use lib.Ieee.Scale.{overflow, finite}
+use Rattle.floats.specs.UnitLaws.{Val, sub-val}
+use Rattle.floats.specs.RoundingLaws.{Rep, round-R, R-exact, finite-of-val}
+use Rattle.floats.specs.RankLaws.{Sized, rank-is, le→rank, sized-no-nan}
+use Rattle.floats.specs.NarrowOrderLaws.{G, fraction-sized}
+use Rattle.floats.specs.ProductLaws.{mul-val, div-val}
+
+-- x is finite and at most n units in size
+pub record Within (f : Format) (x : Float) (n : ℕ) : Type 0 where
+  pub sign : Bool
+  pub count : ℕ
+  pub val : Val f x sign count
+  pub most : count ≤ n
+
+pub within-finite : (f : Format) (x : Float) (n : ℕ) → Within f x n → T (finite x)
+within-finite f x n w = finite-of-val f x (w .sign) (w .count) (w .val)
+
+pub rep-pow : (f : Format) (n : ℕ) → n < low f + suc (emax f) → Rep f (2 ^ n)
+rep-pow f n h = (1, n, few f, sym (one-mul (2 ^ n)), pow-lt h)
+  where
+    few : (f : Format) → 1 < 2 ^ prec f
+    few binary32 = lit≤ tt
+    few binary64 = lit≤ tt
+
+-- a / c rounded, where it is at most n units
+pub round-within : (f : Format) (s : Bool) (a c n : ℕ) → 0 < c → Rep f n → a * 2 ^ low f ≤ n * c → Within f (round f s a c) n
+round-within f s a c n C r h = pick (fraction-sized f s a c)
+  where
+    x : Float
+    x = round f false a c
+
+    y : Float
+    y = round f false n (2 ^ low f)
+
+    top : Sized f y false n
+    top =
+        let k = R-exact f n r in
+        inl (subst (Val f y false) k (round-R f false n (subst (λ (z : ℕ). z < overflow f) (sym k) (r .4))), r .4)
+
+    strip : (o p q : ℕ) → o + p ≤ o + q → p ≤ q
+    strip o p q l = omega arith
+
+    under : G f c a ≤ n
+    under =
+        let v = fraction-sized f false a c in
+        strip (overflow f) (G f c a) n
+        (le-trans (le-of-eq (sym (rank-is f x false (G f c a) v)))
+        (le-trans (le→rank f x y (round-fits f false a c) (round-fits f false n (2 ^ low f)) (sized-no-nan f x false (G f c a) v)
+        (sized-no-nan f y false n top) (round-mono f a c n (2 ^ low f) C (pow-pos (low f)) h))
+        (le-of-eq (rank-is f y false n top))))
+
+    pick : Sized f (round f s a c) s (G f c a) → Within f (round f s a c) n
+    pick (inl v) = record { sign = s; count = G f c a; val = v .0; most = under }
+    pick (inr v) = absurd (lt-irrefl (overflow f) (lt-of-le-of-lt (subst (λ (z : ℕ). z ≤ n) (v .1) under) (r .4)))
+
+-- ---- the operations
+module _ (f : Format) where
+  -- |x| at most 2 ^ a units and |y| at most 2 ^ b
+  pub mul-within :
+      (x y : Float) (a b n : ℕ) → Within f x (2 ^ a) → Within f y (2 ^ b) → a + b ≡ low f + n → n < low f + suc (emax f) → Within f (mul f x y) (2 ^ n)
+  mul-within x y a b n v w e h =
+      subst (λ (z : Float). Within f z (2 ^ n)) (sym (mul-val f x y (v .sign) (v .count) (w .sign) (w .count) (v .val) (w .val)))
+      (round-within f (unlike (v .sign) (w .sign)) (v .count * w .count) (2 ^ low f * 2 ^ low f) (2 ^ n) (mul-pos (pow-pos (low f)) (pow-pos (low f)))
+      (rep-pow f n h)
+      (le-trans (mul-le-mul-right (2 ^ low f) (mul-le-mul (v .most) (w .most)))
+      (le-of-eq (ap (λ (z : ℕ). z * 2 ^ low f) (sym (pow-add 2 a b) ∙ ap (λ (z : ℕ). 2 ^ z) e ∙ pow-add 2 (low f) n ∙ mul-comm (2 ^ low f) (2 ^ n)) ∙
+      mul-assoc (2 ^ n) (2 ^ low f) (2 ^ low f)))))
+
+  -- |x| at most 2 ^ a units, and |y| at least 2 ^ b
+  pub div-within :
+      (x y : Float) (a b n : ℕ) (t : Bool) (c : ℕ) → Within f x (2 ^ a) → Val f y t c → 2 ^ b ≤ c → a + low f ≡ n + b → n < low f + suc (emax f) →
+      Within f (div f x y) (2 ^ n)
+  div-within x y a b n t c v w m e h =
+      let C : 0 < c = lt-of-lt-of-le (pow-pos b) m in
+      subst (λ (z : Float). Within f z (2 ^ n)) (sym (div-val f x y (v .sign) (v .count) t c C (v .val) w))
+      (round-within f (unlike (v .sign) t) (v .count) c (2 ^ n) C (rep-pow f n h)
+      (le-trans (mul-le-mul-right (2 ^ low f) (v .most))
+      (le-trans (le-of-eq (sym (pow-add 2 a (low f)) ∙ ap (λ (z : ℕ). 2 ^ z) e ∙ pow-add 2 n b)) (mul-le-mul-left (2 ^ n) m))))
+
+  sum-within : (s : Bool) (a : ℕ) (t : Bool) (b n : ℕ) → Rep f n → a + b ≤ n → Within f (sum f s a t b (2 ^ low f)) n
+  unfolding sum
+  sum-within s a t b n r h = go (Bool·beq s t) (ltb a b)
+    where
+      each : (u : Bool) (k : ℕ) → k ≤ n → Within f (round f u k (2 ^ low f)) n
+      each u k g = round-within f u k (2 ^ low f) n (pow-pos (low f)) r (mul-le-mul-right (2 ^ low f) g)
+
+      less : (p q : ℕ) → p + q ≤ n → p - q ≤ n
+      less p q g = omega arith
+
+      more : (p q : ℕ) → p + q ≤ n → q - p ≤ n
+      more p q g = omega arith
+
+      go : (p q : Bool) →
+          Within f (cond p (round f s (a + b) (2 ^ low f)) (cond q (round f t (b - a) (2 ^ low f)) (round f (s && ltb b a) (a - b) (2 ^ low f)))) n
+      go true q = each s (a + b) h
+      go false true = each t (b - a) (more a b h)
+      go false false = each (s && ltb b a) (a - b) (less a b h)
+
+  pub sub-within : (x y : Float) (a b n : ℕ) → Within f x a → Within f y b → Rep f n → a + b ≤ n → Within f (sub f x y) n
+  sub-within x y a b n v w r h =
+      subst (λ (z : Float). Within f z n) (sym (sub-val f x y (v .sign) (v .count) (w .sign) (w .count) (v .val) (w .val)))
+      (sum-within (v .sign) (v .count) (not (w .sign)) (w .count) n r (both (v .count) (w .count) (v .most) (w .most)))
+    where
+      both : (p q : ℕ) → p ≤ a → q ≤ b → p + q ≤ n
+      both p q g k = omega arith

@@ -1,0 +1,40 @@
+-- The errors in an answer's words and their standing are those of one start, the answered one: of its last pass's matrix and sum, the errors in the
+-- order of the axes; or, where it is degenerate, PI and not known. For a choice between two starts takes the whole start. Assumes nothing.
+use mathlib.Core.Path.{_≡_, refl}
+use mathlib.Core.Bool.{Bool, true, false, cond}
+use Prim.Native.Nat.{ℕ}
+use lib.Ieee.{Float}
+use Rattle.floats.specs.Ops.{pi}
+use Rattle.floats.specs.Rows.{Row}
+use Rattle.solver_elimination.specs.Solve.{axisStdErrors, unfounded, standing}
+use Rattle.solver_elimination.specs.declared.Standing.{Standing}
+use Rattle.solver.specs.Solver.{Final, sines, cosines, updates, startFrom, degenerate, degenerateFit, refused, fitWithSeed}
+use Rattle.solver.specs.SoundLaws.{ErrorsOf, finished-errors}
+use Rattle.solver.specs.declared.Params.{Params}
+use Rattle.solver.specs.declared.TwoAxisFit.{TwoAxisFit}
+use Rattle.robust.specs.Robust.{Source, ofPass, ofMean, Start, start, meanOf, varianceOf, ring, fitRing}
+use Rattle.robust.specs.SoundLaws.{ring-each}
+
+abbrev pub StandsOn : ℕ → Source → TwoAxisFit → Standing → Type 0
+StandsOn n ofMean f s = (f .«fit_std_error_theta1» ≡ pi) × (f .«fit_std_error_theta2» ≡ pi) × (s ≡ unfounded)
+StandsOn n (ofPass last) f s = ErrorsOf (axisStdErrors (last .m) (last .ssr) n) f × (s ≡ standing (last .m) (last .ssr) n)
+
+start-stands : (n : ℕ) (samples ringPhi : Row) (seed : Params) (centeredVar : Float)
+    → let s = start n samples ringPhi seed centeredVar in StandsOn n (s .source) (s .fit) (s .standing)
+unfolding start fitWithSeed
+start-stands n samples ringPhi seed centeredVar = go (degenerate (seed .amp) centeredVar)
+  where
+    end : Final
+    end = updates n samples (sines n ringPhi) (cosines n ringPhi) seed
+
+    go : (b : Bool) → let s = cond b (refused centeredVar) (startFrom n end) in StandsOn n (cond b ofMean (ofPass (end .last))) (s .fit) (s .standing)
+    go true = unfold degenerateFit in (refl, refl, refl)
+    go false = (finished-errors n (end .p) (end .last .m) (end .last .ssr), refl)
+
+-- for every number of samples and all values
+pub ring-stands : (n : ℕ) (samples ringPhi : Row)
+    → let r = fitRing n samples ringPhi in StandsOn n (ring n samples ringPhi .answered .source) (r .fit) (r .standing)
+unfolding fitRing
+ring-stands n samples ringPhi =
+    ring-each (λ (s : Start). StandsOn n (s .source) (s .fit) (s .standing)) n samples ringPhi
+    (λ seed h. start-stands n samples ringPhi seed (varianceOf n samples (meanOf n samples)))
