@@ -79,3 +79,9 @@ pub fn best_disk_fit(disk: &Disk, base0: f32, base1: f32) -> (Option<Fit9>, Coun
     agree("best_disk_fit", expected.as_ref().map(|words| &words[..]), fit.as_ref().map(|words| &words[..]));
     (fit, counts)
 }
+
+pub fn fit_std_errors(disk: &Disk, fit: Fit9) -> ([f32; 2], Counts) {
+    let (errors, counts) = support::counted(|| counted::disk::score::fit_std_errors(disk, fit));
+    agree("fit_std_errors", Some(&plain::disk::score::fit_std_errors(disk, fit)), Some(&errors));
+    (errors, counts)
+}

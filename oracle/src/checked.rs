@@ -2,6 +2,7 @@
 //! here a second time from that page; the fits come from the Rust text.
 
 use crate::both;
+use crate::known::{self, Known};
 use crate::wire::{from_bits, is_hexadecimal, number, push_hex, to_bits, words};
 use shapes::{Disk, Fit6, Ring, PIXELS};
 use support::Counts;
@@ -25,7 +26,7 @@ pub struct Refusal {
 }
 
 pub enum Outcome {
-    Fit(Kind, Counts),
+    Fit(Kind, Counts, Known),
     Refused(Refusal, Counts),
 }
 
@@ -129,20 +130,16 @@ fn refused(refusal: Refusal, counts: Counts) -> Answered {
     Answered { line, outcome: Outcome::Refused(refusal, counts) }
 }
 
-/// docs/RULES.md, Frame lines: unknown if both errors equal PI.
-fn known(errors: [f32; 2]) -> u32 {
-    u32::from(errors != [std::f32::consts::PI; 2])
-}
-
 fn answer_ring(kind: Kind, (fit, counts): (Fit6, Counts)) -> Answered {
+    let known = known::of_ring(&counts, [fit[3], fit[4]]);
     let mut line = head(kind);
     for x in fit {
         push_hex(&mut line, to_bits(x), 8);
     }
-    for byte in [counts.starts, counts.updates[0], counts.updates[1], known([fit[3], fit[4]])] {
+    for byte in [counts.starts, counts.updates[0], counts.updates[1], u32::from(known.holds())] {
         push_hex(&mut line, byte, 2);
     }
-    Answered { line, outcome: Outcome::Fit(kind, counts) }
+    Answered { line, outcome: Outcome::Fit(kind, counts, known) }
 }
 
 fn answer_disk(disk: &Disk, bases: [f32; 2]) -> Answered {
@@ -150,12 +147,13 @@ fn answer_disk(disk: &Disk, bases: [f32; 2]) -> Answered {
     let Some(fit) = fit else {
         return refused(Refusal { kind: Some(Kind::Disk), number: 4, place: counts.trials }, counts);
     };
-    let errors = plain::disk::score::fit_std_errors(disk, fit);
+    let (errors, given) = both::fit_std_errors(disk, fit);
+    let known = known::of_given(&given.errors[0], errors);
     let mut line = head(Kind::Disk);
     for x in fit.into_iter().chain(errors) {
         push_hex(&mut line, to_bits(x), 8);
     }
     push_hex(&mut line, counts.trials, 4);
-    push_hex(&mut line, known(errors), 2);
-    Answered { line, outcome: Outcome::Fit(Kind::Disk, counts) }
+    push_hex(&mut line, u32::from(known.holds()), 2);
+    Answered { line, outcome: Outcome::Fit(Kind::Disk, counts, known) }
 }

@@ -42,8 +42,9 @@ impl Oracle {
     pub fn answer(&mut self, line: &[u8]) -> Vec<u8> {
         match self.lines {
             Lines::Functions => {
-                let (text, counts) = functions::answered(line);
+                let (text, counts, known) = functions::answered(line);
                 counts.iter().for_each(|counts| self.paths.elimination(counts));
+                known.iter().for_each(|known| self.paths.known("", known));
                 text
             }
             Lines::Frames if !self.served.frame(line) => checked::malformed(),

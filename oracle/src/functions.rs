@@ -1,6 +1,7 @@
 //! Function lines: one function of the Rust text for each number of docs/RULES.md, Function lines.
 
 use crate::both;
+use crate::known::{self, Known};
 use crate::wire::{words, Answer, Arguments};
 use plain::disk::{candidates, geometry, score, search};
 use plain::given::{Choice, Float, Ranked};
@@ -16,18 +17,18 @@ pub const NUMBERS: [u8; 53] = [
 ];
 
 /// Numbers that came later: lines are made for them only where they are named, so that a list of before stays as it was.
-pub const LATER: [u8; 1] = [65];
+pub const LATER: [u8; 2] = [46, 65];
 
 /// Numbers whose function takes a matrix.
-pub const ELIMINATIONS: [u8; 2] = [40, 41];
+pub const ELIMINATIONS: [u8; 3] = [40, 41, 46];
 
 pub fn answer(line: &[u8]) -> Vec<u8> {
     answered(line).0
 }
 
-/// With what the eliminations did, where the function is one, or two.
-pub fn answered(line: &[u8]) -> (Vec<u8>, Option<Counts>) {
-    answer_words(line).map_or((b"?".to_vec(), None), |answer| (answer.text(), answer.counts))
+/// With what the eliminations did, where the function is one, or two, and whether the errors are known, where it says so.
+pub fn answered(line: &[u8]) -> (Vec<u8>, Option<Counts>, Option<Known>) {
+    answer_words(line).map_or((b"?".to_vec(), None, None), |answer| (answer.text(), answer.counts, answer.known))
 }
 
 fn answer_words(line: &[u8]) -> Option<Answer> {
@@ -38,7 +39,7 @@ fn answer_words(line: &[u8]) -> Option<Answer> {
         10..=17 => numbers(number, a),
         20..=24 => five(number, a),
         30..=35 => lines(number, a),
-        40..=45 => solving(number, a),
+        40..=46 => solving(number, a),
         50..=54 => seeding(number, a),
         60..=65 => ring_fit(number, a),
         70..=77 => candidate_set(number, a),
@@ -117,11 +118,12 @@ fn solving(number: u8, a: &mut Arguments) -> Option<Answer> {
             let (solution, counts) = both::solve_4x4(&matrix, &right);
             Some(new().optional(solution, |answer, x| answer.floats(&x)).eliminated(counts))
         }
-        41 => {
+        41 | 46 => {
             let (matrix, ssr, n) = (a.matrix()?, a.float()?, a.count(PIXELS)?);
             a.end()?;
             let (errors, counts) = both::axis_std_errors(&matrix, ssr, n);
-            Some(new().floats(&errors).eliminated(counts))
+            let answer = new().floats(&errors).eliminated(counts);
+            Some(if number == 41 { answer } else { answer.known(known::of_given(&counts.errors[0], errors)) })
         }
         42 | 44 => {
             let x = a.float()?;

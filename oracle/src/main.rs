@@ -8,6 +8,7 @@ mod compare;
 mod corners;
 mod functions;
 mod generate;
+mod known;
 mod options;
 mod paths;
 mod wire;

@@ -1,6 +1,7 @@
 //! Which ways the frames of a list went: a comparison that reached only a few of them says little.
 
 use crate::checked::{Kind, Outcome};
+use crate::known::{Known, Why};
 use support::Counts;
 
 #[derive(Default)]
@@ -12,9 +13,18 @@ pub struct Paths {
 impl Paths {
     pub fn note(&mut self, outcome: &Outcome) {
         match outcome {
-            Outcome::Fit(Kind::Ring, counts) => self.ring("ring: ", counts),
-            Outcome::Fit(Kind::Disk, counts) => self.disk(counts),
-            Outcome::Fit(Kind::Ring24, counts) => self.ring("ring of 24: ", counts),
+            Outcome::Fit(Kind::Ring, counts, known) => {
+                self.ring("ring: ", counts);
+                self.known("ring: ", known);
+            }
+            Outcome::Fit(Kind::Disk, counts, known) => {
+                self.disk(counts);
+                self.known("disk: ", known);
+            }
+            Outcome::Fit(Kind::Ring24, counts, known) => {
+                self.ring("ring of 24: ", counts);
+                self.known("ring of 24: ", known);
+            }
             Outcome::Refused(refusal, counts) => {
                 if counts.searched {
                     self.disk(counts);
@@ -62,6 +72,27 @@ impl Paths {
         self.add("disk: ", "NaN edge score ranked", counts.nan_scores > 0);
         self.add("disk: ", "comparison reached theta2", counts.theta2 > 0);
         self.add("disk: ", "best moved in refinement", counts.moved > 0);
+    }
+
+    /// The byte of today and of the rule before it, by cause.
+    pub fn known(&mut self, what: &'static str, known: &Known) {
+        let changed = known.holds() != known.held();
+        for (name, why) in [
+            ("known", Why::Estimated),
+            ("not known, degenerate", Why::Degenerate),
+            ("not known, at most four samples", Why::FewSamples),
+            ("not known, elimination failed", Why::Failed),
+            ("not known, residual sum not finite", Why::Sum),
+        ] {
+            self.add(what, name, known.why == why && !changed);
+        }
+        self.add(what, "known, 00 before: both errors PI", known.why == Why::Estimated && changed);
+        self.add(what, "known, an error of 0", known.why == Why::Estimated && known.errors.contains(&0.0));
+        self.add(what, "not known, first entry infinite", matches!(known.why, Why::FirstEntry(x) if !x.is_nan()) && !changed);
+        self.add(what, "not known, 01 before: first entry infinite", matches!(known.why, Why::FirstEntry(x) if !x.is_nan()) && changed);
+        self.add(what, "not known, first entry NaN", matches!(known.why, Why::FirstEntry(x) if x.is_nan()) && !changed);
+        self.add(what, "not known, 01 before: first entry NaN", matches!(known.why, Why::FirstEntry(x) if x.is_nan()) && changed);
+        self.add(what, "not known, last entry not finite", matches!(known.why, Why::SecondEntry(_)));
     }
 
     /// Of one elimination, or of two of one matrix.

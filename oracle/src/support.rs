@@ -16,6 +16,14 @@ from_std! {
     oracle_sqrt sqrt(), oracle_floor floor(), oracle_ceil ceil(), oracle_rem_euclid rem_euclid(divisor),
 }
 
+/// What axis_std_errors was given.
+#[derive(Clone, Copy, Debug, PartialEq)]
+pub struct Given {
+    pub jtj: [[f32; 4]; 4],
+    pub ssr: f32,
+    pub n: usize,
+}
+
 /// What one call of the `counted` copy did.
 #[derive(Clone, Copy, Default, Debug, PartialEq)]
 pub struct Counts {
@@ -45,6 +53,8 @@ pub struct Counts {
     pub stopped: [[u32; 4]; 2],
     /// The events of eliminations in their order, as one number.
     pub way: u64,
+    /// Of the first and the second start; a disk has the first place.
+    pub errors: [Option<Given>; 2],
 }
 
 thread_local! {
@@ -61,6 +71,15 @@ pub fn counted<T>(work: impl FnOnce() -> T) -> (T, Counts) {
 #[no_mangle]
 pub extern "C" fn oracle_event(event: u32) {
     COUNTS.with(|counts| note(&mut counts.borrow_mut(), event));
+}
+
+#[no_mangle]
+pub extern "C" fn oracle_errors(jtj: &[[f32; 4]; 4], ssr: f32, n: usize) {
+    COUNTS.with(|counts| {
+        let mut counts = counts.borrow_mut();
+        let start = (counts.starts as usize).saturating_sub(1);
+        counts.errors[start] = Some(Given { jtj: *jtj, ssr, n });
+    });
 }
 
 fn note(counts: &mut Counts, event: u32) {

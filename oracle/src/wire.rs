@@ -1,5 +1,6 @@
 //! Hexadecimal words: reading the arguments of a line, writing those of an answer.
 
+use crate::known::Known;
 use shapes::{Disk, Fit9, Pair, Pool, Ring, Scored, Set, ANGLES, PAIRS, PIXELS};
 use support::Counts;
 
@@ -172,17 +173,23 @@ impl Arguments {
     }
 }
 
-/// The words of an answer, and of an elimination what it did.
+/// The words of an answer, of an elimination what it did, and of errors that say so whether they are known.
 #[derive(Default)]
 pub struct Answer {
     words: Vec<u32>,
     pub counts: Option<Counts>,
+    pub known: Option<Known>,
 }
 
 impl Answer {
     pub fn eliminated(mut self, counts: Counts) -> Self {
         self.counts = Some(counts);
         self
+    }
+
+    pub fn known(mut self, known: Known) -> Self {
+        self.known = Some(known);
+        self.bool(known.holds())
     }
 
     pub fn number(mut self, number: usize) -> Self {

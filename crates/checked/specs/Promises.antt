@@ -2,7 +2,7 @@
 -- and counts keep to. `checkedRing` and `checkedDisk` are the answers' definitions: the contracts of `checked::fit_ring` and `checked::fit_disk` say
 -- that the code's answers equal them. A promise speaks of the paper's number, place, values and counts of an answer (Checked.antt). Assumes nothing.
 use mathlib.Core.Path.{_≡_, refl, sym, ap, subst, _∙_}
-use mathlib.Core.Bool.{Bool, true, false, cond, not, _&&_, _||_, true≢false}
+use mathlib.Core.Bool.{Bool, true, false, cond, not, _&&_, _||_, true≢false, false≢true}
 use mathlib.Core.List.{List}
 use Prim.Native.Nat.{ℕ, _+_, _*_, _≤_, _<_, min}
 use native.Mathlib.Omega.{arith}
@@ -11,12 +11,17 @@ use lib.Dec.{T, eqb, ltb, eqb→eq}
 use lib.Ieee.{Float, nan, lt, le, eq, isNan}
 use lib.Ieee.Scale.{finite}
 use Rattle.floats.specs.Ops.{nought, pi, tau}
-use Rattle.robust.specs.Robust.{ofPass, ring, fitRing, ringSum}
+use Rattle.solver_elimination.specs.Solve.{axisStdErrors}
+use Rattle.solver_elimination.specs.SolveLaws.{KnownErrors, known-only, known-if}
+use Rattle.solver_elimination.specs.declared.Standing.{Standing}
+use Rattle.solver.specs.Solver.{Normal}
+use Rattle.robust.specs.Robust.{Source, ofPass, ofMean, ring, fitRing, ringSum}
+use Rattle.robust.specs.KnownLaws.{StandsOn, ring-stands}
 use Rattle.robust.specs.SoundLaws.{SoundRing, ring-sound}
 use Rattle.robust.specs.Residual.{half, Share}
 use Rattle.robust.specs.ResidualLaws.{ring-tiny, share-16, share-24}
 use Rattle.robust.specs.declared.RingFit.{RingFit}
-use Rattle.score.specs.Score.{fitStdErrors, widthsPx}
+use Rattle.score.specs.Score.{fitStdErrors, errorMatrix, errorSum, fitStanding, widthsPx}
 use Rattle.score.specs.ScoreLaws.{SoundFit, errors-sound}
 use Rattle.score.specs.declared.Fit.{Fit}
 use Rattle.data.specs.Data.{DiskData, maxTanhPixels}
@@ -38,6 +43,13 @@ use Rattle.checked.specs.Checked.{firstWild, ringInputs, checkedRing, ri
 use Rattle.checked.specs.Checked.{diskPlace, diskValues, diskCounts}
 use Rattle.checked.specs.CheckedLaws.{IsFirstWild, wild-first, clean-finite}
 use Rattle.floats.specs.FiniteLaws.{of-true}
+
+is-one : (b : Bool) → C.flag b ≡ 1 → b ≡ true
+is-one true e = refl
+is-one false e = absurd (none e)
+  where
+    none : _≡_ {A = ℕ} 0 1 → ⊥
+    none e = omega arith
 
 -- every value of a list is finite
 abbrev pub AllFinite : List Float → Type 0
@@ -115,6 +127,17 @@ module _ (n : ℕ) (samples angles : List Float) where
   abbrev pub SumTiny : Type 0
   SumTiny = let sum = ringSum n samples angles in T (not (isNan sum)) × T (le nought sum) × T (le sum (half n))
 
+  -- what the answered start was made of: the sums of its last pass, or, where it was degenerate, the mean
+  abbrev source : Source
+  source = ring n samples angles .answered .source
+
+  -- what is asked of a ring whose errors are known: the answered start was not degenerate, there are more than four samples, both eliminations of its
+  -- last pass's matrix succeed, and the residual sum and the two entries on the diagonal are finite
+  pub record RingKnown : Type 0 where
+    pub last : Normal
+    pub fitted : source ≡ ofPass last
+    pub errors : KnownErrors (last .m) (last .ssr) n
+
   -- what number 0 means: 2 n finite values, and the fit of the definition with its own counts, value by value
   pub record RingFitted : Type 0 where
     pub sized : length samples ≡ n
@@ -175,6 +198,31 @@ module _ (n : ℕ) (samples angles : List Float) where
     -- both errors from 0 to PI
     pub ring-errors : T (le nought (value 3)) × T (le (value 3) pi) × T (le nought (value 4)) × T (le (value 4) pi)
     ring-errors = let s = sound .fit in rw values-are (s .low1, s .high1, s .low2, s .high2)
+
+    -- known is 1 exactly if that holds
+    pub ring-known : (counted 3 ≡ 1 → RingKnown) × (RingKnown → counted 3 ≡ 1)
+    ring-known = rw counts-are (λ e. only source refl (ring-stands n samples angles) (is-one _ e), λ k. ap C.flag (if k))
+      where
+        only : (s : Source) → source ≡ s → StandsOn n s (theFit .fit) (theFit .standing) → theFit .standing .known ≡ true → RingKnown
+        only ofMean p w e = absurd (false≢true (sym (ap (λ (x : Standing). x .known) (w .2)) ∙ e))
+        only (ofPass last) p w e =
+            record { last = last; fitted = p; errors = known-only (last .m) (last .ssr) n (sym (ap (λ (x : Standing). x .known) (w .1)) ∙ e) }
+
+        if : RingKnown → theFit .standing .known ≡ true
+        if k =
+            let w = subst (λ (s : Source). StandsOn n s (theFit .fit) (theFit .standing)) (k .fitted) (ring-stands n samples angles) in
+            ap (λ (x : Standing). x .known) (w .1) ∙ known-if (k .last .m) (k .last .ssr) n (k .errors)
+
+    -- The error words do not depend on it: they are the Rust's errors of that matrix and that sum, in the order of the axes, and of a degenerate start PI.
+    pub ring-error-words :
+        (source ≡ ofMean → (value 3 ≡ pi) × (value 4 ≡ pi)) ×
+        ((last : Normal) → source ≡ ofPass last → let e = axisStdErrors (last .m) (last .ssr) n in
+        (w : Bool) × (value 3 ≡ cond w (e .error2) (e .error1)) × (value 4 ≡ cond w (e .error1) (e .error2)))
+    ring-error-words =
+        rw values-are (λ p. let w = of ofMean p in (w .0, w .1), λ last p. let o = of (ofPass last) p .0 in (o .swapped, o .first, o .second))
+      where
+        of : (s : Source) → source ≡ s → StandsOn n s (theFit .fit) (theFit .standing)
+        of s p = subst (λ (x : Source). StandsOn n x (theFit .fit) (theFit .standing)) p (ring-stands n samples angles)
 
     -- the amplitude is NaN or not below zero
     pub ring-amplitude : T (isNan (value 0) || le nought (value 0))
@@ -381,6 +429,18 @@ module _ (D : DiskData) (base0 base1 : Float) where
     disk-errors =
         let b = errors-sound D (it .fit) in
         rw disk-values-are (b .low1, b .high1, b .low2, b .high2)
+
+    -- known is 1 exactly if there are more than four pixels, both eliminations succeed, and the residual sum, which is narrowed from f64, and the two
+    -- entries on the diagonal are finite: a disk has no start that could be degenerate
+    pub disk-known :
+        (disk-counted 1 ≡ 1 → KnownErrors (errorMatrix D (it .fit)) (errorSum D (it .fit)) (D .n)) ×
+        (KnownErrors (errorMatrix D (it .fit)) (errorSum D (it .fit)) (D .n) → disk-counted 1 ≡ 1)
+    unfolding fitStanding
+    disk-known = rw disk-counts-are (λ e. known-only _ _ _ (is-one _ e), λ k. ap C.flag (known-if _ _ _ k))
+
+    -- the error words are the Rust's, known or not
+    pub disk-error-words : (disk-value 9 ≡ fitStdErrors D (it .fit) .error1) × (disk-value 10 ≡ fitStdErrors D (it .fit) .error2)
+    disk-error-words = rw disk-values-are (refl, refl)
 
     -- the amplitude is NaN or not below zero
     pub disk-amplitude : T (isNan (disk-value 3) || le nought (disk-value 3))

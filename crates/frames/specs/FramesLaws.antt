@@ -11,13 +11,13 @@ use Rattle.robust.specs.declared.RingFit.{RingFit}
 use Rattle.checked.specs.declared.Measured.{Measured}
 use Rattle.frames.specs.Frames.{ringWords, ringText, diskWords, diskText, refusalText}
 
-pub ring-length : (kind : ℕ) (r : RingFit) (k : Bool) → 60 ≡ length (ringText kind r k)
+pub ring-length : (kind : ℕ) (r : RingFit) → 60 ≡ length (ringText kind r)
 unfolding ringText countText byteText
-ring-length kind r k = simp length-append (omega (arith, words-length (ringWords r k) 7))
+ring-length kind r = simp length-append (omega (arith, words-length (ringWords r) 7))
 
-pub disk-length : (m : Measured) (k : Bool) → 98 ≡ length (diskText m k)
+pub disk-length : (m : Measured) → 98 ≡ length (diskText m)
 unfolding diskText countText byteText
-disk-length m k = simp length-append (omega (arith, words-length (diskWords m) 11))
+disk-length m = simp length-append (omega (arith, words-length (diskWords m) 11))
 
 pub refusal-length : (kind number place : ℕ) → 8 ≡ length (refusalText kind number place)
 unfolding refusalText countText byteText

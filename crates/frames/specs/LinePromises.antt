@@ -73,23 +73,23 @@ module _ (line : List ℕ) where
 
   -- the counts of an answer are below 256, and its trials below 65536
   ring-text :
-      (kind : ℕ) (r : RingFit) (k : Bool) → ringAt kind ≡ Rings.Fitted r k → ringNumber (ringAt kind) ≡ 0 →
-      ringText (answerType kind) r k ≡ ringLine kind
+      (kind : ℕ) (r : RingFit) → ringAt kind ≡ Rings.Fitted r → ringNumber (ringAt kind) ≡ 0 → ringText (answerType kind) r ≡ ringLine kind
   unfolding ringText ringValues ringCounts
-  ring-text kind r k e z =
+  ring-text kind r e z =
       let n = samplesOf kind in
-      let c : ringCounts (ringAt kind) ≡ C.fitCounts r k = rw e in
+      let c : ringCounts (ringAt kind) ≡ C.fitCounts r = rw e in
       let b = rw c at (ring-bill n (valuesOf line 2 n) (valuesOf line (2 + 8 * n) n) z) in
       let starts = byte (r .starts) (omega (arith, b .1)) in
       let first = byte (r .first) (omega (arith, b .2)) in
       let second = byte (r .second) (omega (arith, b .3)) in
-      rw (e, starts, first, second, byte (C.flag k) (flagged k))
+      let known = byte (C.flag (r .standing .known)) (flagged (r .standing .known)) in
+      rw (e, starts, first, second, known)
 
   disk-text :
-      (n : ℕ) (m : Measured) (k : Bool) → diskAt n ≡ Disks.Fitted m k → diskNumber (diskAt n) ≡ 0 → diskText m k ≡ diskLine n
+      (n : ℕ) (m : Measured) → diskAt n ≡ Disks.Fitted m → diskNumber (diskAt n) ≡ 0 → diskText m ≡ diskLine n
   unfolding diskText diskValues diskCounts
-  disk-text n m k e z =
-      let c : diskCounts (diskAt n) ≡ C.measuredCounts m k = rw e in
+  disk-text n m e z =
+      let c : diskCounts (diskAt n) ≡ C.measuredCounts m = rw e in
       let b = rw c at (disk-trials (diskOfLine line n) (valueOf line 14) (valueOf line 22) z) in
       let trials : m .trials % 65536 ≡ m .trials = omega (arith, b .1) in
       rw (e, trials)
@@ -102,24 +102,24 @@ module _ (line : List ℕ) where
   at-ring kind = let n = samplesOf kind in ring-cases n (valuesOf line 2 n) (valuesOf line (2 + 8 * n) n)
 
   ring-line : (kind : ℕ) → shapeOf line ≡ Shapes.Ring kind → AtRing kind → LineCase (ringAnswered (answerType kind) (ringAt kind))
-  unfolding ringNumber ringPlace C.ringFitted
+  unfolding ringNumber ringPlace
   ring-line kind s (wrong-length l e) = rw e (ring-refused kind s (rw e (omega arith)) (rw e refl) (rw e refl))
   ring-line kind s (wrong-value p b f e) = rw e (ring-refused kind s (rw e (omega arith)) (rw e refl) (rw e refl))
   ring-line kind s (answered n t f e) =
       let z : ringNumber (ringAt kind) ≡ 0 = rw e refl in
-      rw e (ring-fit kind s z refl (ring-text kind _ _ e z))
+      rw e (ring-fit kind s z refl (ring-text kind _ e z))
 
   disk-line :
       (n : ℕ) → shapeOf line ≡ Shapes.Disk n → DiskCase (diskOfLine line n) (valueOf line 14) (valueOf line 22) (diskAt n) →
       LineCase (diskAnswered (diskAt n))
-  unfolding diskNumber diskPlace C.measuredOf
+  unfolding diskNumber diskPlace
   disk-line n s (wrong-count x e) = rw e (disk-refused n s (rw e (omega arith)) (rw e refl) (rw e refl))
   disk-line n s (wrong-lengths x y e) = rw e (disk-refused n s (rw e (omega arith)) (rw e refl) (rw e refl))
   disk-line n s (wrong-disk-value p b c f e) = rw e (disk-refused n s (rw e (omega arith)) (rw e refl) (rw e refl))
   disk-line n s (no-fit u l c g e) = rw e (disk-refused n s (rw e (omega arith)) (rw e refl) (rw e refl))
   disk-line n s (disk-answered f u l c g e) =
       let z : diskNumber (diskAt n) ≡ 0 = rw e refl in
-      rw e (disk-fit n s z refl (disk-text n _ _ e z))
+      rw e (disk-fit n s z refl (disk-text n _ e z))
 
   pub line-cases : LineCase (answerOf line)
   unfolding answerOf
@@ -133,7 +133,7 @@ module _ (line : List ℕ) where
       go (Shapes.Malformed f) e = malformed-line f e refl refl
 
   ring-most : (kind : ℕ) → AtRing kind → ringNumber (ringAt kind) ≤ 3
-  unfolding ringNumber C.ringFitted
+  unfolding ringNumber
   ring-most kind (wrong-length l e) = rw e (omega arith)
   ring-most kind (wrong-value p b f e) = rw e (omega arith)
   ring-most kind (answered n t f e) = rw e (omega arith)

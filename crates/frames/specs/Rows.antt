@@ -14,15 +14,15 @@ use Rattle.solver_axes.specs.Canonical.{wrapToTau, arc, placed, axesSettled, ca
 use Rattle.solver_axes.specs.declared.Axes.{Axes}
 use Rattle.solver_elimination.specs.Solve.{Matrix, augmented, larger, pivotRow, unusable, reduced, cleared, clear}
 use Rattle.floats.specs.Rows.{Row}
-use Rattle.solver_elimination.specs.Solve.{topRow, columned, stopped, solve4x4, axisError, bothErrors, axisStdErrors}
+use Rattle.solver_elimination.specs.Solve.{topRow, columned, stopped, solve4x4, axisError, bothErrors, axisStdErrors, standingBy, bothStanding, standing, estimate}
 use Rattle.solver_elimination.specs.declared.Solved.{Solved}
 use Rattle.solver_elimination.specs.declared.Solved.the-variants.{Values, Failed}
-use Rattle.solver_elimination.specs.declared.Errors.{Errors}
+use Rattle.solver_elimination.specs.declared.Estimate.{Estimate}
 use Rattle.solver.specs.Solver.{degenerateFit, degenerate, fitWithSeed}
 use Rattle.seed.specs.Seed.{wavedBy, waves, harmonic, secondHarmonic}
 use Rattle.robust_grid.specs.Grid.{gridAngle}
 use Rattle.robust.specs.Robust.{total, deviations, fitIsSuspicious, start, ring, fitRing}
-use Rattle.checked.specs.Checked.{wildFrom, firstWild, errorsKnown, ringFitted, ringLooked, checkedRing}
+use Rattle.checked.specs.Checked.{wildFrom, firstWild, ringLooked, checkedRing}
 use Rattle.candidates.specs.Candidates.{combineEdgePair}
 use Rattle.hex.specs.Hex.{isHex, allHex, byteOf, wordOf, valuesOf, byteText, countText, wordText, wordsText, codes, bytes}
 use Rattle.shapes.specs.Shapes.{shapeOf, typedShape, ringShape, diskShape, countedShape}
@@ -41,8 +41,8 @@ abbrev solvedBits : Solved → List ℕ
 solvedBits Failed = []
 solvedBits (Values a b c d) = bits a ∷ bits b ∷ bits c ∷ bits d ∷ []
 
-abbrev errorBits : Errors → List ℕ
-errorBits e = bits (e .error1) ∷ bits (e .error2) ∷ []
+abbrev estimateBits : Estimate → List ℕ
+estimateBits e = bits (e .errors .error1) ∷ bits (e .errors .error2) ∷ flag (e .standing .known) ∷ []
 
 abbrev row : List ℕ → Row
 row = map (ofBits binary32)
@@ -71,8 +71,8 @@ pub rows-to-prove : (
     ∷ (bits (remEuclid binary32 (lit 0xb089_705f) pi) ∷ [])
     ∷ solvedBits (solve4x4 (diagonal 0) (row (replicate 4 0x3f80_0000)))
     ∷ solvedBits (solve4x4 (diagonal 0x1e3c_e508) (row (replicate 4 0)))
-    ∷ (errorBits (axisStdErrors (diagonal 0x3f80_0000) one 4) ++ errorBits (axisStdErrors (diagonal 0x3f80_0000) one 5))
-    ∷ errorBits (axisStdErrors spoilt one 5)
+    ∷ (estimateBits (estimate (diagonal 0x3f80_0000) one 4) ++ estimateBits (estimate (diagonal 0x3f80_0000) one 5))
+    ∷ estimateBits (estimate spoilt one 5)
     ∷ (bits (degenerateFit nan .rms) ∷ [])
     ∷ (bin pi ∷ bin (lit 0xbf80_0000) ∷ bin nan ∷ bin (inf false) ∷ [])
     ∷ (flag (validPair nought nought) ∷ flag (validPair nought halfPi) ∷ flag (validPair nought quarterPi) ∷ [])
@@ -88,8 +88,8 @@ pub rows-to-prove : (
     ∷ (0x4049_0fdb ∷ [])
     ∷ []
     ∷ replicate 4 0
-    ∷ (0x4049_0fdb ∷ 0x4049_0fdb ∷ 0x3f80_0000 ∷ 0x3f80_0000 ∷ [])
-    ∷ (0 ∷ 0x3f80_0000 ∷ [])
+    ∷ (0x4049_0fdb ∷ 0x4049_0fdb ∷ 0 ∷ 0x3f80_0000 ∷ 0x3f80_0000 ∷ 1 ∷ [])
+    ∷ (0 ∷ 0x3f80_0000 ∷ 0 ∷ [])
     ∷ (0 ∷ [])
     ∷ (0 ∷ 0 ∷ 0 ∷ 15 ∷ [])
     ∷ (0 ∷ 0 ∷ 1 ∷ [])
@@ -100,8 +100,8 @@ pub rows-to-prove : (
     )
 unfolding combineEdgePair canonicalizeTrackingSwap axesSettled placed wrapToTau arc remEuclid validPair lineSeparation lineDelta signedLineDelta abs
     negative before max min sqrt rootUnits wholeRoot degenerateFit iter range solve4x4 augmented larger pivotRow unusable reduced cleared clear topRow
-    columned stopped axisError bothErrors axisStdErrors floor bin tab whole sinRest cosRest quadrant sinCosNear turn sinCos degenerate fitWithSeed
-    wavedBy waves harmonic secondHarmonic total deviations fitIsSuspicious fitRing wildFrom firstWild errorsKnown ringFitted checkedRing isHex allHex
+    columned stopped axisError bothErrors axisStdErrors standingBy bothStanding standing floor bin tab whole sinRest cosRest quadrant sinCosNear turn sinCos degenerate fitWithSeed
+    wavedBy waves harmonic secondHarmonic total deviations fitIsSuspicious fitRing wildFrom firstWild checkedRing isHex allHex
     byteOf wordOf valuesOf byteText countText wordText wordsText answerOf shapeOf typedShape ringShape ringText toUnsigned ofBits toBits ofInt add sub
     mul div rem neg lt le eq isNan round size toRadians ringLooked bytes codes zipWith
     start ring

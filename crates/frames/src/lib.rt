@@ -264,8 +264,8 @@ fn text_len(a: Answer) -> usize
     ensures { λ r. ⌜ (r ≤ 98) × (r ≡ length (F.textOf a)) ⌝ }
 {
     match a {
-        Answer::Ring(_, _, _) => 60,
-        Answer::Sector(_, _) => 98,
+        Answer::Ring(_, _) => 60,
+        Answer::Sector(_) => 98,
         Answer::Refused(_, _, _) => 8,
     }
 }

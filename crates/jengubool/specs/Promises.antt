@@ -10,10 +10,10 @@ use lib.ListN.{length}
 use lib.Dec.{ltb}
 use lib.Ieee.{Float}
 use Rattle.data.specs.Data.{DiskData}
-use Rattle.checked.specs.Checked.{checkedRing, checkedDisk, ringFitted, errorsKnown, measuredOf, ringNumber, ringPlace, ringValues, ringCounts, diskNumber}
+use Rattle.checked.specs.Checked.{checkedRing, checkedDisk, ringNumber, ringPlace, ringValues, ringCounts, diskNumber}
 use Rattle.checked.specs.Checked.{diskPlace, diskValues, diskCounts, flag}
 use Rattle.robust.specs.Robust.{fitRing}
-use Rattle.score.specs.Score.{fitStdErrors}
+use Rattle.score.specs.Score.{fitStanding}
 use Rattle.checked.specs.Promises.{answered-is-the-fit, answered-values, ring-bill, disk-answered-is-the-fit, disk-answered-values, disk-trials}
 use Rattle.checked.specs.declared.DiskAnswer.{DiskAnswer}
 use Rattle.checked.specs.declared.DiskAnswer.the-variants as Disks
@@ -28,7 +28,7 @@ module _ (fit : List Float) (counts : List ℕ) where
 
   stored-keeps : (a : RingAnswer) → (ringStored a fit counts .code ≡ 0 → ⊥) → ringStored a fit counts ≡ refusal (ringStored a fit counts .code)
   unfolding ringStored
-  stored-keeps (Fitted r known) h = absurd (h refl)
+  stored-keeps (Fitted r) h = absurd (h refl)
   stored-keeps (Refused number place) h = refl
 
   short-keeps : (a b : Bool) (r : Stored) → ((r .code ≡ 0 → ⊥) → r ≡ refusal (r .code)) →
@@ -45,7 +45,7 @@ module _ (fit : List Float) (counts : List ℕ) where
 
   disk-stored-keeps : (a : DiskAnswer) → (diskStored a fit counts .code ≡ 0 → ⊥) → diskStored a fit counts ≡ refusal (diskStored a fit counts .code)
   unfolding diskStored
-  disk-stored-keeps (Disks.Fitted m known) h = absurd (h refl)
+  disk-stored-keeps (Disks.Fitted m) h = absurd (h refl)
   disk-stored-keeps (Disks.Refused number place) h = refl
 
   -- the same of the disk's call
@@ -56,12 +56,12 @@ module _ (fit : List Float) (counts : List ℕ) where
   -- ---- what is returned, and what is written with 0
   ring-stored-code : (a : RingAnswer) → ringStored a fit counts .code ≡ ringNumber a * 65536 + ringPlace a
   unfolding ringStored ringNumber ringPlace
-  ring-stored-code (Fitted r known) = refl
+  ring-stored-code (Fitted r) = refl
   ring-stored-code (Refused number place) = refl
 
   disk-stored-code : (a : DiskAnswer) → diskStored a fit counts .code ≡ diskNumber a * 65536 + diskPlace a
   unfolding diskStored diskNumber diskPlace
-  disk-stored-code (Disks.Fitted m known) = refl
+  disk-stored-code (Disks.Fitted m) = refl
   disk-stored-code (Disks.Refused number place) = refl
 
   -- with buffers that are long enough the code is the answer's number and place
@@ -91,12 +91,12 @@ module _ (fit : List Float) (counts : List ℕ) where
     pub ring-written : 6 ≤ length fit → 4 ≤ length counts →
         ringCall n samples angles fit counts ≡
         record { code = 0; fit = putFrom (ringValues fitted) 0 fit; counts = putFrom (ringCounts fitted) 0 counts }
-    unfolding ringCall ringStored ringFitted
+    unfolding ringCall ringStored
     ring-written f c =
         let r = fitRing n samples angles in
         let v = answered-values n samples angles zero-number in
         let b = rw (v .1) at (ring-bill n samples angles zero-number) in
-        let k = errorsKnown (r .fit .«fit_std_error_theta1») (r .fit .«fit_std_error_theta2») in
+        let k = r .standing .known in
         let known : flag k ≤ 1000 = omega (arith, flagged k) in
         let starts : r .starts ≤ 1000 = omega (arith, b .1) in
         let first : r .first ≤ 1000 = omega (arith, b .2) in
@@ -118,13 +118,12 @@ module _ (fit : List Float) (counts : List ℕ) where
     pub disk-written : 11 ≤ length fit → 2 ≤ length counts →
         diskCall D base0 base1 fit counts ≡
         record { code = 0; fit = putFrom (diskValues (checkedDisk D base0 base1)) 0 fit; counts = putFrom (diskCounts (checkedDisk D base0 base1)) 0 counts }
-    unfolding diskCall diskStored measuredOf
+    unfolding diskCall diskStored
     disk-written f c =
         let a = disk-answered-is-the-fit D base0 base1 zero-number in
         let v = disk-answered-values D base0 base1 zero-number in
         let b = rw (v .1) at (disk-trials D base0 base1 zero-number) in
-        let e = fitStdErrors D (a .fit) in
-        let k = errorsKnown (e .error1) (e .error2) in
+        let k = fitStanding D (a .fit) .known in
         let known : flag k ≤ 1000 = omega (arith, flagged k) in
         let trials : a .trials ≤ 1000 = omega (arith, b .1) in
         rw (le-ltb _ _ f, le-ltb _ _ c, v .0, v .1, a .answer, small (a .trials) trials, small (flag k) known)

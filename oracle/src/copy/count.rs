@@ -3,6 +3,7 @@
 
 extern "C" {
     fn oracle_event(event: u32);
+    fn oracle_errors(jtj: &[[f32; 4]; 4], ssr: f32, n: usize);
 }
 
 macro_rules! events {
@@ -38,4 +39,10 @@ pub fn skipped(row: usize) {
 /// The elimination stopped at this pivot: 24 to 27 where it is not finite, 28 to 31 where it is too small.
 pub fn stopped(pivot: usize, value: f32) {
     of_row(if value.is_finite() { 28 } else { 24 }, pivot);
+}
+
+/// What axis_std_errors is given.
+pub fn errors(jtj: &[[f32; 4]; 4], ssr: f32, n: usize) {
+    // SAFETY: copies the matrix, and keeps to its own memory.
+    unsafe { oracle_errors(jtj, ssr, n) }
 }

@@ -74,7 +74,7 @@ impl Maker<'_> {
             10..=17 => self.numbers(number),
             20..=24 => self.five(number),
             30..=35 => self.lines(if number == 30 { 1 } else if number == 34 { 4 } else { 2 }),
-            40..=45 => self.solving(number),
+            40..=46 => self.solving(number),
             50..=54 => self.seeding(number),
             60..=65 => self.ring_fit(number),
             70..=77 => self.candidates(number),
@@ -198,7 +198,7 @@ impl Maker<'_> {
                 self.matrix();
                 self.floats(4, -50.0, 50.0);
             }
-            41 => {
+            41 | 46 => {
                 self.matrix();
                 self.float(-1.0, 1e4);
                 let n = if self.random.percent(30) { self.random.between(0, 6) } else { self.random.between(0, PIXELS) };

@@ -15,17 +15,18 @@ returns c =
     let b8 = b4 .before .before .before .before in
     let b12 = b8 .before .before .before .before in
     let b16 = b12 .before .before .before .before in
-    let b20 = b16 .before .before .before .before in (
+    let b20 = b16 .before .before .before .before in
+    let b23 = b20 .before .before .before in (
       refl,
       rw (
         c .before .before .put-byte .ensures,
         b4 .before .before .put-count2 .ensures,
         b8 .before .before .put-words .ensures,
         b12 .before .before .before .put-count .ensures,
-        b16 .before .before .before .disk-words .ensures .0,
+        b20 .before .disk-words .ensures .0,
         b16 .before .as-number .ensures .1,
-      ) (four-puts (b20 .before .args .out .now) (b20 .before .args .at) _ _ _ _ (unfold countText byteText in
-          refl) (words-length (F.diskWords (b20 .before .args .m)) 11) (unfold countText byteText in refl) (unfold byteText in refl) (b20 .before .pre)),
+      ) (four-puts (b23 .args .out .now) (b23 .args .at) _ _ _ _ (unfold countText byteText in
+          refl) (words-length (F.diskWords (b23 .args .m)) 11) (unfold countText byteText in refl) (unfold byteText in refl) (b23 .pre)),
     )
 
 pub write-disk-spec : {M : Type 1} → statement M

@@ -20,8 +20,8 @@ returns c =
         c .before .before .put-words .ensures,
         b7 .put-count .ensures,
         b9 .ring-words .ensures .0,
-      ) (put-put (b11 .args .out .now) (b11 .args .at) _ (wordsText (F.ringWords (b11 .args .r) (b11 .args .known)) 7)
-          (b11 .args .at + 4) (omega arith) (omega (arith, words-length (F.ringWords (b11 .args .r) (b11 .args .known)) 7))),
+      ) (put-put (b11 .args .out .now) (b11 .args .at) _ (wordsText (F.ringWords (b11 .args .r)) 7)
+          (b11 .args .at + 4) (omega arith) (omega (arith, words-length (F.ringWords (b11 .args .r)) 7))),
     )
 
 pub write-ring-spec : {M : Type 1} → statement M

@@ -36,6 +36,9 @@ slice-write-fit-10 c = simp length-set (omega arith)
 slice-write-fit-11 : tie.Need-slice-write-fit-11
 slice-write-fit-11 c = simp length-set (omega arith)
 
+same-length : tie.Need-same-length
+same-length c = simp length-set refl
+
 returns : tie.Need-returns
 returns c = refl
 
@@ -44,5 +47,5 @@ put-disk-spec =
     tie.close
     (tie.spec
     (λ c. search needs) slice-write-fit-2 slice-write-fit-3 slice-write-fit-4 slice-write-fit-5 slice-write-fit-6
-    slice-write-fit-7 slice-write-fit-8 slice-write-fit-9 slice-write-fit-10 slice-write-fit-11 (λ c. search needs)
+    slice-write-fit-7 slice-write-fit-8 slice-write-fit-9 slice-write-fit-10 slice-write-fit-11 same-length
     returns)
