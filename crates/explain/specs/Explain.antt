@@ -30,7 +30,7 @@ pub record Explained (l : List ℕ) (s : Sort) (a : Above) (t : List ℕ) (at : 
 
 -- ---- a turn from x to y: its input goes from b to c, its text from l to m; lines are counted from 1, modulo 2^64
 abbrev pub textRoom : ℕ
-textRoom = 55000
+textRoom = 60000
 
 abbrev pub firstState : Explaining
 firstState = record { state = opening; above = nothing; lines = 0 }

@@ -14,12 +14,12 @@ ghost use Rattle.explain_sorts.specs.Sorts.{SortSound};
 ghost use Rattle.explain.specs.Explain as E;
 
 // More than is said of any line: 24 characters for each of its sentences' own.
-const ROOM: usize = 55000;
+const ROOM: usize = 60000;
 
 // What is said of a line itself, at a place of the text; the place behind it.
 fn body_told(text: &mut [u8], at: usize, number: u64, line: &[u8], sort: Sort, a: Above) -> usize
-    requires { ⌜ SortSound (length (now line)) sort × (at + 40848 ≤ length (now text)) ⌝ }
-    ensures { λ r. ⌜ (r ≤ at + 40848) × E.Body (now (line .entry)) sort a (now (text .entry)) at (now (text .exit)) r ⌝ }
+    requires { ⌜ SortSound (length (now line)) sort × (at + 44424 ≤ length (now text)) ⌝ }
+    ensures { λ r. ⌜ (r ≤ at + 44424) × E.Body (now (line .entry)) sort a (now (text .entry)) at (now (text .exit)) r ⌝ }
 {
     match sort {
         Sort::Frame(_) => at,
@@ -32,8 +32,8 @@ fn body_told(text: &mut [u8], at: usize, number: u64, line: &[u8], sort: Sort, a
 // All that is said at a line: that the frame above has no answer, the line itself, that it is not the
 // answer of that frame.
 fn line_told(text: &mut [u8], at: usize, number: u64, line: &[u8], sort: Sort, a: Above) -> usize
-    requires { ⌜ SortSound (length (now line)) sort × (at + 55000 ≤ length (now text)) ⌝ }
-    ensures { λ r. ⌜ (r ≤ at + 55000) × E.Explained (now (line .entry)) sort a (now (text .entry)) at (now (text .exit)) r ⌝ }
+    requires { ⌜ SortSound (length (now line)) sort × (at + 60000 ≤ length (now text)) ⌝ }
+    ensures { λ r. ⌜ (r ≤ at + 60000) × E.Explained (now (line .entry)) sort a (now (text .entry)) at (now (text .exit)) r ⌝ }
 {
     let alone = explain_sorts::is_alone(sort);
     let strange = explain_sorts::is_strange(sort, a);

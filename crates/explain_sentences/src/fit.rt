@@ -108,8 +108,8 @@ fn flags_of(kind: u32, r: Reading) -> [bool; 15]
 
 // Line number `number`, a fit of its answer's type.
 pub fn told(text: &mut [u8], at: usize, number: u64, line: &[u8], kind: u32) -> usize
-    requires { ⌜ (fitLength (isDiskAnswer kind) ≤ length (now line)) × (at + 40848 ≤ length (now text)) ⌝ }
-    ensures { λ p. ⌜ (p ≤ at + 40848) × S.Fitted (now (line .entry)) kind (now (text .entry)) at (now (text .exit)) p ⌝ }
+    requires { ⌜ (fitLength (isDiskAnswer kind) ≤ length (now line)) × (at + 44424 ≤ length (now text)) ⌝ }
+    ensures { λ p. ⌜ (p ≤ at + 44424) × S.Fitted (now (line .entry)) kind (now (text .entry)) at (now (text .exit)) p ⌝ }
 {
     let r = explain_warnings::read(line, kind == 130);
     let flags = flags_of(kind, r);

@@ -79,6 +79,10 @@ abbrev pub isDegenerate : Reading → Bool
 isDegenerate r =
     not (r .disk) && (eq (r .amp) nought && eq (r .theta1) nought && eq (r .theta2) halfPi) && (eqb (r .first) 0 || eqb (r .second) 0)
 
+-- the errors are known (docs/RULES.md, Known); where they are, a PI is an estimate of that or more, and where they are not, a 0 says nothing
+abbrev pub isKnown : Reading → Bool
+isKnown r = not (eqb (r .known) 0)
+
 -- ---- the warnings: when, and in which words
 unfoldable pub warningsOf : Reading → List (Bool × String)
 warningsOf r =
@@ -88,11 +92,11 @@ warningsOf r =
     ∷ (isLarge (r .rms) (r .amp), "  warning: the residual is at least 12 % of the amplitude, or of 1 where that is more\n")
     ∷ (r .disk && eq (r .corr) nought, "  warning: the correlation is 0: the fit explains nothing of the disk\n")
     ∷ (lt (r .corr) nought || lt one (r .corr), "  warning: the correlation is not between 0 and 1\n")
-    ∷ (eqb (r .known) 0, "  warning: the errors are not known\n")
-    ∷ (eq (r .error1) pi, "  warning: the first error is PI: that axis is not determined\n")
-    ∷ (eq (r .error2) pi, "  warning: the second error is PI: that axis is not determined\n")
-    ∷ (eq (r .error1) nought, "  warning: the first error is 0: no value deviates, or it was lost in rounding\n")
-    ∷ (eq (r .error2) nought, "  warning: the second error is 0: no value deviates, or it was lost in rounding\n")
+    ∷ (not (isKnown r), "  warning: the errors are not known: whatever stands in their place, PI or 0 too, is no estimate\n")
+    ∷ (isKnown r && eq (r .error1) pi, "  warning: the first error is estimated, and is PI or more: that axis is not determined\n")
+    ∷ (isKnown r && eq (r .error2) pi, "  warning: the second error is estimated, and is PI or more: that axis is not determined\n")
+    ∷ (isKnown r && eq (r .error1) nought, "  warning: the first error is estimated, and is 0: no value deviates, or it was lost in rounding\n")
+    ∷ (isKnown r && eq (r .error2) nought, "  warning: the second error is estimated, and is 0: no value deviates, or it was lost in rounding\n")
     ∷ (eq (r .amp) nought, "  warning: the amplitude is 0: there is no contrast to fit\n")
     ∷ (isWild (r .amp), "  warning: the amplitude is not finite\n")
     ∷ (isWild (r .theta1), "  warning: the first axis is not finite\n")

@@ -125,6 +125,7 @@ fn is_wild(x: f32) -> bool
 fn flags(r: Reading) -> [bool; 23]
     ensures { λ w. ⌜ (w ≡ flagsOf (W.warningsOf r)) × (23 ≡ length w) ⌝ }
 {
+    let known = r.known != 0;
     [
         r.rms == 0.0,
         is_infinite(r.rms),
@@ -132,11 +133,11 @@ fn flags(r: Reading) -> [bool; 23]
         is_large(r.rms, r.amp),
         r.disk & (r.corr == 0.0),
         (r.corr < 0.0) | (r.corr > 1.0),
-        r.known == 0,
-        r.error1 == floats::PI,
-        r.error2 == floats::PI,
-        r.error1 == 0.0,
-        r.error2 == 0.0,
+        !known,
+        known & (r.error1 == floats::PI),
+        known & (r.error2 == floats::PI),
+        known & (r.error1 == 0.0),
+        known & (r.error2 == 0.0),
         r.amp == 0.0,
         is_wild(r.amp),
         is_wild(r.theta1),
@@ -155,8 +156,8 @@ fn flags(r: Reading) -> [bool; 23]
 // The warnings that an answer calls for, at a place of the text; the place behind them. A bar ends a
 // sentence.
 pub fn warnings(text: &mut [u8], at: usize, r: Reading) -> usize
-    requires { ⌜ at + 30360 ≤ length (now text) ⌝ }
-    ensures { λ p. ⌜ (p ≤ at + 30360) × Written (now (text .entry)) at (W.warningsText r) (now (text .exit)) p ⌝ }
+    requires { ⌜ at + 33936 ≤ length (now text) ⌝ }
+    ensures { λ p. ⌜ (p ≤ at + 33936) × Written (now (text .entry)) at (W.warningsText r) (now (text .exit)) p ⌝ }
 {
     let told = flags(r);
     let words = [[0u8; 24]; 1];
@@ -169,11 +170,11 @@ pub fn warnings(text: &mut [u8], at: usize, r: Reading) -> usize
 |  warning: the residual is at least 12 % of the amplitude, or of 1 where that is more
 |  warning: the correlation is 0: the fit explains nothing of the disk
 |  warning: the correlation is not between 0 and 1
-|  warning: the errors are not known
-|  warning: the first error is PI: that axis is not determined
-|  warning: the second error is PI: that axis is not determined
-|  warning: the first error is 0: no value deviates, or it was lost in rounding
-|  warning: the second error is 0: no value deviates, or it was lost in rounding
+|  warning: the errors are not known: whatever stands in their place, PI or 0 too, is no estimate
+|  warning: the first error is estimated, and is PI or more: that axis is not determined
+|  warning: the second error is estimated, and is PI or more: that axis is not determined
+|  warning: the first error is estimated, and is 0: no value deviates, or it was lost in rounding
+|  warning: the second error is estimated, and is 0: no value deviates, or it was lost in rounding
 |  warning: the amplitude is 0: there is no contrast to fit
 |  warning: the amplitude is not finite
 |  warning: the first axis is not finite

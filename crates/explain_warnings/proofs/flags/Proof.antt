@@ -13,11 +13,11 @@ returns c =
     let b4 = c .before .before .before .before in
     let b8 = b4 .before .before .before .before in
     let b20 = b8 .before .before .before .before .before .before .before .before .before .before .before .before in
-    let b24 = b20 .before .before .before .before in (
+    let b25 = b20 .before .before .before .before .before in (
       rw (
-        b20 .before .before .before .is-infinite .ensures,
-        ne-is-nan (b24 .before .args .r .rms),
-        b20 .before .is-large .ensures,
+        b20 .before .before .is-infinite .ensures,
+        ne-is-nan (b25 .args .r .rms),
+        b20 .is-large .ensures,
         b8 .before .before .is-wild .ensures,
         b8 .before .is-wild2 .ensures,
         b8 .is-wild3 .ensures,

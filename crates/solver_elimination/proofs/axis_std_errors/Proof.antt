@@ -1,4 +1,5 @@
 -- Up to four samples answer PI, and more go to both eliminations. Assumes nothing.
+use native.Mathlib.Omega.{arith}
 use borrow.Author.Tests.{le-leb, lt-leb}
 use Rattle.solver_elimination.specs.Solve.{axisStdErrors, standing}
 use borrow.Author.Needs.{needs}
@@ -7,11 +8,13 @@ use Rattle.solver_elimination.proofs.axis_std_errors.Tie as tie
 
 returns : tie.Need-returns
 unfolding axisStdErrors standing
-returns c = rw (le-leb _ _ (c .before .if1 .taken)) (c .nothing .ensures)
+returns c = let b = c .before in
+    rw (le-leb (b .before .args .n) 4 (omega (arith, b .if1 .taken))) (c .nothing .ensures)
 
 returns-2 : tie.Need-returns-2
 unfolding axisStdErrors standing
-returns-2 c = rw (lt-leb _ _ (c .before .before .if1 .left), ← c .before .count-f32 .ensures) (c .both-errors .ensures)
+returns-2 c = let b = c .before .before in
+    rw (lt-leb (b .before .args .n) 4 (omega (arith, b .if1 .left)), ← c .before .count-f32 .ensures) (c .both-errors .ensures)
 
 pub axis-std-errors-spec : {M : Type 1} → statement M
 axis-std-errors-spec =
