@@ -76,6 +76,10 @@ uint32_t jb_answer_line(const uint8_t *line, size_t line_len, uint8_t *out, size
  * starts (1 or 2), updates of the first start, of the second (0 to 6 each), 1 if the errors are known else 0.
  * Then 0 <= theta1 < PI, theta1 <= theta2 < 2 PI and both errors lie from 0 to PI; the amplitude is not below 0, or
  * NaN after an overflow. Elements behind those written keep their value.
+ * The errors are known exactly if the start that is answered was not degenerate, both eliminations of the error
+ * estimate succeeded, and the sum of squared residuals and the two entries of the covariance's diagonal are finite
+ * (docs/RULES.md, Known). A known error of PI is an estimate of PI or more. Where they are not known, what stands in
+ * fit[3] and fit[4] is no estimate: PI as a rule, and 0 or another number where an entry is not finite.
  * Otherwise returns number * 65536 + place (docs/RULES.md, Refusals), and neither buffer is changed. The first of these
  * that applies:
  *   65536 (number 1)       `fit` under 6 or `counts` under 4 elements; a slice of another length than 16
@@ -98,6 +102,8 @@ uint32_t jb_fit_ring24(const float *samples, size_t samples_len, const float *an
  * relative rms, correlation, edge score, objective, error of theta1, error of theta2; counts[0..1] = trials (at most
  * 144), 1 if the errors are known else 0. Then 0 <= theta1 < PI, theta1 <= theta2 < 2 PI and both errors lie from 0 to
  * PI; the amplitude is not below 0, or NaN after an overflow. Elements behind those written keep their value.
+ * The errors are known as of jb_fit_ring, with more than four pixels in the place of the start; where they are not, what
+ * stands in fit[9] and fit[10] is no estimate.
  * An rms of 0 is a perfect fit only where the correlation is close to 1. Where a square overflowed, or val_energy is
  * less than the sum of squares, the rms is 0 too: the correlation is then 0, NaN, infinite or above 1.
  * Otherwise returns number * 65536 + place, and neither buffer is changed. The first of these that applies:

@@ -270,6 +270,18 @@ static void check_ring_of_zeros(size_t n, ring_out *out)
     whole("the count behind the counts", out->counts[4], 7);
 }
 
+/* One sample of 1 and one angle of 100: both errors are estimated above PI, capped there, and known. */
+static void check_ring_capped(ring_out *out)
+{
+    ring_samples[8] = 1.0f;
+    ring_angles[7] = 100.0f;
+    ring_whole(16, "of one sample", fit_ring(16, 16, 16, out, 7, 5), 0);
+    exact("the first error, capped", out->fit[3], 0x40490fdbu);
+    exact("the second error, capped", out->fit[4], 0x40490fdbu);
+    whole("known of capped errors", out->counts[3], 1);
+    ring_samples[8] = ring_angles[7] = 0.0f;
+}
+
 /* A corner with axes at 30 and 120 degrees, as the model has it: the fit finds it again. */
 static void check_ring_corner(size_t n, ring_out *out)
 {
@@ -300,6 +312,7 @@ static void check_fit_ring(size_t n)
     for (i = 0; i < 7; i++) exact("fit after a refusal", out.fit[i], 0x40e00000u);
     for (i = 0; i < 5; i++) whole("counts after a refusal", out.counts[i], 7);
     check_ring_of_zeros(n, &out);
+    if (n == 16) check_ring_capped(&out);
     check_ring_corner(n, &out);
 }
 
@@ -351,6 +364,28 @@ static void check_disk_refusals(void)
     for (i = 0; i < 3; i++) whole("counts after a refused disk", counts[i], 7);
 }
 
+/* Five pixels, docs/DIFFERENCES.md, K6: an entry of the covariance is infinite, so that nothing is known, though the
+ * second error looks like one. */
+static void check_disk_not_known(void)
+{
+    const size_t n = 5;
+    float fit[12];
+    uint32_t counts[3] = {7, 7, 7};
+    disk_head[0] = float_of(0x5f000000u);
+    disk_head[1] = disk_head[2] = 0.0f;
+    disk_runs[0][2] = float_of(0xb58637bfu);
+    disk_runs[0][3] = float_of(0x42aeac50u);
+    disk_runs[0][4] = disk_runs[1][0] = float_of(0x5f000000u);
+    disk_runs[1][3] = -1.0f;
+    disk_runs[2][4] = 72.0f;
+    whole("jb_fit_disk of five pixels", fit_disk(n, n, fit, 12, counts, 3), 0);
+    exact("the first error of five pixels", fit[9], 0x40490fdbu);
+    exact("the second error of five pixels", fit[10], 0x3acfe561u);
+    whole("known of five pixels", counts[1], 0);
+    memset(disk_head, 0, sizeof disk_head);
+    memset(disk_runs, 0, sizeof disk_runs);
+}
+
 /* One pixel of a corner with axes at 30 and 120 degrees and edges 0.7 wide; its gradients are the model's. */
 static void put_pixel(size_t i, float x, float y)
 {
@@ -375,6 +410,7 @@ static void check_fit_disk(void)
     size_t n = 0;
     int i;
     check_disk_refusals();
+    check_disk_not_known();
     for (i = 0; i < 17 * 17; i++) {
         float x = (float)(i % 17 - 8), y = (float)(i / 17 - 8);
         if (x * x + y * y >= 1.0f && x * x + y * y <= 64.0f) put_pixel(n++, x, y);

@@ -22,7 +22,8 @@ use Rattle.elementary.specs.Elementary.{raised, above, unit, scale, whol
 use Rattle.elementary.specs.Elementary.{sinCos}
 use Rattle.elementary.specs.Elementary.{left, ratio, atanRest, size, signed, octant}
 use Rattle.elementary.specs.SelectLaws.{clamped-number}
-use Rattle.elementary.specs.SizeLaws.{L, Within, add-in, sub-in, mul-in, neg-in, more-in, cond-in, constant, Near, near, off, div-in, tests-in}
+use Rattle.floats.specs.WithinLaws.{Within}
+use Rattle.elementary.specs.SizeLaws.{L, add-in, sub-in, mul-in, neg-in, more-in, cond-in, constant, Near, near, off, div-in, tests-in}
 use Rattle.elementary.specs.SizeLaws.{mul-number, within-number}
 
 -- ---- constants in units
@@ -34,14 +35,14 @@ unfolding ofBits
 bigR-val = (refl, refl)
 
 -- to the nearest whole number: what is at most 64 in size stays so
-whole-in : {x : Float} → Within (2 ^ 155) x → Within (2 ^ 155) (whole x)
+whole-in : {x : Float} → Within binary32 (2 ^ 155) x → Within binary32 (2 ^ 155) (whole x)
 unfolding whole lib.Ieee.size
 whole-in h =
     off bigR bigR-units (2 ^ 155) bigR-val (lit< tt) (12582848, 149, lit< tt, refl, lit< tt) (12582976, 149, lit< tt, refl, lit< tt)
     (near bigR bigR-units (2 ^ 155) bigR-val (lit< tt) (12582848, 149, lit< tt, refl, lit< tt) (12582976, 149, lit< tt, refl, lit< tt) h) tt
 
 -- ---- sine and cosine
-sinRest-in : {r l : Float} → Within (2 ^ 158) r → Within (2 ^ 161) l → Within (2 ^ 220) (sinRest r l)
+sinRest-in : {r l : Float} → Within binary32 (2 ^ 158) r → Within binary32 (2 ^ 161) l → Within binary32 (2 ^ 220) (sinRest r l)
 unfolding sinRest lib.Ieee.size ofBits neg fits
 sinRest-in hr hl =
     let hz = mul-in (2 ^ 167) hr hr tt in
@@ -50,7 +51,7 @@ sinRest-in hr hl =
     let h1 = add-in (2 ^ 187) (constant L (lit 0x3e2a_aaa3) tt) (mul-in (2 ^ 186) hz h2 tt) tt in
     sub-in (2 ^ 220) hr (add-in (2 ^ 219) (mul-in (2 ^ 218) (mul-in (2 ^ 176) hr hz tt) h1 tt) hl tt) tt
 
-cosRest-in : {r l : Float} → Within (2 ^ 158) r → Within (2 ^ 161) l → Within (2 ^ 232) (cosRest r l)
+cosRest-in : {r l : Float} → Within binary32 (2 ^ 158) r → Within binary32 (2 ^ 161) l → Within binary32 (2 ^ 232) (cosRest r l)
 unfolding cosRest lib.Ieee.size ofBits neg fits
 cosRest-in hr hl =
     let hz = mul-in (2 ^ 167) hr hr tt in
@@ -70,7 +71,7 @@ pub record Numbers (r : SinCos) : Type 0 where
   pub s : T (not (isNan (r .s)))
   pub c : T (not (isNan (r .c)))
 
-quadrant-numbers : {k sr cr : Float} → Within (2 ^ 155) k → Within (2 ^ 220) sr → Within (2 ^ 232) cr → Numbers (quadrant k sr cr)
+quadrant-numbers : {k sr cr : Float} → Within binary32 (2 ^ 155) k → Within binary32 (2 ^ 220) sr → Within binary32 (2 ^ 232) cr → Numbers (quadrant k sr cr)
 unfolding quadrant lib.Ieee.size ofBits fits
 quadrant-numbers hk hs hc =
     let hm = whole-in (mul-in (2 ^ 155) hk (constant L (lit 0x3f00_0000) tt) tt) in
@@ -84,7 +85,7 @@ quadrant-numbers hk hs hc =
       c = unit-number _ (within-number (add-in (2 ^ 253) (mul-in (2 ^ 252) ha hc tt) (mul-in (2 ^ 252) he hs tt) tt));
     }
 
-sinCosNear-numbers : {x : Float} → Within (2 ^ 155) x → Numbers (sinCosNear x)
+sinCosNear-numbers : {x : Float} → Within binary32 (2 ^ 155) x → Numbers (sinCosNear x)
 unfolding sinCosNear lib.Ieee.size ofBits fits
 sinCosNear-numbers hx =
     let hk = whole-in (mul-in (2 ^ 155) hx (constant L (lit 0x3f22_f983) tt) tt) in
@@ -103,23 +104,23 @@ bottom-val : Val binary32 (minus 0x4280_0000) true (2 ^ 155)
 unfolding ofBits neg
 bottom-val = (refl, refl)
 
-turn-in : (x : Float) → T (fits binary32 x) → T (finite x) → Within (2 ^ 155) (turn x)
+turn-in : (x : Float) → T (fits binary32 x) → T (finite x) → Within binary32 (2 ^ 155) (turn x)
 unfolding turn
 turn-in x p q =
     go (lt (lit 0x4280_0000) x) (lt x (minus 0x4280_0000))
     (λ e g. tests-in (2 ^ 155) (minus 0x4280_0000) (lit 0x4280_0000) x (2 ^ 155) (2 ^ 155) bottom-val top-val (lit≤ tt) (lit≤ tt) p q e g)
   where
-    reduced : Within (2 ^ 155) (rem binary32 x tau)
+    reduced : Within binary32 (2 ^ 155) (rem binary32 x tau)
     reduced =
         let c = counted binary32 x p q in
         record {
           sign = c .sign;
           count = c .count % W;
           val = rem-exact binary32 x tau (c .count) W (lit< tt) tau-val tau-rep (c .sign) (c .val) (c .rep);
-          small = le-trans (le-of-lt (mod-lt (c .count) (lit< tt))) (lit≤ tt);
+          most = le-trans (le-of-lt (mod-lt (c .count) (lit< tt))) (lit≤ tt);
         }
 
-    go : (a b : Bool) → (b ≡ false → a ≡ false → Within (2 ^ 155) x) → Within (2 ^ 155) (cond (a || b) (rem binary32 x tau) x)
+    go : (a b : Bool) → (b ≡ false → a ≡ false → Within binary32 (2 ^ 155) x) → Within binary32 (2 ^ 155) (cond (a || b) (rem binary32 x tau) x)
     go true b h = reduced
     go false true h = reduced
     go false false h = h refl refl
@@ -130,7 +131,7 @@ sinCos-numbers x p q = sinCosNear-numbers (turn-in x p q)
 
 -- ---- exp
 -- an exponent's field below the infinity's, alone: a power of two
-power-in : (d : ℕ) → d ≤ 254 → Within (2 ^ 276) (ofBits binary32 (d * 8388608))
+power-in : (d : ℕ) → d ≤ 254 → Within binary32 (2 ^ 276) (ofBits binary32 (d * 8388608))
 power-in zero h = constant (2 ^ 276) (ofBits binary32 0) (unfold ofBits fits in tt)
 power-in (suc x) h =
     let b = suc x * 8388608 in
@@ -139,7 +140,7 @@ power-in (suc x) h =
       sign = false;
       count = (8388608 + b % 8388608) * 2 ^ x;
       val = read-high binary32 b x (under-top (suc x) h) (mul-div-cancel (suc x) (lit< tt)) (less (suc x) h);
-      small = le-trans (le-of-eq (ap (λ (z : ℕ). (8388608 + z) * 2 ^ x) e ∙ sym (pow-add 2 23 x))) (pow-mono (room x h));
+      most = le-trans (le-of-eq (ap (λ (z : ℕ). (8388608 + z) * 2 ^ x) e ∙ sym (pow-add 2 23 x))) (pow-mono (room x h));
     }
   where
     under-top : (d : ℕ) → d ≤ 254 → d * 8388608 < 2147483648
@@ -190,11 +191,11 @@ pub bigM-val : Val binary32 bigM false bigM-units
 unfolding ofBits
 bigM-val = (refl, refl)
 
-scale-in : {u : Float} → T (fits binary32 u) → Near bigM-units reach u → Within (2 ^ 276) (scale u)
+scale-in : {u : Float} → T (fits binary32 u) → Near bigM-units reach u → Within binary32 (2 ^ 276) (scale u)
 unfolding scale
 scale-in {u} p h = power-in (toBits binary32 u % 256) (byte-of 12582912 12583166 u (h .count) p (h .val) (lit≤ tt) (lit≤ tt) (h .low) (h .high) .1)
 
-expRest-in : {h l : Float} → Within (2 ^ 157) h → Within (2 ^ 156) l → Within (2 ^ 210) (expRest h l)
+expRest-in : {h l : Float} → Within binary32 (2 ^ 157) h → Within binary32 (2 ^ 156) l → Within binary32 (2 ^ 210) (expRest h l)
 unfolding expRest lib.Ieee.size ofBits fits
 expRest-in hh hl =
     let hr = sub-in (2 ^ 158) hh hl tt in
@@ -221,23 +222,23 @@ least-val : Val binary32 expLeast true leastUnits
 unfolding ofBits neg
 least-val = (refl, refl)
 
-cut-in : (x : Float) → T (fits binary32 x) → T (finite x) → lt nought x ≡ false → Within leastUnits (raised x expLeast)
+cut-in : (x : Float) → T (fits binary32 x) → T (finite x) → lt nought x ≡ false → Within binary32 leastUnits (raised x expLeast)
 cut-in x p q g = go (lt x expLeast) (λ e. tests-in leastUnits expLeast nought x leastUnits 0 least-val nought-val (lit≤ tt) (lit≤ tt) p q e g)
   where
-    go : (b : Bool) → (b ≡ false → Within leastUnits x) → Within leastUnits (cond b expLeast x)
-    go true h = record { sign = true; count = leastUnits; val = least-val; small = lit≤ tt }
+    go : (b : Bool) → (b ≡ false → Within binary32 leastUnits x) → Within binary32 leastUnits (cond b expLeast x)
+    go true h = record { sign = true; count = leastUnits; val = least-val; most = lit≤ tt }
     go false h = h refl
 
 -- the sum with M, the whole number that is left, and the power of two
-module _ (v : Float) (h : Within reach v) where
+module _ (v : Float) (h : Within binary32 reach v) where
   sum-near : Near bigM-units reach (v ⊕ bigM)
   sum-near = near bigM bigM-units reach bigM-val (lit< tt) (12582912, 149, lit< tt, refl, lit< tt) (12583166, 149, lit< tt, refl, lit< tt) h
 
-  whole-part-in : Within reach ((v ⊕ bigM) ⊖ bigM)
+  whole-part-in : Within binary32 reach ((v ⊕ bigM) ⊖ bigM)
   unfolding lib.Ieee.size
   whole-part-in = off bigM bigM-units reach bigM-val (lit< tt) (12582912, 149, lit< tt, refl, lit< tt) (12583166, 149, lit< tt, refl, lit< tt) sum-near tt
 
-  power-of-in : Within (2 ^ 276) (scale (above (v ⊕ bigM) bigR))
+  power-of-in : Within binary32 (2 ^ 276) (scale (above (v ⊕ bigM) bigR))
   power-of-in =
       scale-in (cond-fits binary32 (lt bigR (v ⊕ bigM)) (v ⊕ bigM) bigR (add-fits binary32 v bigM) (unfold fits ofBits in tt)) (either (lt bigR (v ⊕ bigM)))
     where
@@ -288,13 +289,13 @@ size-plain (fin s m e) p n =
     go false false v g = (c .count, plus-nn binary32 x (c .count) v (c .rep))
 
 -- by an infinity: a zero
-over-infinity : (x : Float) (a : ℕ) → NonNeg binary32 x a → Within L (div binary32 x (inf false))
+over-infinity : (x : Float) (a : ℕ) → NonNeg binary32 x a → Within binary32 L (div binary32 x (inf false))
 over-infinity x a h = go x (h .val)
   where
-    go : (x : Float) → Val binary32 x (h .sign) a → Within L (div binary32 x (inf false))
+    go : (x : Float) → Val binary32 x (h .sign) a → Within binary32 L (div binary32 x (inf false))
     go nan v = absurd v
     go (inf s) v = absurd v
-    go (fin s m e) v = unfold div in record { sign = unlike s false; count = 0; val = (refl, refl); small = lit≤ tt }
+    go (fin s m e) v = unfold div in record { sign = unlike s false; count = 0; val = (refl, refl); most = lit≤ tt }
 
 -- and the comparisons of a finite value with it
 beside-infinity : (x : Float) (a : ℕ) → NonNeg binary32 x a → (eq (inf false) x ≡ false) × (eq x (inf false) ≡ false) × (lt x (inf false) ≡ true) ×
@@ -307,14 +308,14 @@ beside-infinity x a h = go x (h .val)
     go (inf s) v = absurd v
     go (fin s m e) v = unfold eq lt in (refl, refl, refl, refl)
 
-ratio-in : (y x : Float) → Plain y → Plain x → Within L (ratio y x)
+ratio-in : (y x : Float) → Plain y → Plain x → Within binary32 L (ratio y x)
 unfolding ratio
 ratio-in y x (inl e) (inl g) = rw (e, g) (unfold eq ofBits fits in constant L one tt)
 ratio-in y x (inl e) (inr (a, h)) = let f = beside-infinity x a h in rw (e, f .0, f .2) (over-infinity x a h)
 ratio-in y x (inr (b, k)) (inl g) = let f = beside-infinity y b k in rw (g, f .1, f .3) (over-infinity y b k)
 ratio-in y x (inr (b, k)) (inr (a, h)) = go (eq y x) (lt x y) refl (lt-is binary32 x y a b h k)
   where
-    ends : (c : Bool) → Within L (cond c nought one)
+    ends : (c : Bool) → Within binary32 L (cond c nought one)
     ends c = cond-in c (constant L nought (unfold ofBits fits in tt)) (constant L one (unfold ofBits fits in tt))
 
     parts : b ≤ a → T (lt y x || eq y x)
@@ -326,14 +327,14 @@ ratio-in y x (inr (b, k)) (inr (a, h)) = go (eq y x) (lt x y) refl (lt-is binary
     strict false true e g t = absurd (subst T g tt)
     strict false false e g t = absurd t
 
-    go : (p q : Bool) → eq y x ≡ p → q ≡ ltb a b → Within L (cond p (cond (eq x nought) nought one) (cond q (div binary32 x y) (div binary32 y x)))
+    go : (p q : Bool) → eq y x ≡ p → q ≡ ltb a b → Within binary32 L (cond p (cond (eq x nought) nought one) (cond q (div binary32 x y) (div binary32 y x)))
     go true q e g = ends (eq x nought)
     go false true e g = div-in x y a b (h .sign) (k .sign) (h .val) (k .val) (ltb→lt a b (subst T g tt))
     go false false e g =
         let l : b ≤ a = nltb→le a b (subst (λ (z : Bool). T (not z)) g tt) in
         div-in y x b a (k .sign) (h .sign) (k .val) (h .val) (strict (lt y x) (eq y x) (lt-is binary32 y x b a k h) e (parts l))
 
-atanRest-in : {t : Float} → Within L t → Within (2 ^ 158) (atanRest t)
+atanRest-in : {t : Float} → Within binary32 L t → Within binary32 (2 ^ 158) (atanRest t)
 unfolding atanRest lib.Ieee.size ofBits neg fits
 atanRest-in ht =
     let hz = mul-in L ht ht tt in
@@ -346,11 +347,11 @@ atanRest-in ht =
     let hw = add-in (2 ^ 156) (constant L (minus 0x3eaa_aa72) tt) (mul-in (2 ^ 155) hz h3 tt) tt in
     add-in (2 ^ 158) ht (mul-in (2 ^ 157) (mul-in L ht hz tt) hw tt) tt
 
-signed-in : {n : ℕ} {b : Float} (below : Bool) → Within n b → Within n (signed b below)
+signed-in : {n : ℕ} {b : Float} (below : Bool) → Within binary32 n b → Within binary32 n (signed b below)
 unfolding signed
 signed-in below h = cond-in below (neg-in h) h
 
-octant-in : {c : Float} (steep back : Bool) → Within (2 ^ 158) c → Within (2 ^ 160) (octant c steep back)
+octant-in : {c : Float} (steep back : Bool) → Within binary32 (2 ^ 158) c → Within binary32 (2 ^ 160) (octant c steep back)
 unfolding octant lib.Ieee.size ofBits fits
 octant-in steep back h =
     cond-in steep (sub-in (2 ^ 160) (constant (2 ^ 151) halfPi tt) (add-in (2 ^ 159) h (constant L (lit 0x333b_bd2e) tt) tt) tt)

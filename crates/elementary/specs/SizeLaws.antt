@@ -1,4 +1,4 @@
--- Sizes: `Within n x` says that x is a finite f32 of at most n units of 2 ^ -149. A sum, a difference or a product of two such values has a bound
+-- Sizes: `Within binary32 n x` says that x is a finite f32 of at most n units of 2 ^ -149. A sum, a difference or a product of two such values has a bound
 -- that is computed from theirs,
 -- so a chain of steps with crude bounds below the infinity is finite, and no NaN arises in it. Assumes nothing.
 use mathlib.Core.Path.{_≡_, refl, sym, ap, subst, _∙_}
@@ -14,41 +14,35 @@ use lib.Ieee.Fits.{and-l, and-r, down-pos}
 use lib.Ieee.Scale.{overflow, finite, round-same}
 use borrow.Author.Tests.{ltb-false}
 use Rattle.floats.specs.UnitLaws.{Val, add-val, sub-val, neg-val, lt-val}
-use Rattle.floats.specs.RoundingLaws.{R, Rep, val-unique, counted, finite-of-val, round-R, R-upper, R-lower}
+use Rattle.floats.specs.RoundingLaws.{R, Rep, val-unique, counted, round-R, R-upper, R-lower}
 use Rattle.floats.specs.RankLaws.{Sized, sized-no-nan}
 use Rattle.floats.specs.NarrowOrderLaws.{G, G-mono, fraction-sized}
 use Rattle.floats.specs.NonNegLaws.{sum-same, sum-np-lt, sum-pn-ge, sum-pn-lt}
 use Rattle.floats.specs.ProductLaws.{mul-val, mul-size, div-val}
 use Rattle.floats.specs.FiniteLaws.{finite-number}
+use Rattle.floats.specs.WithinLaws.{Within, within-finite}
 
 -- 1 in units
 abbrev pub L : ℕ
 L = 2 ^ 149
 
-pub record Within (n : ℕ) (x : Float) : Type 0 where
-  pub sign : Bool
-  pub count : ℕ
-  pub val : Val binary32 x sign count
-  pub small : count ≤ n
-
-pub within-finite : {n : ℕ} {x : Float} → Within n x → T (finite x)
-within-finite {n} {x} h = finite-of-val binary32 x (h .sign) (h .count) (h .val)
-
 -- ---- one step: m units over c, rounded, stay below n and the infinity
 abbrev pub StepBelow : ℕ → ℕ → ℕ → Type 0
 StepBelow n c m = T (leb (G binary32 c m) n && ltb n (overflow binary32))
 
-pub rounded-up : (n c m : ℕ) (s : Bool) (a : ℕ) (x : Float) → 0 < c → x ≡ round binary32 s a c → a ≤ m → G binary32 c m ≤ n → n < overflow binary32 → Within n x
+pub rounded-up :
+    (n c m : ℕ) (s : Bool) (a : ℕ) (x : Float) → 0 < c → x ≡ round binary32 s a c → a ≤ m → G binary32 c m ≤ n → n < overflow binary32 →
+    Within binary32 n x
 rounded-up n c m s a x C e h g room = go (fraction-sized binary32 s a c)
   where
     up-to : G binary32 c a ≤ n
     up-to = le-trans (G-mono binary32 c a m C h) g
 
-    go : Sized binary32 (round binary32 s a c) s (G binary32 c a) → Within n x
-    go (inl v) = record { sign = s; count = G binary32 c a; val = subst (λ (z : Float). Val binary32 z s (G binary32 c a)) (sym e) (v .0); small = up-to }
+    go : Sized binary32 (round binary32 s a c) s (G binary32 c a) → Within binary32 n x
+    go (inl v) = record { sign = s; count = G binary32 c a; val = subst (λ (z : Float). Val binary32 z s (G binary32 c a)) (sym e) (v .0); most = up-to }
     go (inr v) = absurd (lt-irrefl (overflow binary32) (lt-of-le-of-lt (le-trans (le-of-eq (sym (v .1))) up-to) room))
 
-rounded-in : (n c m : ℕ) (s : Bool) (a : ℕ) (x : Float) → 0 < c → x ≡ round binary32 s a c → a ≤ m → StepBelow n c m → Within n x
+rounded-in : (n c m : ℕ) (s : Bool) (a : ℕ) (x : Float) → 0 < c → x ≡ round binary32 s a c → a ≤ m → StepBelow n c m → Within binary32 n x
 rounded-in n c m s a x C e h t =
     rounded-up n c m s a x C e h (leb→le (G binary32 c m) n (and-l (leb (G binary32 c m) n) (ltb n (overflow binary32)) t))
     (ltb→lt n (overflow binary32) (and-r (leb (G binary32 c m) n) (ltb n (overflow binary32)) t))
@@ -74,33 +68,33 @@ sum-in s a t b c = go (Bool·beq s t) (ltb a b)
 both : (a b c d : ℕ) → a ≤ c → b ≤ d → a + b ≤ c + d
 both a b c d h k = omega arith
 
-module _ (n : ℕ) {a b : ℕ} {x y : Float} (h : Within a x) (k : Within b y) where
-  pub add-in : StepBelow n L (a + b) → Within n (add binary32 x y)
+module _ (n : ℕ) {a b : ℕ} {x y : Float} (h : Within binary32 a x) (k : Within binary32 b y) where
+  pub add-in : StepBelow n L (a + b) → Within binary32 n (add binary32 x y)
   add-in t =
       let r = sum-in (h .sign) (h .count) (k .sign) (k .count) L in
       rounded-in n L (a + b) (r .0) (r .1) (add binary32 x y) (pow-pos 149)
       (add-val binary32 x y (h .sign) (h .count) (k .sign) (k .count) (h .val) (k .val) ∙ r .2)
-      (le-trans (r .3) (both (h .count) (k .count) a b (h .small) (k .small))) t
+      (le-trans (r .3) (both (h .count) (k .count) a b (h .most) (k .most))) t
 
-  pub sub-in : StepBelow n L (a + b) → Within n (sub binary32 x y)
+  pub sub-in : StepBelow n L (a + b) → Within binary32 n (sub binary32 x y)
   sub-in t =
       let r = sum-in (h .sign) (h .count) (not (k .sign)) (k .count) L in
       rounded-in n L (a + b) (r .0) (r .1) (sub binary32 x y) (pow-pos 149)
       (sub-val binary32 x y (h .sign) (h .count) (k .sign) (k .count) (h .val) (k .val) ∙ r .2)
-      (le-trans (r .3) (both (h .count) (k .count) a b (h .small) (k .small))) t
+      (le-trans (r .3) (both (h .count) (k .count) a b (h .most) (k .most))) t
 
-  pub mul-in : StepBelow n (L * L) (a * b) → Within n (mul binary32 x y)
+  pub mul-in : StepBelow n (L * L) (a * b) → Within binary32 n (mul binary32 x y)
   mul-in t =
       rounded-in n (L * L) (a * b) (lib.Ieee.unlike (h .sign) (k .sign)) (h .count * k .count) (mul binary32 x y) (mul-pos (pow-pos 149) (pow-pos 149))
-      (mul-val binary32 x y (h .sign) (h .count) (k .sign) (k .count) (h .val) (k .val)) (mul-le-mul (h .small) (k .small)) t
+      (mul-val binary32 x y (h .sign) (h .count) (k .sign) (k .count) (h .val) (k .val)) (mul-le-mul (h .most) (k .most)) t
 
-pub neg-in : {n : ℕ} {x : Float} → Within n x → Within n (neg x)
-neg-in {n} {x} h = record { sign = not (h .sign); count = h .count; val = neg-val binary32 x (h .sign) (h .count) (h .val); small = h .small }
+pub neg-in : {n : ℕ} {x : Float} → Within binary32 n x → Within binary32 n (neg x)
+neg-in {n} {x} h = record { sign = not (h .sign); count = h .count; val = neg-val binary32 x (h .sign) (h .count) (h .val); most = h .most }
 
-pub more-in : (n : ℕ) {m : ℕ} {x : Float} → m ≤ n → Within m x → Within n x
-more-in n l h = record { sign = h .sign; count = h .count; val = h .val; small = le-trans (h .small) l }
+pub more-in : (n : ℕ) {m : ℕ} {x : Float} → m ≤ n → Within binary32 m x → Within binary32 n x
+more-in n l h = record { sign = h .sign; count = h .count; val = h .val; most = le-trans (h .most) l }
 
-pub cond-in : {n : ℕ} (b : Bool) {x y : Float} → Within n x → Within n y → Within n (cond b x y)
+pub cond-in : {n : ℕ} (b : Bool) {x y : Float} → Within binary32 n x → Within binary32 n y → Within binary32 n (cond b x y)
 cond-in true h k = h
 cond-in false h k = k
 
@@ -110,7 +104,7 @@ unitsOf nan = 0
 unitsOf (inf s) = 0
 unitsOf (fin s m e) = m * up e * L / down e
 
-pub constant : (n : ℕ) (x : Float) → T (fits binary32 x && finite x && leb (unitsOf x) n) → Within n x
+pub constant : (n : ℕ) (x : Float) → T (fits binary32 x && finite x && leb (unitsOf x) n) → Within binary32 n x
 constant n x t =
     let p = and-l (fits binary32 x) (finite x) (and-l (fits binary32 x && finite x) (leb (unitsOf x) n) t) in
     let q = and-r (fits binary32 x) (finite x) (and-l (fits binary32 x && finite x) (leb (unitsOf x) n) t) in
@@ -119,7 +113,7 @@ constant n x t =
       sign = c .sign;
       count = c .count;
       val = c .val;
-      small =
+      most =
           le-trans (le-of-eq (sym (same x (c .sign) (c .count) (c .val)))) (leb→le (unitsOf x) n (and-r (fits binary32 x && finite x) (leb (unitsOf x) n) t));
     }
   where
@@ -146,7 +140,7 @@ module _ (b : Float) (B n : ℕ) (w : Val binary32 b false B) (l : n < B) (p : R
         high = u .1;
       }
 
-  pub near : {x : Float} → Within n x → Near B n (add binary32 x b)
+  pub near : {x : Float} → Within binary32 n x → Near B n (add binary32 x b)
   near {x} h = go (h .sign) (h .val)
     where
       up-lo : (m n B : ℕ) → B - n ≤ m + B
@@ -164,13 +158,13 @@ module _ (b : Float) (B n : ℕ) (w : Val binary32 b false B) (l : n < B) (p : R
       go : (s : Bool) → Val binary32 x s (h .count) → Near B n (add binary32 x b)
       go false v =
           near-at (add binary32 x b) (h .count + B) (add-val binary32 x b false (h .count) false B v w ∙
-          sum-same binary32 (h .count) B L false) (up-lo (h .count) n B) (up-hi (h .count) n B (h .small))
+          sum-same binary32 (h .count) B L false) (up-lo (h .count) n B) (up-hi (h .count) n B (h .most))
       go true v =
           near-at (add binary32 x b) (B - h .count) (add-val binary32 x b true (h .count) false B v w ∙
-          sum-np-lt binary32 (h .count) B L (lt-of-le-of-lt (h .small) l)) (down-lo (h .count) n B (h .small))
+          sum-np-lt binary32 (h .count) B L (lt-of-le-of-lt (h .most) l)) (down-lo (h .count) n B (h .most))
           (down-hi (h .count) n B)
 
-  pub off : {t : Float} → Near B n t → StepBelow n L n → Within n (sub binary32 t b)
+  pub off : {t : Float} → Near B n t → StepBelow n L n → Within binary32 n (sub binary32 t b)
   off {t} h z = go (ltb (h .count) B) (ltb→lt (h .count) B) (nltb→le (h .count) B)
     where
       under : (c n B : ℕ) → B - n ≤ c → n < B → B - c ≤ n
@@ -179,7 +173,7 @@ module _ (b : Float) (B n : ℕ) (w : Val binary32 b false B) (l : n < B) (p : R
       over : (c n B : ℕ) → c ≤ B + n → c - B ≤ n
       over c n B g = omega arith
 
-      go : (i : Bool) → (T i → h .count < B) → (T (not i) → B ≤ h .count) → Within n (sub binary32 t b)
+      go : (i : Bool) → (T i → h .count < B) → (T (not i) → B ≤ h .count) → Within binary32 n (sub binary32 t b)
       go true f g =
           rounded-in n L n true (B - h .count) (sub binary32 t b) (pow-pos 149) (sub-val binary32 t b false (h .count) false B (h .val) w ∙
           sum-pn-lt binary32 (h .count) B L (f tt))
@@ -204,7 +198,7 @@ same-over-same b B = go (fraction-sized binary32 false b b)
     go (inl w) = val-unique binary32 (round binary32 false b b) false (G binary32 b b) false L (w .0) v
     go (inr w) = absurd (subst (λ (z : Float). Val binary32 z false L) (w .0) v)
 
-pub div-in : (x y : Float) (a b : ℕ) (s t : Bool) → Val binary32 x s a → Val binary32 y t b → a < b → Within L (div binary32 x y)
+pub div-in : (x y : Float) (a b : ℕ) (s t : Bool) → Val binary32 x s a → Val binary32 y t b → a < b → Within binary32 L (div binary32 x y)
 div-in x y a b s t v w h =
     let B : 0 < b = above-some a b h in
     rounded-up L b b (lib.Ieee.unlike s t) a (div binary32 x y) B (div-val binary32 x y s a t b B v w) (le-of-lt h) (le-of-eq (same-over-same b B)) (lit< tt)
@@ -214,19 +208,19 @@ div-in x y a b s t v w h =
 
 -- ---- two failed tests bound a finite value
 pub tests-in : (n : ℕ) (bottom top x : Float) (a b : ℕ) → Val binary32 bottom true a → Val binary32 top false b → a ≤ n → b ≤ n →
-    T (fits binary32 x) → T (finite x) → lt x bottom ≡ false → lt top x ≡ false → Within n x
+    T (fits binary32 x) → T (finite x) → lt x bottom ≡ false → lt top x ≡ false → Within binary32 n x
 tests-in n bottom top x a b v w A B p q e g =
-    let c = counted binary32 x p q in record { sign = c .sign; count = c .count; val = c .val; small = go (c .sign) (c .count) (c .val) }
+    let c = counted binary32 x p q in record { sign = c .sign; count = c .count; val = c .val; most = go (c .sign) (c .count) (c .val) }
   where
     go : (s : Bool) (c : ℕ) → Val binary32 x s c → c ≤ n
     go true c u = le-trans (ltb-false a c (sym (lt-val binary32 x bottom true c true a u v) ∙ e)) A
     go false c u = le-trans (ltb-false b c (sym (lt-val binary32 top x false b false c w u) ∙ g)) B
 
 -- ---- a last product may overflow: of two finite values no NaN comes
-pub mul-number : {a b : ℕ} {x y : Float} → Within a x → Within b y → T (not (isNan (mul binary32 x y)))
+pub mul-number : {a b : ℕ} {x y : Float} → Within binary32 a x → Within binary32 b y → T (not (isNan (mul binary32 x y)))
 mul-number {a} {b} {x} {y} h k =
     sized-no-nan binary32 (mul binary32 x y) (lib.Ieee.unlike (h .sign) (k .sign)) (G binary32 (L * L) (h .count * k .count))
     (mul-size binary32 x y (h .sign) (h .count) (k .sign) (k .count) (h .val) (k .val))
 
-pub within-number : {n : ℕ} {x : Float} → Within n x → T (not (isNan x))
+pub within-number : {n : ℕ} {x : Float} → Within binary32 n x → T (not (isNan x))
 within-number {n} {x} h = finite-number x (within-finite h)

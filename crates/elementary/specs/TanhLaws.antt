@@ -25,7 +25,8 @@ use Rattle.floats.specs.ProductLaws.{mul-val}
 use Rattle.floats.specs.RemLaws.{nought-val}
 use Rattle.elementary.specs.Elementary.{capped, raised, above, under, scale, bigM, tanhRest, tanh}
 use Rattle.elementary.specs.SelectLaws.{clamped-inside, clamped-number, clamped-fits}
-use Rattle.elementary.specs.SizeLaws.{L, Within, within-finite, sum-in, add-in, sub-in, mul-in, constant, unitsOf, Near, off, tests-in}
+use Rattle.floats.specs.WithinLaws.{Within, within-finite}
+use Rattle.elementary.specs.SizeLaws.{L, sum-in, add-in, sub-in, mul-in, constant, unitsOf, Near, off, tests-in}
 use Rattle.elementary.specs.NumberLaws.{unit-number, byte-of, bigM-units, bigM-val}
 
 -- ---- steps that may have an infinity in them
@@ -117,14 +118,14 @@ some-left z t u b k c m C e v h p = go (fraction-sized binary32 u k c)
 abbrev qOf : Float → Float → Float
 qOf l r = let z = r ⊗ r in z ⊗ (lit 0x3eaa_aa7a ⊕ z ⊗ minus 0x3cb5_1554) ⊖ l ⊗ r
 
-q-in : {l r : Float} → Within L l → Within (2 ^ 155) r → Within (2 ^ 175) (qOf l r)
+q-in : {l r : Float} → Within binary32 L l → Within binary32 (2 ^ 155) r → Within binary32 (2 ^ 175) (qOf l r)
 unfolding lib.Ieee.size ofBits neg fits
 q-in hl hr =
     let hz = mul-in (2 ^ 161) hr hr tt in
     let hp = add-in (2 ^ 162) (constant L (lit 0x3eaa_aa7a) tt) (mul-in (2 ^ 161) hz (constant L (minus 0x3cb5_1554) tt) tt) tt in
     sub-in (2 ^ 175) (mul-in (2 ^ 174) hz hp tt) (mul-in (2 ^ 155) hl hr tt) tt
 
-q-zero : {l r : Float} → Within L l → Within 0 r → Within 0 (qOf l r)
+q-zero : {l r : Float} → Within binary32 L l → Within binary32 0 r → Within binary32 0 (qOf l r)
 unfolding lib.Ieee.size ofBits neg fits
 q-zero hl hr =
     let hz = mul-in 0 hr hr tt in
@@ -162,22 +163,22 @@ minus-one q s t n b v w z = go s v (ltb L n) (ltb→lt L n) (nltb→le L n)
     ]
 
 -- so where the divisor is zero the dividend is not
-module _ (l r : Float) (hl : Within L l) (hr : Within (2 ^ 155) r) where
-  dividend-in : Within (2 ^ 182) (r ⊗ qOf l r ⊕ nought)
+module _ (l r : Float) (hl : Within binary32 L l) (hr : Within binary32 (2 ^ 155) r) where
+  dividend-in : Within binary32 (2 ^ 182) (r ⊗ qOf l r ⊕ nought)
   unfolding lib.Ieee.size ofBits fits
   dividend-in = add-in (2 ^ 182) (mul-in (2 ^ 181) hr (q-in hl hr) tt) (constant 0 nought tt) tt
 
-  divisor-in : Within (2 ^ 176) (one ⊕ qOf l r)
+  divisor-in : Within binary32 (2 ^ 176) (one ⊕ qOf l r)
   unfolding lib.Ieee.size ofBits fits
   divisor-in = add-in (2 ^ 176) (constant L one tt) (q-in hl hr) tt
 
   abbrev q : Float
   q = qOf l r
 
-  hq : Within (2 ^ 175) q
+  hq : Within binary32 (2 ^ 175) q
   hq = q-in hl hr
 
-  product-in : Within (2 ^ 181) (r ⊗ q)
+  product-in : Within binary32 (2 ^ 181) (r ⊗ q)
   unfolding lib.Ieee.size
   product-in = mul-in (2 ^ 181) hr hq tt
 
@@ -186,9 +187,9 @@ module _ (l r : Float) (hl : Within L l) (hr : Within (2 ^ 155) r) where
     where
       go : (a : ℕ) → hr .count ≡ a → 0 < hr .count
       go zero g =
-          let h = q-zero hl (record { sign = hr .sign; count = hr .count; val = hr .val; small = le-of-eq g }) in
+          let h = q-zero hl (record { sign = hr .sign; count = hr .count; val = hr .val; most = le-of-eq g }) in
           absurd (lt-irrefl 0 (lt-of-lt-of-le (pow-pos 149)
-          (le-trans (le-of-eq (sym e ∙ val-unique binary32 q (hq .sign) (hq .count) (h .sign) (h .count) (hq .val) (h .val))) (h .small))))
+          (le-trans (le-of-eq (sym e ∙ val-unique binary32 q (hq .sign) (hq .count) (h .sign) (h .count) (hq .val) (h .val))) (h .most))))
       go (suc a) g = subst (λ (y : ℕ). 0 < y) (sym g) (some a)
         where
           some : (a : ℕ) → 0 < suc a
@@ -290,7 +291,7 @@ bottom-val : Val binary32 (minus 0x4114_0000) true (37 * 2 ^ 147)
 unfolding ofBits neg
 bottom-val = (refl, refl)
 
-cut-in : (x : Float) → T (fits binary32 x) → T (not (isNan x)) → Within (2 ^ 153) (raised (capped x (lit 0x4114_0000)) (minus 0x4114_0000))
+cut-in : (x : Float) → T (fits binary32 x) → T (not (isNan x)) → Within binary32 (2 ^ 153) (raised (capped x (lit 0x4114_0000)) (minus 0x4114_0000))
 unfolding lt ofBits neg fits isNan
 cut-in x p n =
     let i = clamped-inside (minus 0x4114_0000) (lit 0x4114_0000) refl refl refl x in
@@ -298,7 +299,8 @@ cut-in x p n =
     (clamped-number x (lit 0x4114_0000) (minus 0x4114_0000) n tt tt)
     (i .low) (i .high)
   where
-    plain : (x : Float) → T (fits binary32 x) → T (not (isNan x)) → lt x (minus 0x4114_0000) ≡ false → lt (lit 0x4114_0000) x ≡ false → Within (2 ^ 153) x
+    plain : (x : Float) → T (fits binary32 x) → T (not (isNan x)) → lt x (minus 0x4114_0000) ≡ false → lt (lit 0x4114_0000) x ≡ false →
+        Within binary32 (2 ^ 153) x
     plain nan p n e g = absurd n
     plain (inf true) p n e g = absurd (true≢false e)
     plain (inf false) p n e g = absurd (true≢false g)
@@ -380,7 +382,7 @@ module _ (x : Float) (p : T (fits binary32 x)) (n : T (not (isNan x))) where
   abbrev r : Float
   r = raised (capped x (lit 0x4114_0000)) (minus 0x4114_0000) ⊖ (v ⊖ bigM) ⊗ lit 0x3eb1_7218
 
-  r-in : Within (2 ^ 155) r
+  r-in : Within binary32 (2 ^ 155) r
   unfolding lib.Ieee.size ofBits fits
   r-in =
       let hk = off bigM bigM-units step bigM-val (lit< tt) (12583016, 149, lit< tt, refl, lit< tt) (12583062, 149, lit< tt, refl, lit< tt) hv tt in

@@ -187,7 +187,7 @@ root-units-above f N s e = go _ _
         pick false l g = ap (λ (z : Float). lt z (fin s zero e)) (over f q k (g tt)) ∙ inf-above (fin s zero e)
 
 -- ---- every value
-nan-none : (x : Float) → lt x nan ≡ false
+pub nan-none : (x : Float) → lt x nan ≡ false
 unfolding lt
 nan-none nan = refl
 nan-none (inf s) = refl

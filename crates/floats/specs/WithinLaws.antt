@@ -20,14 +20,14 @@ use Rattle.floats.specs.NarrowOrderLaws.{G, fraction-sized}
 use Rattle.floats.specs.ProductLaws.{mul-val, div-val}
 
 -- x is finite and at most n units in size
-pub record Within (f : Format) (x : Float) (n : ℕ) : Type 0 where
+pub record Within (f : Format) (n : ℕ) (x : Float) : Type 0 where
   pub sign : Bool
   pub count : ℕ
   pub val : Val f x sign count
   pub most : count ≤ n
 
-pub within-finite : (f : Format) (x : Float) (n : ℕ) → Within f x n → T (finite x)
-within-finite f x n w = finite-of-val f x (w .sign) (w .count) (w .val)
+pub within-finite : {f : Format} {n : ℕ} {x : Float} → Within f n x → T (finite x)
+within-finite {f} {n} {x} w = finite-of-val f x (w .sign) (w .count) (w .val)
 
 pub rep-pow : (f : Format) (n : ℕ) → n < low f + suc (emax f) → Rep f (2 ^ n)
 rep-pow f n h = (1, n, few f, sym (one-mul (2 ^ n)), pow-lt h)
@@ -37,7 +37,7 @@ rep-pow f n h = (1, n, few f, sym (one-mul (2 ^ n)), pow-lt h)
     few binary64 = lit≤ tt
 
 -- a / c rounded, where it is at most n units
-pub round-within : (f : Format) (s : Bool) (a c n : ℕ) → 0 < c → Rep f n → a * 2 ^ low f ≤ n * c → Within f (round f s a c) n
+pub round-within : (f : Format) (s : Bool) (a c n : ℕ) → 0 < c → Rep f n → a * 2 ^ low f ≤ n * c → Within f n (round f s a c)
 round-within f s a c n C r h = pick (fraction-sized f s a c)
   where
     x : Float
@@ -63,7 +63,7 @@ round-within f s a c n C r h = pick (fraction-sized f s a c)
         (sized-no-nan f y false n top) (round-mono f a c n (2 ^ low f) C (pow-pos (low f)) h))
         (le-of-eq (rank-is f y false n top))))
 
-    pick : Sized f (round f s a c) s (G f c a) → Within f (round f s a c) n
+    pick : Sized f (round f s a c) s (G f c a) → Within f n (round f s a c)
     pick (inl v) = record { sign = s; count = G f c a; val = v .0; most = under }
     pick (inr v) = absurd (lt-irrefl (overflow f) (lt-of-le-of-lt (subst (λ (z : ℕ). z ≤ n) (v .1) under) (r .4)))
 
@@ -71,9 +71,9 @@ round-within f s a c n C r h = pick (fraction-sized f s a c)
 module _ (f : Format) where
   -- |x| at most 2 ^ a units and |y| at most 2 ^ b
   pub mul-within :
-      (x y : Float) (a b n : ℕ) → Within f x (2 ^ a) → Within f y (2 ^ b) → a + b ≡ low f + n → n < low f + suc (emax f) → Within f (mul f x y) (2 ^ n)
+      (x y : Float) (a b n : ℕ) → Within f (2 ^ a) x → Within f (2 ^ b) y → a + b ≡ low f + n → n < low f + suc (emax f) → Within f (2 ^ n) (mul f x y)
   mul-within x y a b n v w e h =
-      subst (λ (z : Float). Within f z (2 ^ n)) (sym (mul-val f x y (v .sign) (v .count) (w .sign) (w .count) (v .val) (w .val)))
+      subst (λ (z : Float). Within f (2 ^ n) z) (sym (mul-val f x y (v .sign) (v .count) (w .sign) (w .count) (v .val) (w .val)))
       (round-within f (unlike (v .sign) (w .sign)) (v .count * w .count) (2 ^ low f * 2 ^ low f) (2 ^ n) (mul-pos (pow-pos (low f)) (pow-pos (low f)))
       (rep-pow f n h)
       (le-trans (mul-le-mul-right (2 ^ low f) (mul-le-mul (v .most) (w .most)))
@@ -82,20 +82,20 @@ module _ (f : Format) where
 
   -- |x| at most 2 ^ a units, and |y| at least 2 ^ b
   pub div-within :
-      (x y : Float) (a b n : ℕ) (t : Bool) (c : ℕ) → Within f x (2 ^ a) → Val f y t c → 2 ^ b ≤ c → a + low f ≡ n + b → n < low f + suc (emax f) →
-      Within f (div f x y) (2 ^ n)
+      (x y : Float) (a b n : ℕ) (t : Bool) (c : ℕ) → Within f (2 ^ a) x → Val f y t c → 2 ^ b ≤ c → a + low f ≡ n + b → n < low f + suc (emax f) →
+      Within f (2 ^ n) (div f x y)
   div-within x y a b n t c v w m e h =
       let C : 0 < c = lt-of-lt-of-le (pow-pos b) m in
-      subst (λ (z : Float). Within f z (2 ^ n)) (sym (div-val f x y (v .sign) (v .count) t c C (v .val) w))
+      subst (λ (z : Float). Within f (2 ^ n) z) (sym (div-val f x y (v .sign) (v .count) t c C (v .val) w))
       (round-within f (unlike (v .sign) t) (v .count) c (2 ^ n) C (rep-pow f n h)
       (le-trans (mul-le-mul-right (2 ^ low f) (v .most))
       (le-trans (le-of-eq (sym (pow-add 2 a (low f)) ∙ ap (λ (z : ℕ). 2 ^ z) e ∙ pow-add 2 n b)) (mul-le-mul-left (2 ^ n) m))))
 
-  sum-within : (s : Bool) (a : ℕ) (t : Bool) (b n : ℕ) → Rep f n → a + b ≤ n → Within f (sum f s a t b (2 ^ low f)) n
+  sum-within : (s : Bool) (a : ℕ) (t : Bool) (b n : ℕ) → Rep f n → a + b ≤ n → Within f n (sum f s a t b (2 ^ low f))
   unfolding sum
   sum-within s a t b n r h = go (Bool·beq s t) (ltb a b)
     where
-      each : (u : Bool) (k : ℕ) → k ≤ n → Within f (round f u k (2 ^ low f)) n
+      each : (u : Bool) (k : ℕ) → k ≤ n → Within f n (round f u k (2 ^ low f))
       each u k g = round-within f u k (2 ^ low f) n (pow-pos (low f)) r (mul-le-mul-right (2 ^ low f) g)
 
       less : (p q : ℕ) → p + q ≤ n → p - q ≤ n
@@ -105,14 +105,14 @@ module _ (f : Format) where
       more p q g = omega arith
 
       go : (p q : Bool) →
-          Within f (cond p (round f s (a + b) (2 ^ low f)) (cond q (round f t (b - a) (2 ^ low f)) (round f (s && ltb b a) (a - b) (2 ^ low f)))) n
+          Within f n (cond p (round f s (a + b) (2 ^ low f)) (cond q (round f t (b - a) (2 ^ low f)) (round f (s && ltb b a) (a - b) (2 ^ low f))))
       go true q = each s (a + b) h
       go false true = each t (b - a) (more a b h)
       go false false = each (s && ltb b a) (a - b) (less a b h)
 
-  pub sub-within : (x y : Float) (a b n : ℕ) → Within f x a → Within f y b → Rep f n → a + b ≤ n → Within f (sub f x y) n
+  pub sub-within : (x y : Float) (a b n : ℕ) → Within f a x → Within f b y → Rep f n → a + b ≤ n → Within f n (sub f x y)
   sub-within x y a b n v w r h =
-      subst (λ (z : Float). Within f z n) (sym (sub-val f x y (v .sign) (v .count) (w .sign) (w .count) (v .val) (w .val)))
+      subst (λ (z : Float). Within f n z) (sym (sub-val f x y (v .sign) (v .count) (w .sign) (w .count) (v .val) (w .val)))
       (sum-within (v .sign) (v .count) (not (w .sign)) (w .count) n r (both (v .count) (w .count) (v .most) (w .most)))
     where
       both : (p q : ℕ) → p ≤ a → q ≤ b → p + q ≤ n

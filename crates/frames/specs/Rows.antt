@@ -14,7 +14,8 @@ use Rattle.solver_axes.specs.Canonical.{wrapToTau, arc, placed, axesSettled, ca
 use Rattle.solver_axes.specs.declared.Axes.{Axes}
 use Rattle.solver_elimination.specs.Solve.{Matrix, augmented, larger, pivotRow, unusable, reduced, cleared, clear}
 use Rattle.floats.specs.Rows.{Row}
-use Rattle.solver_elimination.specs.Solve.{topRow, columned, stopped, solve4x4, axisError, bothErrors, axisStdErrors, standingBy, bothStanding, standing, estimate}
+use Rattle.solver_elimination.specs.Solve.{topRow, columned, stopped, solve4x4, axisError, bothErrors, axisStdErrors}
+use Rattle.solver_elimination.specs.Solve.{standingBy, bothStanding, standing, estimate}
 use Rattle.solver_elimination.specs.declared.Solved.{Solved}
 use Rattle.solver_elimination.specs.declared.Solved.the-variants.{Values, Failed}
 use Rattle.solver_elimination.specs.declared.Estimate.{Estimate}
@@ -100,7 +101,8 @@ pub rows-to-prove : (
     )
 unfolding combineEdgePair canonicalizeTrackingSwap axesSettled placed wrapToTau arc remEuclid validPair lineSeparation lineDelta signedLineDelta abs
     negative before max min sqrt rootUnits wholeRoot degenerateFit iter range solve4x4 augmented larger pivotRow unusable reduced cleared clear topRow
-    columned stopped axisError bothErrors axisStdErrors standingBy bothStanding standing floor bin tab whole sinRest cosRest quadrant sinCosNear turn sinCos degenerate fitWithSeed
+    columned stopped axisError bothErrors axisStdErrors standingBy bothStanding standing
+    floor bin tab whole sinRest cosRest quadrant sinCosNear turn sinCos degenerate fitWithSeed
     wavedBy waves harmonic secondHarmonic total deviations fitIsSuspicious fitRing wildFrom firstWild checkedRing isHex allHex
     byteOf wordOf valuesOf byteText countText wordText wordsText answerOf shapeOf typedShape ringShape ringText toUnsigned ofBits toBits ofInt add sub
     mul div rem neg lt le eq isNan round size toRadians ringLooked bytes codes zipWith

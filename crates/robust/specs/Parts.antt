@@ -1,4 +1,5 @@
--- What the contracts of crates/robust speak of besides the definitions: the lent buffers, and the code's own starts, which do not keep their sums. Definitions only.
+-- What the contracts of crates/robust speak of besides the definitions: the lent buffers, and the code's own starts, which keep no sums.
+-- Definitions only.
 use mathlib.Core.Path.{_≡_}
 use mathlib.Core.Option.{Option, none, some}
 use Prim.Native.Nat.{ℕ, _+_, _*_, _≤_}

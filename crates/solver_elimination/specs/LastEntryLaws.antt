@@ -34,23 +34,23 @@ use Rattle.solver_elimination.specs.WideLaws.{at-scaled, at-reduced}
 use Rattle.solver_elimination.specs.PivotLaws.{Best, best, Pivot, usable, no-larger}
 
 -- ---- what a column makes of a right side of at most 2 ^ b units
-weaker : {x : Float} {a b : ℕ} → a ≤ b → Within binary32 x a → Within binary32 x b
+weaker : {x : Float} {a b : ℕ} → a ≤ b → Within binary32 a x → Within binary32 b x
 weaker h w = record { sign = w .sign; count = w .count; val = w .val; most = le-trans (w .most) h }
 
 one-is : one ≡ fin false 1 (pos 0)
 unfolding ofBits
 one-is = refl
 
-one-within : Within binary32 one (2 ^ 149)
+one-within : Within binary32 (2 ^ 149) one
 one-within =
-    subst (λ (x : Float). Within binary32 x (2 ^ 149)) (sym one-is)
+    subst (λ (x : Float). Within binary32 (2 ^ 149) x) (sym one-is)
     (record { sign = false; count = 2 ^ 149; val = (refl, refl); most = le-refl (2 ^ 149) })
 
-nought-within : Within binary32 nought (2 ^ 149)
-nought-within = subst (λ (x : Float). Within binary32 x (2 ^ 149)) (sym zero32) (record { sign = false; count = 0; val = (refl, refl); most = lit≤ tt })
+nought-within : Within binary32 (2 ^ 149) nought
+nought-within = subst (λ (x : Float). Within binary32 (2 ^ 149) x) (sym zero32) (record { sign = false; count = 0; val = (refl, refl); most = lit≤ tt })
 
 module _ (p : Float) (w : Pivot p) (b : ℕ) (from : 149 ≤ b) (below : b < 200) where
-  scaled-within : (x : Float) → Within binary32 x (2 ^ b) → Within binary32 (x ⊗ (one ⊘ p)) (2 ^ (b + 149 - w .e))
+  scaled-within : (x : Float) → Within binary32 (2 ^ b) x → Within binary32 (2 ^ (b + 149 - w .e)) (x ⊗ (one ⊘ p))
   scaled-within x v =
       let h = w .from in
       let k = w .below in
@@ -60,8 +60,8 @@ module _ (p : Float) (w : Pivot p) (b : ℕ) (from : 149 ≤ b) (below : b < 200
 
   -- f is no larger than p, which is at most twice its power of two: so the product is within twice the bound
   reduced-within :
-      (r f x : Float) → Within binary32 r (2 ^ b) → Within binary32 f (w .count) → Within binary32 x (2 ^ b) →
-      Within binary32 (r ⊖ f ⊗ (x ⊗ (one ⊘ p))) (2 ^ suc (suc b))
+      (r f x : Float) → Within binary32 (2 ^ b) r → Within binary32 (w .count) f → Within binary32 (2 ^ b) x →
+      Within binary32 (2 ^ suc (suc b)) (r ⊖ f ⊗ (x ⊗ (one ⊘ p)))
   reduced-within r f x u g v =
       let k = w .below in
       sub-within binary32 r (f ⊗ (x ⊗ (one ⊘ p))) (2 ^ b) (2 ^ suc b) (2 ^ suc (suc b)) u
@@ -75,10 +75,10 @@ Dead r = (j : ℕ) → at r j ≡ nan
 
 record Good (b : ℕ) (r : Row) : Type 0 where
   held : (j : ℕ) → T (fits binary32 (at r j))
-  small : Dead r ⊎ Within binary32 (at r 4) (2 ^ b)
+  small : Dead r ⊎ Within binary32 (2 ^ b) (at r 4)
 
 -- a row with a number in it is not all NaN
-alive : (b : ℕ) (r : Row) (j : ℕ) (s : Bool) (n : ℕ) → Good b r → Val binary32 (at r j) s n → Within binary32 (at r 4) (2 ^ b)
+alive : (b : ℕ) (r : Row) (j : ℕ) (s : Bool) (n : ℕ) → Good b r → Val binary32 (at r j) s n → Within binary32 (2 ^ b) (at r 4)
 alive b r j s n g v = elim (g .small) [ inl d ↦ absurd (subst (λ (y : Float). Val binary32 y s n) (d j) v) | inr w ↦ w ]
 
 spoilt : (x y : Float) → cond (eq nan nought) x (x ⊖ nan ⊗ y) ≡ nan
@@ -93,19 +93,19 @@ abbrev leading : Row → ℕ → Row
 leading top i = S.scaled top (one ⊘ at top i)
 
 module _ (b : ℕ) (from : 149 ≤ b) (below : b < 200) (top : Row) (i : ℕ) (w : Pivot (at top i)) (t : Good b top) where
-  top-small : Within binary32 (at top 4) (2 ^ b)
+  top-small : Within binary32 (2 ^ b) (at top 4)
   top-small = alive b top i (w .sign) (w .count) t (w .val)
 
   leading-finite : T (finite (at (leading top i) 4))
   leading-finite =
       rw (at-scaled top (one ⊘ at top i) 4)
-      (within-finite binary32 (at top 4 ⊗ (one ⊘ at top i)) (2 ^ (b + 149 - w .e)) (scaled-within (at top i) w b from below (at top 4) top-small))
+      (within-finite (scaled-within (at top i) w b from below (at top 4) top-small))
 
-  small-reduced : (r : Row) → Within binary32 (at r i) (w .count) → Within binary32 (at r 4) (2 ^ b) →
-      Within binary32 (at (S.reduced r (leading top i) (at r i)) 4) (2 ^ suc (suc b))
+  small-reduced : (r : Row) → Within binary32 (w .count) (at r i) → Within binary32 (2 ^ b) (at r 4) →
+      Within binary32 (2 ^ suc (suc b)) (at (S.reduced r (leading top i) (at r i)) 4)
   small-reduced r f s = rw (at-reduced r (leading top i) (at r i) 4, at-scaled top (one ⊘ at top i) 4) (go (eq (at r i) nought))
     where
-      go : (c : Bool) → Within binary32 (cond c (at r 4) (at r 4 ⊖ at r i ⊗ (at top 4 ⊗ (one ⊘ at top i)))) (2 ^ suc (suc b))
+      go : (c : Bool) → Within binary32 (2 ^ suc (suc b)) (cond c (at r 4) (at r 4 ⊖ at r i ⊗ (at top 4 ⊗ (one ⊘ at top i))))
       go true = weaker (pow-mono (omega arith)) s
       go false = reduced-within (at top i) w b from below (at r 4) (at r i) (at top 4) s f top-small
 
@@ -234,7 +234,7 @@ stays e s zero h = s
 stays e s (suc n) h = column-stays n (iter S.column e n) h (stays e s n (omega arith))
 
 -- ---- the right side 0, 0, 0, 1, of which no entry is above 1
-unit-row : (r : Row) (b : Float) → ((j : ℕ) → j < 4 → T (fits binary32 (at r j))) → T (fits binary32 b) → Within binary32 b (2 ^ 149) →
+unit-row : (r : Row) (b : Float) → ((j : ℕ) → j < 4 → T (fits binary32 (at r j))) → T (fits binary32 b) → Within binary32 (2 ^ 149) b →
     Good 149 (S.augmentedRow r b)
 unit-row r b h f w = record { held = held; small = inr w }
   where

@@ -19,6 +19,7 @@ use Rattle.floats.specs.UnitLaws.{Val, lt-val}
 use Rattle.floats.specs.RoundingLaws.{counted}
 use Rattle.floats.specs.SignLaws.{abs-fits, abs-val}
 use Rattle.floats.specs.RankLaws.{rankOf, rank-lt, not-lt→rank, lt-no-nan}
+use Rattle.floats.specs.RootOrderLaws.{nan-none}
 use Rattle.floats.specs.WithinLaws.{Within}
 use Rattle.loops.specs.Loops.{range}
 use Rattle.loops.specs.IterLaws.{range-start, range-next}
@@ -31,12 +32,6 @@ unfolding lt abs
 lt-self nan = refl
 lt-self (inf s) = refl
 lt-self (fin s m e) = let a = m * up e * down e in le-ltb a a (le-refl a)
-
-lt-nan : (x : Float) → lt x nan ≡ false
-unfolding lt
-lt-nan nan = refl
-lt-nan (inf s) = refl
-lt-nan (fin s m e) = refl
 
 -- what is not above x is not above a y that is: a NaN is above neither
 passed : (x y z : Float) → T (fits binary32 x) → T (fits binary32 y) → T (fits binary32 z) → T (lt x y) → lt x z ≡ false → lt y z ≡ false
@@ -51,7 +46,7 @@ passed x y z p q r h e = go z r e
         (le-of-lt (ltb→lt (rankOf binary32 x) (rankOf binary32 y) (subst T (rank-lt binary32 x y p q (k .0) (k .1)) h))))
 
     go : (z : Float) → T (fits binary32 z) → lt x z ≡ false → lt y z ≡ false
-    go nan r e = lt-nan y
+    go nan r e = nan-none y
     go (inf s) r e = number (inf s) r e (unfold isNan in tt)
     go (fin s m d) r e = number (fin s m d) r e (unfold isNan in tt)
 
@@ -163,7 +158,7 @@ usable p h u =
     powered p (k .sign) (k .count) (k .val) (le-trans (lit≤ tt) g) (k .rep .4)
 
 -- ---- what is not above a finite p in size has no more units, or is a NaN
-pub no-larger : (p x : Float) (t : Bool) (c : ℕ) → Val binary32 p t c → T (fits binary32 x) → lt (abs p) (abs x) ≡ false → (x ≡ nan) ⊎ Within binary32 x c
+pub no-larger : (p x : Float) (t : Bool) (c : ℕ) → Val binary32 p t c → T (fits binary32 x) → lt (abs p) (abs x) ≡ false → (x ≡ nan) ⊎ Within binary32 c x
 no-larger p nan t c v h e = inl refl
 no-larger p (inf s) t c v h e = absurd (true≢false (sym (below-inf p v) ∙ e))
   where

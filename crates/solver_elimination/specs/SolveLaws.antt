@@ -101,7 +101,8 @@ module _ (ssr : Float) where
 
   known-both : (s t : Solved) → T (finite ssr) → FiniteAt 2 s → FiniteAt 3 t → bothStanding ssr s t .known ≡ true
   unfolding bothStanding standingBy
-  known-both s t h u v = rw (u .solved, v .solved, is-true (finite ssr) h, is-true (finite (at (u .solution) 2)) (u .value), is-true (finite (at (v .solution) 3)) (v .value))
+  known-both s t h u v =
+      rw (u .solved, v .solved, is-true (finite ssr) h, is-true (finite (at (u .solution) 2)) (u .value), is-true (finite (at (v .solution) 3)) (v .value))
 
 -- Errors are known exactly if that holds.
 module _ (m : Matrix) (ssr : Float) (n : ℕ) where

@@ -47,15 +47,15 @@ firstSide Neither = Failed
 firstSide (Both a0 a1 a2 a3 b0 b1 b2 b3) = Values a0 a1 a2 a3
 
 -- ---- both errors with their standing: without an inverse PI, and not known
-abbrev pub nothing : Estimate
-nothing = record { errors = unknown; standing = unfounded }
+abbrev pub noEstimate : Estimate
+noEstimate = record { errors = unknown; standing = unfounded }
 
 abbrev pub bothEstimated : Float → Float → Solved → Solved → Estimate
 bothEstimated ssr v s t = record { errors = bothErrors v s t; standing = bothStanding ssr s t }
 
 -- by the entries on the inverse's diagonal
 abbrev pub estimateBy : Float → Float → Sides → Estimate
-estimateBy ssr v Neither = nothing
+estimateBy ssr v Neither = noEstimate
 estimateBy ssr v (Both a0 a1 a2 a3 b0 b1 b2 b3) =
     record { errors = record { error1 = axisError v a2; error2 = axisError v b3 }; standing = standingBy ssr a2 b3 }
 

@@ -7,8 +7,10 @@ use Prim.Native.Nat.{ℕ, zero, suc, _+_, _<_}
 use native.Mathlib.Omega.{arith}
 use lib.ListN.{getD, drop, set, List·getD-map}
 use lib.Dec.{eqb}
-use lib.Ieee.{Float, nan, binary32, add, sub, mul, neg, eq}
-use Rattle.floats.specs.Ops.{_⊖_, _⊗_, _⊘_, nought, one}
+use lib.Ieee.{Float, nan, binary32, add, sub, mul, div, neg, lt, eq, ofBits, round, size}
+use Rattle.floats.specs.Ops.{_⊖_, _⊗_, _⊘_, lit, nought, one}
+use Rattle.floats.specs.Library.{abs}
+use Rattle.loops.specs.Loops.{iter, range}
 use Rattle.floats.specs.Rows.{Row, at}
 use Rattle.floats.specs.NanLaws.{add-nan, mul-nan}
 use Rattle.loops.specs.IterLaws.{iter-related, range-same}
@@ -16,7 +18,18 @@ use Rattle.solver_elimination.specs.declared.Solved.{Solved}
 use Rattle.solver_elimination.specs.declared.Solved.the-variants.{Values, Failed}
 use Rattle.solver_elimination.specs.Solve as S
 use Rattle.solver_elimination.specs.Solve.{Matrix, Elim, gone, going}
-use Rattle.solver_elimination.specs.Wide.{RowCarried, Carried, widenedRow, widened, rightSide, eliminated, failed, sides, firstSide, bothEstimated, estimateBy}
+use Rattle.solver_elimination.specs.Wide.{RowCarried, Carried, widenedRow, widened, rightSide, eliminated, failed, sides, firstSide}
+use Rattle.solver_elimination.specs.Wide.{bothEstimated, estimateBy}
+
+-- ---- one case by its values: column 0 has its pivot in the last row, which holds the second side's 1, and is exchanged with the first
+abbrev turned : Matrix
+turned = (nought ∷ nought ∷ nought ∷ one ∷ []) ∷ (nought ∷ one ∷ nought ∷ nought ∷ []) ∷ (nought ∷ nought ∷ one ∷ nought ∷ []) ∷
+    (lit 0x4000_0000 ∷ nought ∷ nought ∷ nought ∷ []) ∷ []
+
+pub second-side-case : S.columnOf 5 (eliminated (widened turned S.unit2 S.unit3)) ≡ Values (lit 0x3f00_0000) nought nought nought
+unfolding widened iter range S.larger S.pivotRow S.unusable S.reduced S.cleared S.clear S.topRow S.columned S.stopped zipWith abs add sub mul div
+    neg lt eq ofBits round size
+second-side-case = refl
 
 -- ---- entries: outside a row all is NaN, and what is made of a NaN is one
 pub at-scaled : (r : Row) (f : Float) (j : ℕ) → at (S.scaled r f) j ≡ at r j ⊗ f

@@ -220,8 +220,8 @@ pub fn unfounded() -> Standing
 }
 
 // No errors to be had: PI stands in their place.
-fn nothing() -> Estimate
-    ensures { λ r. ⌜ r ≡ W.nothing ⌝ }
+fn no_estimate() -> Estimate
+    ensures { λ r. ⌜ r ≡ W.noEstimate ⌝ }
 {
     let errors = Errors {
         error1: floats::PI,
@@ -245,7 +245,7 @@ fn both_errors(jtj: &[[f32; 4]; 4], ssr: f32, v: f32) -> Estimate
 {
     let sides = eliminate(jtj, 0.0, 0.0, 1.0, 0.0, 0.0, 0.0, 0.0, 1.0);
     let Sides::Both(_, _, c2, _, _, _, _, c3) = sides else {
-        return nothing();
+        return no_estimate();
     };
     let error1 = axis_error(v, c2);
     let error2 = axis_error(v, c3);
@@ -259,7 +259,7 @@ pub fn axis_std_errors(jtj: &[[f32; 4]; 4], ssr: f32, n: usize) -> Estimate
     ensures { λ r. ⌜ r ≡ S.estimate (now (jtj .entry)) ssr n ⌝ }
 {
     if n <= 4 {
-        return nothing();
+        return no_estimate();
     }
     both_errors(jtj, ssr, ssr / floats::count_f32(n - 4))
 }

@@ -148,7 +148,8 @@ pub struct RingFit {
     pub first_updates: u32,
     /// Updates of the second start: 0 to 6, and 0 where there was none.
     pub second_updates: u32,
-    /// Whether the errors are known. Where they are not, both are PI.
+    /// Whether the errors are known: estimated, with nothing on the way that is not finite. A known error of PI is an
+    /// estimate of PI or more. Where they are not known, no estimate stands in the two, be it PI or 0.
     pub errors_known: bool,
 }
 
@@ -258,7 +259,8 @@ pub struct DiskFit {
     pub error2: f32,
     /// Pairs of axes that were tried: at most 144.
     pub trials: u32,
-    /// Whether the errors are known. Where they are not, both are PI.
+    /// Whether the errors are known: estimated, with nothing on the way that is not finite. A known error of PI is an
+    /// estimate of PI or more. Where they are not known, no estimate stands in the two, be it PI or 0.
     pub errors_known: bool,
 }
 

@@ -47,6 +47,14 @@ fn a_known_ring_of_24_has_its_bits() {
     assert_eq!((fit.starts, fit.first_updates, fit.second_updates, fit.errors_known), (2, 5, 3, true));
 }
 
+/// One sample of 1 and one angle of 100: both errors are estimated above PI, capped there, and known.
+#[test]
+fn capped_errors_are_known() {
+    let (mut samples, mut angles) = ([0.0; RING_SAMPLES], [0.0; RING_SAMPLES]);
+    (samples[8], angles[7]) = (1.0, 100.0);
+    assert_eq!(fit_ring(&samples, &angles).unwrap().errors(), Some([PI, PI]));
+}
+
 #[test]
 fn axes_are_found_again() {
     let edge = |a: f32, axis: f32| (4.0 * (a - axis.to_radians()).sin()).tanh();

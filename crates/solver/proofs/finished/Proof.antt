@@ -9,7 +9,8 @@ unfolding S.finished
 returns c = let a = c .before in
     let r = a .before in
     let n = r .before in
-    rw (c .assembled .ensures, a .canonicalize-tracking-swap .ensures .0, r .sqrt .ensures, n .count-f32 .ensures, n .before .before .before .axis-std-errors .ensures)
+    let e = n .before .before .before in
+    rw (c .assembled .ensures, a .canonicalize-tracking-swap .ensures .0, r .sqrt .ensures, n .count-f32 .ensures, e .axis-std-errors .ensures)
 
 pub finished-spec : {M : Type 1} → statement M
 finished-spec =

@@ -9,7 +9,7 @@ use Rattle.solver_elimination.proofs.axis_std_errors.Tie as tie
 returns : tie.Need-returns
 unfolding axisStdErrors standing
 returns c = let b = c .before in
-    rw (le-leb (b .before .args .n) 4 (omega (arith, b .if1 .taken))) (c .nothing .ensures)
+    rw (le-leb (b .before .args .n) 4 (omega (arith, b .if1 .taken))) (c .no-estimate .ensures)
 
 returns-2 : tie.Need-returns-2
 unfolding axisStdErrors standing

@@ -8,7 +8,7 @@ use Rattle.solver_elimination.proofs.both_errors.Tie as tie
 
 returns : tie.Need-returns
 returns c =
-    c .nothing .ensures ∙ ap (estimateBy _ _) (sym (c .before .enum-told .given .1) ∙ c .before .before .before .eliminate .ensures) ∙
+    c .no-estimate .ensures ∙ ap (estimateBy _ _) (sym (c .before .enum-told .given .1) ∙ c .before .before .before .eliminate .ensures) ∙
     sym (estimate-by _ _ _ _)
 
 returns-2 : tie.Need-returns-2
