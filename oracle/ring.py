@@ -8,6 +8,7 @@ lines: sine, cosine, tanh, atan2, square root, radians, elimination (40), errors
 (43), allowed pairs (51), suspicion (61). So the functions here are generators, which yield lines and are sent the answers;
 `side_by_side` runs many of them, and asks for a step of all of them at once. Values that overflow are not provided for.
 """
+import math
 import struct
 
 QUARTER_PI = 0x3F490FDB
@@ -91,12 +92,23 @@ def normal(samples, points, parameters):
     return "".join(map(word, matrix)), "".join(map(word, right)), summed(product(r, r) for r in residuals)
 
 
+def known(matrix, ssr, n):
+    """Whether the errors of a last pass are known: docs/RULES.md, Known. A unit column's solution has its own entry on the
+    diagonal of the inverse."""
+    finite = n > 4 and math.isfinite(ssr)
+    for column in (2, 3):
+        unit = "".join(word(float(row == column)) for row in range(4))
+        solved = yield from asked("40" + matrix + unit)
+        finite = finite and solved != "00000000" and math.isfinite(value(solved[8 + 8 * column:16 + 8 * column]))
+    return finite
+
+
 def start(samples, angles, parameters, variance):
-    """The words of a fit from a seed (mu, amp, theta1, theta2), and its updates."""
+    """The words of a fit from a seed (mu, amp, theta1, theta2), its updates, and whether its errors are known."""
     n, updates = len(samples), 0
     if abs(parameters[1]) < SMALL or variance < FAINT:
         fit = yield from asked("42" + word(variance))
-        return fit, 0
+        return fit, 0, False
     points = yield from sine_and_cosine(angles)
     while True:
         matrix, right, ssr = yield from normal(samples, points, parameters)
@@ -114,7 +126,8 @@ def start(samples, angles, parameters, variance):
     _, amp, theta1, theta2 = parameters
     axes = yield from asked("43" + word(theta1) + word(theta2) + word(amp))
     errors = errors[8:] + errors[:8] if axes[24:] == "00000001" else errors
-    return axes[16:24] + axes[:16] + errors + word(rms), updates
+    standing = yield from known(matrix, ssr, n)
+    return axes[16:24] + axes[:16] + errors + word(rms), updates, standing
 
 
 def scored(deviations, square, mean, first, second):
@@ -154,7 +167,7 @@ def grid(deviations, angles, mean):
 
 
 def fit(samples, angles):
-    """The answer to function line 60, or 65."""
+    """The answer to function line 60, or 65, and whether the errors are known."""
     n = len(samples)
     mean = rounded(summed(samples) / n)
     deviations = [rounded(sample - mean) for sample in samples]
@@ -162,15 +175,15 @@ def fit(samples, angles):
     theta, amp = yield from harmonic(deviations, angles)
     quarter = value(f"{QUARTER_PI:08x}")
     seed = [mean, amp, rounded(theta + quarter), rounded(theta + product(3.0, quarter))]
-    answer, first = yield from start(samples, angles, seed, variance)
+    answer, first, standing = yield from start(samples, angles, seed, variance)
     suspicious = yield from asked("61" + answer)
     if suspicious == "00000000":
-        return f"{answer}{1:08x}{first:08x}{0:08x}"
+        return f"{answer}{1:08x}{first:08x}{0:08x}", standing
     seed = yield from grid(deviations, angles, mean)
-    other, second = yield from start(samples, angles, seed, variance)
+    other, second, at_second = yield from start(samples, angles, seed, variance)
     if value(other[40:]) < rounded(value(answer[40:]) - MARGIN):
-        answer = other
-    return f"{answer}{2:08x}{first:08x}{second:08x}"
+        answer, standing = other, at_second
+    return f"{answer}{2:08x}{first:08x}{second:08x}", standing
 
 
 def side_by_side(works, answer):
