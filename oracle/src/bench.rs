@@ -245,7 +245,7 @@ pub fn bench(list: &List, program: Option<&str>) -> Result<bool, String> {
 fn frames_of(group: &Group, list: &List) -> Vec<Frame> {
     let lines = (0..list.count).map(|index| list.line(index));
     let sized = lines.filter(|line| matches!(pixels_of(line), Some(n) if group.pixels[0] <= n && n <= group.pixels[1]));
-    let held = sized.filter(|line| matches!(answer(line).outcome, Outcome::Fit(_, counts) if (group.holds)(&counts)));
+    let held = sized.filter(|line| matches!(answer(line).outcome, Outcome::Fit(_, counts, _) if (group.holds)(&counts)));
     held.filter_map(|line| parse(&line).ok()).take(group.frames).collect()
 }
 
