@@ -303,7 +303,8 @@ def title(samples, fit):
         return tag("tspan", content, dx=10, **look)
 
     def axis_part(name, theta, error, colour):
-        fan = f" \u00b1 {say_angle(error, 2)}" if fit.known else ""
+        more = " or more" if error >= math.pi else ""   # an estimate above PI is capped
+        fan = f" \u00b1 {say_angle(error, 2)}{more}" if fit.known else ""
         return part(f"axis {name} at {say_angle(theta)}{fan}", fill=colour, font_weight="bold")
 
     parts = [f"amplitude {say(fit.amp)}", *map(axis_part, "12", fit.thetas, fit.errors, AXES)]
