@@ -90,7 +90,7 @@ module _ (f : Format) where
   unfolding isNan
   round-number s a c = rounded-signed Number s a c tt (λ m e. tt)
 
-  round-clear : (a c : ℕ) → Clear (round f false a c)
+  pub round-clear : (a c : ℕ) → Clear (round f false a c)
   round-clear a c = rounded-signed Clear false a c refl (λ m e. refl)
 
   sum-number : (s : Bool) (a : ℕ) (t : Bool) (b c : ℕ) → Number (sum f s a t b c)

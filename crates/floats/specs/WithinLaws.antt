@@ -1,23 +1,25 @@
 -- Rounding keeps the order and changes nothing at a held number, so a rounded result is no larger than a held number which the exact one does not
 -- pass. With powers of two for the bounds, those of products, quotients and differences follow from the operands'. Assumes nothing.
-use mathlib.Core.Path.{_≡_, sym, ap, _∙_, subst}
+use mathlib.Core.Path.{_≡_, refl, sym, ap, _∙_, subst}
 use mathlib.Core.Logic.{inl, inr}
-use Prim.Native.Nat.{ℕ, suc, _+_, _-_, _*_, _^_, _≤_, _<_}
+use Prim.Native.Nat.{ℕ, zero, suc, _+_, _-_, _*_, _^_, _≤_, _<_}
 use native.Mathlib.Nat.{le-trans, le-of-eq, lt-irrefl, lt-of-le-of-lt, lt-of-lt-of-le, one-mul, mul-comm, mul-assoc, mul-pos, mul-le-mul, mul-le-mul-left}
-use native.Mathlib.Nat.{mul-le-mul-right}
+use native.Mathlib.Nat.{mul-le-mul-right, zero-mul, mul-zero, zero-lt-suc}
 use native.Mathlib.Omega.{arith}
 use mathlib.Core.Bool.{Bool, true, false, not, _&&_, Bool·beq, cond}
 use lib.Dec.{T, ltb, lit≤}
 use lib.Pow.{pow-add, pow-pos, pow-lt}
-use lib.Ieee.{Float, Format, binary32, binary64, prec, emax, low, unlike, round, sum, sub, mul, div}
-use lib.Ieee.Fits.{round-fits}
+use lib.IntN.{ℤ}
+use lib.Ieee.{Float, nan, inf, fin, Format, binary32, binary64, prec, emax, low, up, down, unlike, round, sum, sub, mul, div}
+use lib.Ieee.Fits.{round-fits, up-pos, down-pos}
 use lib.Ieee.Order.{round-mono}
 use lib.Ieee.Scale.{overflow, finite}
 use Rattle.floats.specs.UnitLaws.{Val, sub-val}
-use Rattle.floats.specs.RoundingLaws.{Rep, round-R, R-exact, finite-of-val}
+use Rattle.floats.specs.RoundingLaws.{Rep, rep-zero, round-R, R-exact, finite-of-val}
 use Rattle.floats.specs.RankLaws.{Sized, rank-is, le→rank, sized-no-nan}
 use Rattle.floats.specs.NarrowOrderLaws.{G, fraction-sized}
 use Rattle.floats.specs.ProductLaws.{mul-val, div-val}
+use Rattle.floats.specs.SquareSumLaws.{Upright, clear-upright, round-clear}
 
 -- x is finite and at most n units in size
 pub record Within (f : Format) (n : ℕ) (x : Float) : Type 0 where
@@ -117,3 +119,38 @@ module _ (f : Format) where
     where
       both : (p q : ℕ) → p ≤ a → q ≤ b → p + q ≤ n
       both p q g k = omega arith
+
+-- ---- the product of what is finite and not below zero is not below zero
+-- nothing is made of nothing
+none-upright : (f : Format) (x : Float) → Within f 0 x → Upright x
+none-upright f nan w = absurd (w .val)
+none-upright f (inf s) w = absurd (w .val)
+none-upright f (fin s zero e) w = λ t. refl
+none-upright f (fin s (suc m) e) w =
+    absurd (never (w .count) (w .most) (suc m * up e * 2 ^ low f) (mul-pos (mul-pos (zero-lt-suc m) (up-pos e)) (pow-pos (low f))) (w .val .1))
+  where
+    never : (c : ℕ) → c ≤ 0 → (n : ℕ) → 0 < n → n ≡ c * down e → ⊥
+    never zero h n p q = lt-irrefl 0 (subst (λ (z : ℕ). 0 < z) (q ∙ zero-mul (down e)) p)
+
+nothing : (f : Format) (s : Bool) (a c : ℕ) → 0 < c → a ≡ 0 → Upright (round f s a c)
+nothing f s a c p z = none-upright f (round f s a c) (round-within f s a c 0 p (rep-zero f) (le-of-eq (rw z (zero-mul (2 ^ low f) ∙ sym (zero-mul c)))))
+
+down-both : (e d : ℤ) → 0 < down e * down d
+down-both e d = mul-pos (down-pos e) (down-pos d)
+
+pub mul-upright : (f : Format) (x y : Float) → T (finite x) → T (finite y) → Upright x → Upright y → Upright (mul f x y)
+unfolding mul
+mul-upright f nan y p q h k = absurd p
+mul-upright f (inf s) y p q h k = absurd p
+mul-upright f (fin s m e) nan p q h k = absurd q
+mul-upright f (fin s m e) (inf t) p q h k = absurd q
+mul-upright f (fin false m e) (fin false n d) p q h k =
+    let a = m * up e * (n * up d) in clear-upright (round f false a (down e * down d)) (round-clear f a (down e * down d))
+mul-upright f (fin false m e) (fin true n d) p q h k = nothing f true (m * up e * (n * up d)) (down e * down d) (down-both e d) (right (k tt))
+  where
+    right : n ≡ 0 → m * up e * (n * up d) ≡ 0
+    right z = rw (z, zero-mul (up d)) (mul-zero (m * up e))
+mul-upright f (fin true m e) (fin t n d) p q h k = nothing f (unlike true t) (m * up e * (n * up d)) (down e * down d) (down-both e d) (left (h tt))
+  where
+    left : m ≡ 0 → m * up e * (n * up d) ≡ 0
+    left z = rw (z, zero-mul (up e)) (zero-mul (n * up d))

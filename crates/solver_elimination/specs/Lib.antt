@@ -4,3 +4,4 @@ pub mod Wide
 pub mod WideLaws
 pub mod PivotLaws
 pub mod LastEntryLaws
+pub mod CappedLaws
