@@ -22,8 +22,8 @@ use Rattle.elementary.specs.Elementary.{raised, above, unit, scale, whol
 use Rattle.elementary.specs.Elementary.{sinCos}
 use Rattle.elementary.specs.Elementary.{left, ratio, atanRest, size, signed, octant}
 use Rattle.elementary.specs.SelectLaws.{clamped-number}
-use Rattle.floats.specs.WithinLaws.{Within}
-use Rattle.elementary.specs.SizeLaws.{L, add-in, sub-in, mul-in, neg-in, more-in, cond-in, constant, Near, near, off, div-in, tests-in}
+use Rattle.floats.specs.WithinLaws.{Within, within-more}
+use Rattle.elementary.specs.SizeLaws.{L, add-in, sub-in, mul-in, neg-in, cond-in, constant, Near, near, off, div-in, tests-in}
 use Rattle.elementary.specs.SizeLaws.{mul-number, within-number}
 
 -- ---- constants in units
@@ -355,7 +355,8 @@ octant-in : {c : Float} (steep back : Bool) → Within binary32 (2 ^ 158) c → 
 unfolding octant lib.Ieee.size ofBits fits
 octant-in steep back h =
     cond-in steep (sub-in (2 ^ 160) (constant (2 ^ 151) halfPi tt) (add-in (2 ^ 159) h (constant L (lit 0x333b_bd2e) tt) tt) tt)
-    (cond-in back (add-in (2 ^ 160) (constant (2 ^ 151) pi tt) (sub-in (2 ^ 159) h (constant L (lit 0x33bb_bd2e) tt) tt) tt) (more-in (2 ^ 160) (lit≤ tt) h))
+    (cond-in back (add-in (2 ^ 160) (constant (2 ^ 151) pi tt) (sub-in (2 ^ 159) h (constant L (lit 0x33bb_bd2e) tt) tt) tt)
+    (within-more (2 ^ 160) (lit≤ tt) h))
 
 -- what is clamped at the end of atan2
 abbrev pub atanWide : Float → Float → Float

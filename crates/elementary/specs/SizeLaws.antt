@@ -1,15 +1,14 @@
--- Sizes: `Within binary32 n x` says that x is a finite f32 of at most n units of 2 ^ -149. A sum, a difference or a product of two such values has a bound
--- that is computed from theirs,
--- so a chain of steps with crude bounds below the infinity is finite, and no NaN arises in it. Assumes nothing.
+-- Sizes: `Within binary32 n x` says that x is a finite f32 of at most n units of 2 ^ -149. A sum, a difference or a product of two such values has a
+-- bound that is computed from theirs, so a chain of steps with crude bounds below the infinity is finite, and no NaN arises in it. Assumes nothing.
 use mathlib.Core.Path.{_≡_, refl, sym, ap, subst, _∙_}
 use mathlib.Core.Logic.{inl, inr}
-use mathlib.Core.Bool.{Bool, true, false, cond, not, _&&_, Bool·beq}
+use mathlib.Core.Bool.{Bool, true, false, cond, not, _&&_}
 use Prim.Native.Nat.{ℕ, _+_, _-_, _*_, _/_, _^_, _≤_, _<_}
-use native.Mathlib.Nat.{le-refl, le-trans, le-of-eq, le-of-lt, lt-of-le-of-lt, lt-irrefl, mul-comm, mul-pos, mul-le-mul, mul-div-cancel}
+use native.Mathlib.Nat.{le-trans, le-of-eq, le-of-lt, lt-of-le-of-lt, mul-comm, mul-pos, mul-le-mul, mul-div-cancel}
 use native.Mathlib.Omega.{arith}
 use lib.Dec.{T, leb, ltb, leb→le, ltb→lt, nltb→le, lit<}
 use lib.Pow.{pow-pos}
-use lib.Ieee.{Float, nan, inf, fin, binary32, up, down, round, sum, add, sub, mul, div, neg, lt, fits, isNan}
+use lib.Ieee.{Float, nan, inf, fin, binary32, up, down, round, add, sub, mul, div, neg, lt, fits, isNan}
 use lib.Ieee.Fits.{and-l, and-r, down-pos}
 use lib.Ieee.Scale.{overflow, finite, round-same}
 use borrow.Author.Tests.{ltb-false}
@@ -20,7 +19,7 @@ use Rattle.floats.specs.NarrowOrderLaws.{G, G-mono, fraction-sized}
 use Rattle.floats.specs.NonNegLaws.{sum-same, sum-np-lt, sum-pn-ge, sum-pn-lt}
 use Rattle.floats.specs.ProductLaws.{mul-val, mul-size, div-val}
 use Rattle.floats.specs.FiniteLaws.{finite-number}
-use Rattle.floats.specs.WithinLaws.{Within, within-finite}
+use Rattle.floats.specs.WithinLaws.{Within, within-finite, rounded-within, sum-rounded}
 
 -- 1 in units
 abbrev pub L : ℕ
@@ -33,37 +32,13 @@ StepBelow n c m = T (leb (G binary32 c m) n && ltb n (overflow binary32))
 pub rounded-up :
     (n c m : ℕ) (s : Bool) (a : ℕ) (x : Float) → 0 < c → x ≡ round binary32 s a c → a ≤ m → G binary32 c m ≤ n → n < overflow binary32 →
     Within binary32 n x
-rounded-up n c m s a x C e h g room = go (fraction-sized binary32 s a c)
-  where
-    up-to : G binary32 c a ≤ n
-    up-to = le-trans (G-mono binary32 c a m C h) g
-
-    go : Sized binary32 (round binary32 s a c) s (G binary32 c a) → Within binary32 n x
-    go (inl v) = record { sign = s; count = G binary32 c a; val = subst (λ (z : Float). Val binary32 z s (G binary32 c a)) (sym e) (v .0); most = up-to }
-    go (inr v) = absurd (lt-irrefl (overflow binary32) (lt-of-le-of-lt (le-trans (le-of-eq (sym (v .1))) up-to) room))
+rounded-up n c m s a x C e h g room =
+    subst (λ (z : Float). Within binary32 n z) (sym e) (rounded-within binary32 s a c n (le-trans (G-mono binary32 c a m C h) g) room)
 
 rounded-in : (n c m : ℕ) (s : Bool) (a : ℕ) (x : Float) → 0 < c → x ≡ round binary32 s a c → a ≤ m → StepBelow n c m → Within binary32 n x
 rounded-in n c m s a x C e h t =
     rounded-up n c m s a x C e h (leb→le (G binary32 c m) n (and-l (leb (G binary32 c m) n) (ltb n (overflow binary32)) t))
     (ltb→lt n (overflow binary32) (and-r (leb (G binary32 c m) n) (ltb n (overflow binary32)) t))
-
--- a sum of signed sizes is one, rounded, and no larger than both together
-pub sum-in : (s : Bool) (a : ℕ) (t : Bool) (b c : ℕ) → (u : Bool) × (k : ℕ) × (sum binary32 s a t b c ≡ round binary32 u k c) × (k ≤ a + b)
-unfolding sum
-sum-in s a t b c = go (Bool·beq s t) (ltb a b)
-  where
-    less : (a b : ℕ) → b - a ≤ a + b
-    less a b = omega arith
-
-    less' : (a b : ℕ) → a - b ≤ a + b
-    less' a b = omega arith
-
-    go : (p q : Bool) → (u : Bool) × (k : ℕ) ×
-        (cond p (round binary32 s (a + b) c) (cond q (round binary32 t (b - a) c) (round binary32 (s && ltb b a) (a - b) c)) ≡ round binary32 u k c)
-        × (k ≤ a + b)
-    go true q = (s, a + b, refl, le-refl (a + b))
-    go false true = (t, b - a, refl, less a b)
-    go false false = (s && ltb b a, a - b, refl, less' a b)
 
 both : (a b c d : ℕ) → a ≤ c → b ≤ d → a + b ≤ c + d
 both a b c d h k = omega arith
@@ -71,14 +46,14 @@ both a b c d h k = omega arith
 module _ (n : ℕ) {a b : ℕ} {x y : Float} (h : Within binary32 a x) (k : Within binary32 b y) where
   pub add-in : StepBelow n L (a + b) → Within binary32 n (add binary32 x y)
   add-in t =
-      let r = sum-in (h .sign) (h .count) (k .sign) (k .count) L in
+      let r = sum-rounded binary32 (h .sign) (h .count) (k .sign) (k .count) L in
       rounded-in n L (a + b) (r .0) (r .1) (add binary32 x y) (pow-pos 149)
       (add-val binary32 x y (h .sign) (h .count) (k .sign) (k .count) (h .val) (k .val) ∙ r .2)
       (le-trans (r .3) (both (h .count) (k .count) a b (h .most) (k .most))) t
 
   pub sub-in : StepBelow n L (a + b) → Within binary32 n (sub binary32 x y)
   sub-in t =
-      let r = sum-in (h .sign) (h .count) (not (k .sign)) (k .count) L in
+      let r = sum-rounded binary32 (h .sign) (h .count) (not (k .sign)) (k .count) L in
       rounded-in n L (a + b) (r .0) (r .1) (sub binary32 x y) (pow-pos 149)
       (sub-val binary32 x y (h .sign) (h .count) (k .sign) (k .count) (h .val) (k .val) ∙ r .2)
       (le-trans (r .3) (both (h .count) (k .count) a b (h .most) (k .most))) t
@@ -90,9 +65,6 @@ module _ (n : ℕ) {a b : ℕ} {x y : Float} (h : Within binary32 a x) (k : With
 
 pub neg-in : {n : ℕ} {x : Float} → Within binary32 n x → Within binary32 n (neg x)
 neg-in {n} {x} h = record { sign = not (h .sign); count = h .count; val = neg-val binary32 x (h .sign) (h .count) (h .val); most = h .most }
-
-pub more-in : (n : ℕ) {m : ℕ} {x : Float} → m ≤ n → Within binary32 m x → Within binary32 n x
-more-in n l h = record { sign = h .sign; count = h .count; val = h .val; most = le-trans (h .most) l }
 
 pub cond-in : {n : ℕ} (b : Bool) {x y : Float} → Within binary32 n x → Within binary32 n y → Within binary32 n (cond b x y)
 cond-in true h k = h

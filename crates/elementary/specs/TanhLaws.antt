@@ -18,23 +18,21 @@ use lib.Ieee.Scale.{finite}
 use Rattle.floats.specs.Ops.{_⊕_, _⊖_, _⊗_, _⊘_, lit, minus, nought, one}
 use Rattle.floats.specs.UnitLaws.{Val, add-val, lt-val}
 use Rattle.floats.specs.RoundingLaws.{counted, val-unique}
-use Rattle.floats.specs.RankLaws.{Sized, sized-no-nan}
+use Rattle.floats.specs.RankLaws.{Sized}
 use Rattle.floats.specs.NarrowOrderLaws.{G, G-mono, fraction-sized}
 use Rattle.floats.specs.NonNegLaws.{sum-same, sum-np-gt, sum-pn-ge, sum-pn-lt}
 use Rattle.floats.specs.ProductLaws.{mul-val}
 use Rattle.floats.specs.RemLaws.{nought-val}
 use Rattle.elementary.specs.Elementary.{capped, raised, above, under, scale, bigM, tanhRest, tanh}
 use Rattle.elementary.specs.SelectLaws.{clamped-inside, clamped-number, clamped-fits}
-use Rattle.floats.specs.WithinLaws.{Within, within-finite}
-use Rattle.elementary.specs.SizeLaws.{L, sum-in, add-in, sub-in, mul-in, constant, unitsOf, Near, off, tests-in}
+use Rattle.floats.specs.SquareSumLaws.{round-number}
+use Rattle.floats.specs.WithinLaws.{Within, within-finite, sum-rounded}
+use Rattle.elementary.specs.SizeLaws.{L, add-in, sub-in, mul-in, constant, unitsOf, Near, off, tests-in}
 use Rattle.elementary.specs.NumberLaws.{unit-number, byte-of, bigM-units, bigM-val}
 
 -- ---- steps that may have an infinity in them
-rounded-number : (s : Bool) (n c : ℕ) → T (not (isNan (round binary32 s n c)))
-rounded-number s n c = sized-no-nan binary32 (round binary32 s n c) s (G binary32 c n) (fraction-sized binary32 s n c)
-
 sum-number : (s : Bool) (a : ℕ) (t : Bool) (b c : ℕ) → T (not (isNan (sum binary32 s a t b c)))
-sum-number s a t b c = let r = sum-in s a t b c in subst (λ (z : Float). T (not (isNan z))) (sym (r .2)) (rounded-number (r .0) (r .1) c)
+sum-number s a t b c = let r = sum-rounded binary32 s a t b c in subst (λ (z : Float). T (not (isNan z))) (sym (r .2)) (round-number binary32 (r .0) (r .1) c)
 
 -- a finite value and a number: their sum is a number, on either side, and so is a difference
 add-number : (x y : Float) → T (finite x) → T (not (isNan y)) → T (not (isNan (add binary32 x y)))
@@ -81,7 +79,7 @@ nonzero-mul (fin s m e) (inf t) p n = go (eqb m 0) p
     go : (b : Bool) → T (not b) → T (not (isNan (cond b nan (inf (unlike s t)))))
     go true q = absurd q
     go false q = unfold isNan in tt
-nonzero-mul (fin s m e) (fin t k d) p n = rounded-number (unlike s t) (m * up e * (k * up d)) (down e * down d)
+nonzero-mul (fin s m e) (fin t k d) p n = round-number binary32 (unlike s t) (m * up e * (k * up d)) (down e * down d)
 
 -- a quotient of two finite values that are not both zero
 div-number : (x y : Float) (s t : Bool) (a b : ℕ) → Val binary32 x s a → Val binary32 y t b → (b ≡ 0 → 0 < a) → T (not (isNan (div binary32 x y)))
@@ -100,7 +98,7 @@ div-number (fin s' m e) (fin t' n d) s t a b v w h = go (eqb n 0) (eqb m 0) (eqb
 
     go : (p q : Bool) → (T p → n ≡ 0) → (T q → m ≡ 0) →
         T (not (isNan (cond p (cond q nan (inf (unlike s' t'))) (round binary32 (unlike s' t') (m * up e * down d) (n * up d * down e)))))
-    go false q f g = rounded-number (unlike s' t') (m * up e * down d) (n * up d * down e)
+    go false q f g = round-number binary32 (unlike s' t') (m * up e * down d) (n * up d * down e)
     go true false f g = unfold isNan in tt
     go true true f g = absurd (lt-irrefl 0 (subst (λ (z : ℕ). 0 < z) (none m a e (g tt) (v .1)) (h (none n b d (f tt) (w .1)))))
 

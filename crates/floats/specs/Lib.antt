@@ -24,3 +24,4 @@ pub mod RootRangeLaws
 pub mod RootOrderLaws
 pub mod DiscreteLaws
 pub mod WithinLaws
+pub mod UprightLaws

@@ -13,7 +13,7 @@ use lib.Dec.{T, isLe, isEq, ltb, leb→le, ltb→lt, nltb→le, eqb→eq, lit≤
 use lib.Arith.{le→nltb}
 use lib.Pow.{pow-add, pow-pos, pow-mono}
 use lib.Ieee.{Float, nan, inf, fin, Format, binary32, binary64, prec, emax, low, up, down, size, nearest, odd, units, round, ofBits, toBits, fits, neg, ne}
-use lib.Ieee.Fits.{round-is, down-pos, eq→eqb, nearest-le}
+use lib.Ieee.Fits.{round-is, round-fits, nan-fits, inf-fits, down-pos, eq→eqb, nearest-le}
 use lib.Ieee.Digits.{size-le}
 use lib.Ieee.Exact.{units-val}
 use lib.Ieee.Bits.{ofBits-toBits, toBits-lt}
@@ -359,6 +359,12 @@ kept-low-in q b d s e f h = subst (λ (z : ℕ). z < 16777216) (sym (e ∙ ap (c
 pub narrow-nan : (x : Float) → ne x x ≡ true → nan ≡ narrow x
 unfolding narrow
 narrow-nan x d = subst (λ (y : Float). nan ≡ narrow y) (sym (differs-from-itself x (subst T (sym d) tt))) refl
+
+pub narrow-fits : (x : Float) → T (fits binary32 (narrow x))
+unfolding narrow
+narrow-fits nan = nan-fits binary32
+narrow-fits (inf s) = inf-fits binary32 s
+narrow-fits (fin s m e) = round-fits binary32 s (m * up e) (down e)
 
 -- a pattern with the sign's bit
 pub narrow-signed : (x : Float) → T (fits binary64 x) → 2 ^ 63 ≤ toBits binary64 x → neg (narrow (ofBits binary64 (toBits binary64 x - 2 ^ 63))) ≡ narrow x

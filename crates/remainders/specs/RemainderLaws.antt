@@ -4,22 +4,20 @@ use mathlib.Core.Path.{_≡_, refl, sym, ap, _∙_, subst}
 use mathlib.Core.Bool.{Bool, true, false, not, _&&_, false≢true}
 use Prim.Native.Nat.{ℕ, zero, suc, _+_, _-_, _*_, _/_, _%_, _^_, _≤_, _<_, zero-le}
 use native.Mathlib.Nat.{le-refl, le-trans, le-of-eq, le-of-lt, lt-of-lt-of-le, lt-of-le-of-lt, not-le-of-lt, lt-of-not-le, le-of-suc-le-suc, mod-lt}
-use native.Mathlib.Nat.{mod-eq-of-lt, add-mod-left, div-add-mod', mul-add-mod-self-right, add-mul, add-zero, zero-mul, mul-one, mul-assoc, mul-right-comm}
+use native.Mathlib.Nat.{mod-eq-of-lt, add-mod-left, div-add-mod', mul-add-mod-self-right, add-mul, add-zero, zero-mul, mul-assoc, mul-right-comm}
 use native.Mathlib.Nat.{mul-pos, mul-le-mul, mul-le-mul-right, pow-succ', mul-lt-mul-of-pos-right, add-sub-of-le, sub-add-cancel, suc-sub-suc}
 use native.Mathlib.Omega.{arith}
 use lib.IntN.{pos}
 use lib.Dec.{T, ltb, lit<, lit≤}
 use lib.Pow.{pow-add, pow-pos, pow-mono}
-use lib.Ieee.{Float, nan, inf, fin, Format, binary32, prec, low, up, down, unlike, below, neg, sub, mul, rem, round, lt, fits, isNan, ofInt, ofBits, toBits}
+use lib.Ieee.{Float, nan, inf, fin, Format, binary32, prec, low, unlike, below, neg, sub, mul, rem, round, lt, fits, isNan, ofInt, ofBits, toBits}
 use lib.Ieee.Fits.{neg-fits, rem-fits, mul-fits}
 use lib.Ieee.Bits.{ofBits-toBits, toBits-ofBits}
-use lib.Ieee.Exact.{HasValue}
-use lib.Ieee.Back.{round-whole}
 use lib.Ieee.Scale.{round-same, overflow, finite}
 use borrow.Author.Tests.{ltb-true, ltb-false, le-ltb, lt-ltb}
 use Rattle.floats.specs.Ops.{lit, nought}
 use Rattle.floats.specs.FiniteLaws.{zero32, finite-number}
-use Rattle.floats.specs.UnitLaws.{Val, lt-val, neg-val, mod-scale, neg-neg, pos-plus, plus-pos}
+use Rattle.floats.specs.UnitLaws.{Val, count-val, lt-val, neg-val, mod-scale, neg-neg, pos-plus, plus-pos}
 use Rattle.floats.specs.RoundingLaws.{R, Rep, Counted, counted, rep-of, R-exact, val-unique, finite-of-val}
 use Rattle.floats.specs.NonNegLaws.{rounded}
 use Rattle.floats.specs.RemLaws.{rem-exact, pi-val, tau-val, pi-rep, tau-rep}
@@ -116,24 +114,18 @@ sign-is f x s a h v = lt-val f x (fin false 0 (pos 0)) s a false 0 v (refl, zero
     go true = lt-ltb 0 (a + 0) (lt-of-lt-of-le h (le-of-eq (sym (add-zero a))))
 
 -- ---- a whole number times a value, where the format holds the product
-whole-val : (f : Format) (x : Float) (s : Bool) (n : ℕ) → HasValue x s n 1 → Val f x s (n * 2 ^ low f)
-whole-val f nan s n v = v
-whole-val f (inf t) s n v = v
-whole-val f (fin t m e) s n v = (v .0, ap (λ (z : ℕ). z * 2 ^ low f) (sym (mul-one (m * up e)) ∙ v .1) ∙ mul-right-comm n (down e) (2 ^ low f))
-
 unlike-clear : (s : Bool) → unlike false s ≡ s
 unlike-clear true = refl
 unlike-clear false = refl
 
 pub times-val : (f : Format) (y : Float) (s : Bool) (n u : ℕ) → n ≤ 2 ^ prec f → Val f y s u → Rep f (n * u) → Val f (mul f (ofInt f (pos n)) y) s (n * u)
-unfolding ofInt
 times-val f y s n u h w r =
     let l = 2 ^ low f in
-    let x = round f false n 1 in
+    let x = ofInt f (pos n) in
     let e : R f (n * u) ≡ n * u = R-exact f (n * u) r in
     subst (λ (z : ℕ). Val f (mul f x y) s z) e
     (rounded f (mul f x y) s (n * u) (subst (λ (z : ℕ). z < overflow f) (sym e) (r .4))
-    (mul-val f x y false (n * l) s u (whole-val f x false n (round-whole f false n h)) w
+    (mul-val f x y false (n * l) s u (count-val f n h) w
     ∙ ap (λ (z : Bool). round f z (n * l * u) (l * l)) (unlike-clear s)
     ∙ round-same f s (n * l * u) (l * l) (n * u) l (mul-pos (pow-pos (low f)) (pow-pos (low f))) (pow-pos (low f)) (turned n l u)))
   where

@@ -5,7 +5,7 @@ use mathlib.Core.Logic.{_⊎_, inl, inr}
 use mathlib.Core.Bool.{Bool, true, false, not, cond, true≢false}
 use mathlib.Core.List.{List, []}
 use Prim.Native.Nat.{ℕ, zero, suc, _+_, _-_, _*_, _^_, _≤_, _<_}
-use native.Mathlib.Nat.{le-refl, le-trans, le-of-lt, eq-or-lt-of-le}
+use native.Mathlib.Nat.{le-refl, le-of-lt, eq-or-lt-of-le}
 use native.Mathlib.Omega.{arith}
 use lib.IntN.{pos}
 use lib.Dec.{T, T-not, eqb, eqb→eq, eqb-refl, lit≤}
@@ -23,7 +23,7 @@ use Rattle.floats.specs.Rows.{Row, at}
 use Rattle.floats.specs.UnitLaws.{Val}
 use Rattle.floats.specs.NanLaws.{add-nan}
 use Rattle.floats.specs.FiniteLaws.{zero32}
-use Rattle.floats.specs.WithinLaws.{Within, within-finite, rep-pow, mul-within, div-within, sub-within}
+use Rattle.floats.specs.WithinLaws.{Within, within-finite, within-more, rep-pow, mul-within, div-within, sub-within}
 use Rattle.loops.specs.Loops.{iter}
 use Rattle.solver_elimination.specs.declared.Solved.{Solved}
 use Rattle.solver_elimination.specs.declared.Solved.the-variants.{Values, Failed}
@@ -34,9 +34,6 @@ use Rattle.solver_elimination.specs.WideLaws.{at-scaled, at-reduced}
 use Rattle.solver_elimination.specs.PivotLaws.{Best, best, Pivot, usable, no-larger}
 
 -- ---- what a column makes of a right side of at most 2 ^ b units
-weaker : {x : Float} {a b : ℕ} → a ≤ b → Within binary32 a x → Within binary32 b x
-weaker h w = record { sign = w .sign; count = w .count; val = w .val; most = le-trans (w .most) h }
-
 one-is : one ≡ fin false 1 (pos 0)
 unfolding ofBits
 one-is = refl
@@ -65,7 +62,7 @@ module _ (p : Float) (w : Pivot p) (b : ℕ) (from : 149 ≤ b) (below : b < 200
   reduced-within r f x u g v =
       let k = w .below in
       sub-within binary32 r (f ⊗ (x ⊗ (one ⊘ p))) (2 ^ b) (2 ^ suc b) (2 ^ suc (suc b)) u
-      (mul-within binary32 f (x ⊗ (one ⊘ p)) (suc (w .e)) (b + 149 - w .e) (suc b) (weaker (w .most) g) (scaled-within x v)
+      (mul-within binary32 f (x ⊗ (one ⊘ p)) (suc (w .e)) (b + 149 - w .e) (suc b) (within-more (2 ^ suc (w .e)) (w .most) g) (scaled-within x v)
       (omega (arith, k, from)) (omega (arith, below)))
       (rep-pow binary32 (suc (suc b)) (omega (arith, below))) (omega arith)
 
@@ -106,7 +103,7 @@ module _ (b : ℕ) (from : 149 ≤ b) (below : b < 200) (top : Row) (i : ℕ) (w
   small-reduced r f s = rw (at-reduced r (leading top i) (at r i) 4, at-scaled top (one ⊘ at top i) 4) (go (eq (at r i) nought))
     where
       go : (c : Bool) → Within binary32 (2 ^ suc (suc b)) (cond c (at r 4) (at r 4 ⊖ at r i ⊗ (at top 4 ⊗ (one ⊘ at top i))))
-      go true = weaker (pow-mono (omega arith)) s
+      go true = within-more (2 ^ suc (suc b)) (pow-mono (omega arith)) s
       go false = reduced-within (at top i) w b from below (at r 4) (at r i) (at top 4) s f top-small
 
   reduced-good : (r : Row) → Good b r → lt (abs (at top i)) (abs (at r i)) ≡ false → Good (suc (suc b)) (S.reduced r (leading top i) (at r i))
