@@ -4,25 +4,30 @@
 use mathlib.Core.Path.{_≡_, refl, sym, ap, subst, _∙_}
 use mathlib.Core.Bool.{Bool, true, false, cond, not, _&&_, _||_, true≢false, false≢true}
 use mathlib.Core.List.{List}
-use Prim.Native.Nat.{ℕ, _+_, _*_, _≤_, _<_, min}
+use Prim.Native.Nat.{ℕ, _+_, _*_, _^_, _≤_, _<_, min}
 use native.Mathlib.Omega.{arith}
 use lib.ListN.{length, getD, length-append, List·getD-append}
 use lib.Dec.{T, eqb, ltb, eqb→eq}
 use lib.Ieee.{Float, nan, lt, le, eq, isNan}
 use lib.Ieee.Scale.{finite}
+use borrow.Author.Tests.{ltb-false}
 use Rattle.floats.specs.Ops.{nought, pi, tau}
+use Rattle.floats.specs.Rows.{at}
+use Rattle.floats.specs.NarrowLaws.{narrow-fits}
 use Rattle.solver_elimination.specs.Solve.{axisStdErrors}
-use Rattle.solver_elimination.specs.SolveLaws.{KnownErrors, known-only, known-if}
+use Rattle.solver_elimination.specs.Known.{KnownErrors, residualVar, Estimated}
+use Rattle.solver_elimination.specs.SolveLaws.{known-only, known-if}
+use Rattle.solver_elimination.specs.CappedLaws.{known-estimated}
 use Rattle.solver_elimination.specs.declared.Standing.{Standing}
 use Rattle.solver.specs.Solver.{Normal}
 use Rattle.robust.specs.Robust.{Source, ofPass, ofMean, ring, fitRing, ringSum}
 use Rattle.robust.specs.KnownLaws.{StandsOn, ring-stands}
 use Rattle.robust.specs.SoundLaws.{SoundRing, ring-sound}
 use Rattle.robust.specs.Residual.{half, Share}
-use Rattle.robust.specs.ResidualLaws.{ring-tiny, share-16, share-24}
+use Rattle.robust.specs.ResidualLaws.{ring-tiny, ring-sum-upright, share-16, share-24}
 use Rattle.robust.specs.declared.RingFit.{RingFit}
 use Rattle.score.specs.Score.{fitStdErrors, errorMatrix, errorSum, fitStanding, widthsPx}
-use Rattle.score.specs.ScoreLaws.{SoundFit, errors-sound}
+use Rattle.score.specs.ScoreLaws.{SoundFit, errors-sound, error-sum-upright}
 use Rattle.score.specs.declared.Fit.{Fit}
 use Rattle.data.specs.Data.{DiskData, maxTanhPixels}
 use Rattle.search.specs.Search.{bestDiskFit}
@@ -224,6 +229,24 @@ module _ (n : ℕ) (samples angles : List Float) where
         of : (s : Source) → source ≡ s → StandsOn n s (theFit .fit) (theFit .standing)
         of s p = subst (λ (x : Source). StandsOn n x (theFit .fit) (theFit .standing)) p (ring-stands n samples angles)
 
+    -- Where they are known, each is an estimate, of the variance and of its own entry, capped at PI: one that is PI was PI or more.
+    pub ring-estimated : n ≤ 2 ^ 24 → (k : RingKnown) →
+        let v = residualVar (k .last .ssr) n in
+        let c2 = at (k .errors .first .solution) 2 in
+        let c3 = at (k .errors .second .solution) 3 in
+        (w : Bool) × Estimated v (cond w c3 c2) (value 3) × Estimated v (cond w c2 c3) (value 4)
+    ring-estimated few k =
+        let last = k .last in
+        let sum = ring-sum-upright n samples angles last (k .fitted) (k .errors .sum) in
+        let words = ring-error-words .1 last (k .fitted) in
+        let e = ordered (words .0) (known-estimated (last .m) (last .ssr) n (sum .0) (sum .1) few (k .errors)) in
+        (words .0, rw (words .1) (e .0), rw (words .2) (e .1))
+      where
+        ordered : {v c d x y : Float} (w : Bool) → Estimated v c x × Estimated v d y →
+            Estimated v (cond w d c) (cond w y x) × Estimated v (cond w c d) (cond w x y)
+        ordered true e = (e .1, e .0)
+        ordered false e = e
+
     -- the amplitude is NaN or not below zero
     pub ring-amplitude : T (isNan (value 0) || le nought (value 0))
     ring-amplitude = rw values-are (sound .fit .size)
@@ -355,10 +378,11 @@ module _ (D : DiskData) (base0 base1 : Float) where
       go (no-fit u l c g e) = rw e (c, g, missing-bill D base0 base1 u g, missing-leaders D base0 base1 u g)
       go (disk-answered f u l c g e) = no 0 (ap diskNumber e) (λ z. omega arith)
 
-  -- what number 0 means: 3 + 5 n finite values, and the search's own fit with its number of trials and the errors of that fit
+  -- what number 0 means: at most 320 pixels, 3 + 5 n finite values, and the search's own fit with its number of trials and the errors of that fit
   pub record DiskFitted : Type 0 where
     pub fit : Fit
     pub trials : ℕ
+    pub pixels : D .n ≤ maxTanhPixels
     pub length : length disk-inputs ≡ 3 + 5 * D .n
     pub finite : AllFinite disk-inputs
     pub found : bestDiskFit D base0 base1 ≡ Best fit trials
@@ -372,12 +396,18 @@ module _ (D : DiskData) (base0 base1 : Float) where
         no : (m : ℕ) → diskNumber disk-answer ≡ m → (m ≡ 0 → ⊥) → DiskFitted
         no m e f = absurd (f (sym e ∙ zero-number))
 
+        neither : (a b : Bool) → (a || b) ≡ false → b ≡ false
+        neither true b e = absurd (true≢false e)
+        neither false b e = e
+
         go : DiskCase disk-answer → DiskFitted
         go (wrong-count x e) = no 2 (ap diskNumber e) (λ z. omega arith)
         go (wrong-lengths x y e) = no 1 (ap diskNumber e) (λ z. omega arith)
         go (wrong-disk-value p b c f e) = no 3 (ap diskNumber e) (λ z. omega arith)
         go (no-fit u l c g e) = no 4 (ap diskNumber e) (λ z. omega arith)
-        go (disk-answered f u l c g e) = record { fit = f; trials = u; length = disk-total (l .1); finite = c; found = g; answer = e }
+        go (disk-answered f u l c g e) =
+            let pixels = ltb-false maxTanhPixels (D .n) (neither (eqb (D .n) 0) (ltb maxTanhPixels (D .n)) (l .0)) in
+            record { fit = f; trials = u; pixels = pixels; length = disk-total (l .1); finite = c; found = g; answer = e }
 
     abbrev it : DiskFitted
     it = disk-answered-is-the-fit
@@ -441,6 +471,16 @@ module _ (D : DiskData) (base0 base1 : Float) where
     -- the error words are the Rust's, known or not
     pub disk-error-words : (disk-value 9 ≡ fitStdErrors D (it .fit) .error1) × (disk-value 10 ≡ fitStdErrors D (it .fit) .error2)
     disk-error-words = rw disk-values-are (refl, refl)
+
+    -- where they are known, each is an estimate, of the variance and of its own entry, capped at PI
+    pub disk-estimated : (k : KnownErrors (errorMatrix D (it .fit)) (errorSum D (it .fit)) (D .n)) →
+        let v = residualVar (errorSum D (it .fit)) (D .n) in
+        Estimated v (at (k .first .solution) 2) (disk-value 9) × Estimated v (at (k .second .solution) 3) (disk-value 10)
+    unfolding fitStdErrors
+    disk-estimated k =
+        let few = it .pixels in
+        rw (disk-error-words .0, disk-error-words .1)
+        (known-estimated (errorMatrix D (it .fit)) (errorSum D (it .fit)) (D .n) (narrow-fits _) (error-sum-upright D (it .fit)) (omega (arith, few)) k)
 
     -- the amplitude is NaN or not below zero
     pub disk-amplitude : T (isNan (disk-value 3) || le nought (disk-value 3))

@@ -26,7 +26,7 @@ use Rattle.floats.specs.SquareSumLaws.{Number, Upright, Level, clear-upright, u
 use Rattle.floats.specs.SquareSumLaws.{add-number, sub-number, square-clear, add-upright, add-level, upright-above}
 use Rattle.floats.specs.ProductLaws.{div-val}
 use Rattle.floats.specs.NearestRootLaws.{root-nearest}
-use Rattle.floats.specs.FiniteLaws.{of-true}
+use Rattle.floats.specs.FiniteLaws.{of-true, finite-number}
 use Rattle.loops.specs.Loops.{iter}
 use Rattle.loops.specs.IterLaws.{iter-keeps}
 use Rattle.solver.specs.SolverLaws.{run-full, run-stay, run-to}
@@ -280,6 +280,16 @@ start-summed n samples ringPhi seed centeredVar = go (degenerate (seed .amp) cen
     go true = omega arith
     go false = updates-good n samples (sines n ringPhi) (cosines n ringPhi) seed
 
+-- of the answered start too, for every number of samples and all values
+ring-summed : (n : ℕ) (samples ringPhi : Row) → Summed (ring n samples ringPhi .answered .source)
+ring-summed n samples ringPhi =
+    ring-each (λ s. Summed (s .source)) n samples ringPhi (λ seed h. start-summed n samples ringPhi seed (varianceOf n samples (meanOf n samples)))
+
+pub ring-sum-upright : (n : ℕ) (samples ringPhi : Row) (last : Normal) → ring n samples ringPhi .answered .source ≡ ofPass last → T (finite (last .ssr)) →
+    T (fits binary32 (last .ssr)) × Upright (last .ssr)
+ring-sum-upright n samples ringPhi last e p =
+    let good = subst Summed e (ring-summed n samples ringPhi) in (good .0, level-upright (last .ssr) (finite-number (last .ssr) p) (good .1))
+
 -- for every number of samples and all values: what the answered rms was made of
 pub ring-made : (n : ℕ) (samples ringPhi : Row)
     → MadeOf n (varianceOf n samples (meanOf n samples)) (fitRing n samples ringPhi .fit .rms) (ring n samples ringPhi .answered .source)
@@ -309,6 +319,5 @@ module _ (n : ℕ) (share : Share n) where
   ring-tiny samples ringPhi h z =
       let mean = meanOf n samples in
       let upright = deviations-upright n samples mean h (nth-number n share (total n samples) (total-fits n samples) (total-number n samples h)) in
-      let summed = ring-each (λ s. Summed (s .source)) n samples ringPhi (λ seed k. start-summed n samples ringPhi seed (varianceOf n samples mean)) in
-      made-tiny (deviations n samples mean) _ (ring n samples ringPhi .answered .source) (deviations-fit n samples mean) upright summed
-      (ring-made n samples ringPhi) z
+      made-tiny (deviations n samples mean) _ (ring n samples ringPhi .answered .source) (deviations-fit n samples mean) upright
+      (ring-summed n samples ringPhi) (ring-made n samples ringPhi) z

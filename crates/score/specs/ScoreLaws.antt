@@ -9,6 +9,8 @@ use lib.Ieee.{Float, binary32, le, fits}
 use lib.Ieee.Fits.{div-fits}
 use Rattle.floats.specs.Ops.{_⊖_, _⊗_, _⊘_, nought, one}
 use Rattle.floats.specs.Library.{narrow}
+use Rattle.floats.specs.SquareSumLaws.{Upright}
+use Rattle.floats.specs.UprightLaws.{narrow-upright, max-upright}
 use Rattle.geometry.specs.Geometry.{validPair}
 use Rattle.solver_axes.specs.Canonical.{CanonicalRange}
 use Rattle.solver_axes.specs.CanonicalLaws.{canonical-range}
@@ -23,7 +25,7 @@ use Rattle.score.specs.declared.Scored.{Scored}
 use Rattle.score.specs.declared.Scored.the-variants.{Found, Nothing}
 use Rattle.score.specs.declared.Sums.{Sums}
 use Rattle.score.specs.Score as S
-use Rattle.score.specs.Score.{margin, fitOf, cachedSums, scoredSums, scorePairCached, Alignments, precomputeEdgeAlignments, fitStdErrors}
+use Rattle.score.specs.Score.{margin, fitOf, cachedSums, scoredSums, scorePairCached, Alignments, precomputeEdgeAlignments, fitStdErrors, errorSum}
 
 -- ---- what every fit has that a pair's score can answer: P of every fit made of the two axes at the width
 abbrev Every : (Fit → Type 0) → Scored → Type 0
@@ -83,6 +85,11 @@ unfolding fitStdErrors
 errors-sound D fit =
     let m = S.momentsOf (D .n) (D .xs) (D .ys) (D .«vals_centered») fit in
     errors-bounded (S.normal (D .n) m) (narrow (S.residual (D .n) (fit .amp) m)) (D .n)
+
+-- the sum that they are made of is not below zero: the residual is the greater of a difference and 0
+pub error-sum-upright : (D : DiskData) (fit : Fit) → Upright (errorSum D fit)
+unfolding S.residual
+error-sum-upright D fit = narrow-upright _ (max-upright _)
 
 -- ---- the edge sums of a disk of n pixels: t is the total of the m weights, which are as many
 module _

@@ -1,71 +1,37 @@
--- An error is the lesser of a root and PI; of a finite entry and a variance that is finite and not below zero the root is a number, so that an error
--- of PI is what the root was cut to, or was itself. Assumes nothing.
-use mathlib.Core.Path.{_≡_, refl, sym, subst}
-use mathlib.Core.Bool.{Bool, true, false, cond, false≢true}
-use Prim.Native.Nat.{zero, suc, _+_, _*_, _<_}
-use native.Mathlib.Nat.{zero-lt-suc, mul-pos}
+-- A known error is the lesser of a root and PI, and the root is a number, since the variance and the entry are finite and the variance is not below
+-- zero: so an error of PI is what the root was cut to, or was itself. Assumes nothing.
+use mathlib.Core.Path.{refl}
+use Prim.Native.Nat.{ℕ, _-_, _^_, _≤_}
 use native.Mathlib.Omega.{arith}
-use lib.IntN.{pos}
-use lib.Dec.{T, ltb, lt→ltb}
-use lib.Ieee.{Float, nan, inf, fin, binary32, up, down, lt, le, isNan}
-use lib.Ieee.Bits.{is-true}
-use lib.Ieee.Fits.{up-pos}
+use lib.Dec.{T}
+use lib.Ieee.{Float, binary32, fits}
 use lib.Ieee.Scale.{finite}
-use Rattle.floats.specs.Ops.{_⊗_, nought, pi}
-use Rattle.floats.specs.Library.{before, max, sqrt}
-use Rattle.floats.specs.FiniteLaws.{zero32}
+use borrow.Author.Tests.{lt-leb}
+use Rattle.floats.specs.Ops.{_⊗_, nought}
+use Rattle.floats.specs.Library.{max}
+use Rattle.floats.specs.Rows.{at}
 use Rattle.floats.specs.SquareSumLaws.{Upright}
-use Rattle.floats.specs.WithinLaws.{mul-upright}
+use Rattle.floats.specs.UprightLaws.{FiniteUpright, mul-upright, share-upright, max-upright, max-finite}
 use Rattle.floats.specs.RootRangeLaws.{capped-above}
-use Rattle.solver_elimination.specs.Solve.{axisError}
+use Rattle.solver_elimination.specs.Solve.{Matrix, axisError, bothErrors, axisStdErrors}
+use Rattle.solver_elimination.specs.Known.{KnownErrors, residualVar, Estimated}
 
--- the greater of a finite value and 0
-record Raised (x : Float) : Type 0 where
-  size : T (finite x)
-  sign : Upright x
-
-abbrev zero0 : Float
-zero0 = fin false 0 (pos 0)
-
-raised : (c : Float) → T (finite c) → Raised (max c zero0)
-unfolding max isNan
-raised nan p = absurd p
-raised (inf s) p = absurd p
-raised (fin false m e) p = go (before (fin false m e) zero0)
-  where
-    go : (b : Bool) → Raised (cond b zero0 (fin false m e))
-    go true = record { size = tt; sign = λ t. absurd t }
-    go false = record { size = tt; sign = λ t. absurd t }
-raised (fin true zero e) p = go (before (fin true zero e) zero0)
-  where
-    go : (b : Bool) → Raised (cond b zero0 (fin true zero e))
-    go true = record { size = tt; sign = λ t. absurd t }
-    go false = record { size = tt; sign = λ t. refl }
-raised (fin true (suc m) e) p = go (before c zero0) below
-  where
-    c : Float
-    c = fin true (suc m) e
-
-    -- more than nothing below zero
-    less : lt c zero0 ≡ true
-    less =
-        let a = suc m * up e * 1 in
-        let b = 0 * 1 * down e in
-        let some : 0 < a = mul-pos (mul-pos (zero-lt-suc m) (up-pos e)) (zero-lt-suc 0) in
-        unfold lt in is-true (ltb 0 (a + b)) (lt→ltb 0 (a + b) (omega (arith, some)))
-
-    below : before c zero0 ≡ true
-    below = unfold before in rw less
-
-    go : (b : Bool) → b ≡ true → Raised (cond b zero0 c)
-    go true q = record { size = tt; sign = λ t. absurd t }
-    go false q = absurd (false≢true q)
-
-max-raised : (c : Float) → T (finite c) → Raised (max c nought)
-max-raised c p = subst (λ (z : Float). Raised (max c z)) (sym zero32) (raised c p)
-
--- Of a variance that is not below zero and an entry of the inverse, both finite: where the error is PI, the estimate before it was capped was PI or more.
-pub capped-estimate : (v c : Float) → T (finite v) → Upright v → T (finite c) → axisError v c ≡ pi → T (le pi (sqrt binary32 (v ⊗ max c nought)))
+estimated : (v c : Float) → FiniteUpright v → T (finite c) → Estimated v c (axisError v c)
 unfolding axisError
-capped-estimate v c p h q e =
-    let r = max-raised c q in capped-above (v ⊗ max c nought) (mul-upright binary32 v (max c nought) p (r .size) h (r .sign)) e
+estimated v c w q =
+    record {
+      word = refl;
+      capped = capped-above (v ⊗ max c nought) (mul-upright binary32 v (max c nought) (w .size) (max-finite c q) (w .sign) (max-upright c));
+    }
+
+-- both errors, of a residual sum that is not below zero
+pub known-estimated :
+    (m : Matrix) (ssr : Float) (n : ℕ) → T (fits binary32 ssr) → Upright ssr → n ≤ 2 ^ 24 → (k : KnownErrors m ssr n) →
+    let e = axisStdErrors m ssr n in
+    let v = residualVar ssr n in
+    Estimated v (at (k .first .solution) 2) (e .error1) × Estimated v (at (k .second .solution) 3) (e .error2)
+unfolding axisStdErrors bothErrors
+known-estimated m ssr n p h few k =
+    let s = k .samples in
+    let w = share-upright binary32 ssr (n - 4) p (k .sum) h (omega (arith, s)) (omega (arith, few)) in
+    rw (lt-leb n 4 s, k .first .solved, k .second .solved) (estimated _ _ w (k .first .value), estimated _ _ w (k .second .value))

@@ -1,4 +1,5 @@
 pub mod Solve
+pub mod Known
 pub mod SolveLaws
 pub mod Wide
 pub mod WideLaws

@@ -23,6 +23,7 @@ use Rattle.solver_elimination.specs.declared.Solved.{Solved}
 use Rattle.solver_elimination.specs.declared.Solved.the-variants.{Values, Failed}
 use Rattle.solver_elimination.specs.declared.Errors.{Errors}
 use Rattle.solver_elimination.specs.Solve.{Matrix, Elim, gone, going, column, stopped, columned, reduced, solve4x4}
+use Rattle.solver_elimination.specs.Known.{FiniteAt, KnownErrors}
 use Rattle.solver_elimination.specs.Solve.{axisError, unknown, bothErrors, axisStdErrors, unit2, unit3, unfounded, bothStanding, standingBy, standing}
 
 pub reduced-by :
@@ -68,19 +69,6 @@ errors-bounded m ssr n = go (leb n 4)
     go false = both-bounded (ssr ⊘ ofInt binary32 (pos (n - 4))) (solve4x4 m unit2) (solve4x4 m unit3)
 
 -- ---- known
--- an elimination that succeeded, and a finite value k of its solution
-pub record FiniteAt (k : ℕ) (s : Solved) : Type 0 where
-  pub solution : Row
-  pub solved : s ≡ Values (at solution 0) (at solution 1) (at solution 2) (at solution 3)
-  pub value : T (finite (at solution k))
-
--- what is asked of errors that are known: more than four samples, a finite residual sum, and both eliminations with their entry on the diagonal
-pub record KnownErrors (m : Matrix) (ssr : Float) (n : ℕ) : Type 0 where
-  pub samples : 4 < n
-  pub sum : T (finite ssr)
-  pub first : FiniteAt 2 (solve4x4 m unit2)
-  pub second : FiniteAt 3 (solve4x4 m unit3)
-
 module _ (ssr : Float) where
   both-known : (s t : Solved) → bothStanding ssr s t .known ≡ true → T (finite ssr) × FiniteAt 2 s × FiniteAt 3 t
   unfolding bothStanding standingBy
