@@ -14,11 +14,11 @@ use borrow.Author.Tests.{ltb-false}
 use Rattle.floats.specs.Ops.{nought, pi, tau}
 use Rattle.floats.specs.Rows.{at}
 use Rattle.floats.specs.NarrowLaws.{narrow-fits}
-use Rattle.solver_elimination.specs.Solve.{axisStdErrors}
-use Rattle.solver_elimination.specs.Known.{KnownErrors, residualVar, Estimated}
-use Rattle.solver_elimination.specs.SolveLaws.{known-only, known-if}
-use Rattle.solver_elimination.specs.CappedLaws.{known-estimated}
-use Rattle.solver_elimination.specs.declared.Standing.{Standing}
+use Rattle.solver_errors.specs.StdErrors.{axisStdErrors}
+use Rattle.solver_errors.specs.Known.{KnownErrors, residualVar, Estimated}
+use Rattle.solver_errors.specs.StdErrorsLaws.{known-only, known-if}
+use Rattle.solver_errors.specs.CappedLaws.{known-estimated}
+use Rattle.solver_errors.specs.declared.Standing.{Standing}
 use Rattle.solver.specs.Solver.{Normal}
 use Rattle.robust.specs.Robust.{Source, ofPass, ofMean, ring, fitRing, ringSum}
 use Rattle.robust.specs.KnownLaws.{StandsOn, ring-stands}

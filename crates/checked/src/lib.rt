@@ -3,7 +3,7 @@
 use robust::RingFit;
 use score::Fit;
 use search::DiskFit;
-use solver_elimination::Estimate;
+use solver_errors::Estimate;
 ghost use mathlib.Core.Path.{_≡_};
 ghost use Prim.Native.Nat.{_<_, _≤_};
 ghost use lib.ListN.{length};

@@ -14,11 +14,12 @@ use Rattle.solver_axes.specs.Canonical.{wrapToTau, arc, placed, axesSettled, ca
 use Rattle.solver_axes.specs.declared.Axes.{Axes}
 use Rattle.solver_elimination.specs.Solve.{Matrix, augmented, larger, pivotRow, unusable, reduced, cleared, clear}
 use Rattle.floats.specs.Rows.{Row}
-use Rattle.solver_elimination.specs.Solve.{topRow, columned, stopped, solve4x4, axisError, bothErrors, axisStdErrors}
-use Rattle.solver_elimination.specs.Solve.{standingBy, bothStanding, standing, estimate}
+use Rattle.solver_elimination.specs.Solve.{topRow, columned, stopped, solve4x4}
+use Rattle.solver_errors.specs.StdErrors.{axisError, bothErrors, axisStdErrors}
+use Rattle.solver_errors.specs.StdErrors.{standingBy, bothStanding, standing, estimate}
 use Rattle.solver_elimination.specs.declared.Solved.{Solved}
 use Rattle.solver_elimination.specs.declared.Solved.the-variants.{Values, Failed}
-use Rattle.solver_elimination.specs.declared.Estimate.{Estimate}
+use Rattle.solver_errors.specs.declared.Estimate.{Estimate}
 use Rattle.solver.specs.Solver.{degenerateFit, degenerate, fitWithSeed}
 use Rattle.seed.specs.Seed.{wavedBy, waves, harmonic, secondHarmonic}
 use Rattle.robust_grid.specs.Grid.{gridAngle}

@@ -260,7 +260,7 @@ pub extern "C" fn fl_solve_4x4(a: &[[f32; 4]; 4], b: &[f32; 4]) -> Four {
 pub extern "C" fn fl_axis_std_errors(jtj: &[[f32; 4]; 4], ssr: f32, n: usize) -> Two
     requires { ⌜ n < 2 ^ 32 ⌝ }
 {
-    let e = solver_elimination::axis_std_errors(jtj, ssr, n);
+    let e = solver_errors::axis_std_errors(jtj, ssr, n);
     let errors = e.errors;
     Two {
         values: [errors.error1, errors.error2],
@@ -271,7 +271,7 @@ pub extern "C" fn fl_axis_std_errors(jtj: &[[f32; 4]; 4], ssr: f32, n: usize) ->
 pub extern "C" fn fl_axis_std_errors_known(jtj: &[[f32; 4]; 4], ssr: f32, n: usize) -> Known2
     requires { ⌜ n < 2 ^ 32 ⌝ }
 {
-    let e = solver_elimination::axis_std_errors(jtj, ssr, n);
+    let e = solver_errors::axis_std_errors(jtj, ssr, n);
     let errors = e.errors;
     let standing = e.standing;
     Known2 {

@@ -6,8 +6,8 @@ use Prim.Native.Nat.{ℕ}
 use lib.Ieee.{Float}
 use Rattle.floats.specs.Ops.{pi}
 use Rattle.floats.specs.Rows.{Row}
-use Rattle.solver_elimination.specs.Solve.{axisStdErrors, unfounded, standing}
-use Rattle.solver_elimination.specs.declared.Standing.{Standing}
+use Rattle.solver_errors.specs.StdErrors.{axisStdErrors, unfounded, standing}
+use Rattle.solver_errors.specs.declared.Standing.{Standing}
 use Rattle.solver.specs.Solver.{Final, sines, cosines, updates, startFrom, degenerate, degenerateFit, refused, fitWithSeed}
 use Rattle.solver.specs.SoundLaws.{ErrorsOf, finished-errors}
 use Rattle.solver.specs.declared.Params.{Params}

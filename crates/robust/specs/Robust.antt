@@ -12,7 +12,7 @@ use Rattle.floats.specs.Library.{max, toRadians}
 use Rattle.geometry.specs.Geometry.{lineSeparation}
 use Rattle.loops.specs.Loops.{iter, tab}
 use Rattle.solver.specs.Solver.{Normal, sines, cosines, updates, degenerate, fitWithSeed}
-use Rattle.solver_elimination.specs.declared.Standing.{Standing}
+use Rattle.solver_errors.specs.declared.Standing.{Standing}
 use Rattle.solver.specs.declared.Params.{Params}
 use Rattle.solver.specs.declared.TwoAxisFit.{TwoAxisFit}
 use Rattle.seed.specs.Seed.{secondHarmonic, flat}

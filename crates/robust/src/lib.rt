@@ -5,7 +5,7 @@ use seed::Seed;
 use solver::Params;
 use solver::Started;
 use solver::TwoAxisFit;
-use solver_elimination::Standing;
+use solver_errors::Standing;
 ghost use mathlib.Core.Path.{_≡_};
 ghost use mathlib.Core.Bool.{true, cond};
 ghost use lib.ListN.{length};

@@ -11,10 +11,11 @@ use Rattle.elementary.specs.Elementary.{sinCos, tanh}
 use Rattle.elementary.specs.declared.SinCos.{SinCos}
 use Rattle.geometry.specs.Geometry.{validPair}
 use Rattle.solver_axes.specs.Canonical.{canonicalizeTrackingSwap}
-use Rattle.solver_elimination.specs.Solve.{Matrix, axisStdErrors, standing}
-use Rattle.solver_elimination.specs.declared.Errors.{Errors}
-use Rattle.solver_elimination.specs.declared.Standing.{Standing}
-use Rattle.solver_elimination.specs.declared.Estimate.{Estimate}
+use Rattle.solver_elimination.specs.Solve.{Matrix}
+use Rattle.solver_errors.specs.StdErrors.{axisStdErrors, standing}
+use Rattle.solver_errors.specs.declared.Errors.{Errors}
+use Rattle.solver_errors.specs.declared.Standing.{Standing}
+use Rattle.solver_errors.specs.declared.Estimate.{Estimate}
 use Rattle.floats.specs.Rows.{Row, at, count}
 use Rattle.data.specs.Data.{DiskData}
 use Rattle.candidates.specs.declared.CandidateSet.{CandidateSet}

@@ -14,7 +14,7 @@ use Rattle.floats.specs.UprightLaws.{narrow-upright, max-upright}
 use Rattle.geometry.specs.Geometry.{validPair}
 use Rattle.solver_axes.specs.Canonical.{CanonicalRange}
 use Rattle.solver_axes.specs.CanonicalLaws.{canonical-range}
-use Rattle.solver_elimination.specs.SolveLaws.{Bounded, errors-bounded}
+use Rattle.solver_errors.specs.StdErrorsLaws.{Bounded, errors-bounded}
 use Rattle.floats.specs.Rows.{Row, at, count}
 use Rattle.data.specs.Data.{DiskData}
 use Rattle.candidates.specs.declared.CandidateSet.{CandidateSet}

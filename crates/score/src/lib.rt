@@ -1,7 +1,7 @@
 // The score of a pair of axes, the order of fits and the errors of a fit: disk_sector/score.rs.
 use candidates::CandidateSet;
 use elementary::SinCos;
-use solver_elimination::Estimate;
+use solver_errors::Estimate;
 ghost use mathlib.Core.Path.{_≡_};
 ghost use Prim.Native.Nat.{_≤_};
 ghost use lib.Ieee.{Float};
@@ -354,5 +354,5 @@ pub fn fit_std_errors(xs: &[f32], ys: &[f32], vals_centered: &[f32], fit: Fit) -
     let m = moments_of(xs, ys, vals_centered, fit);
     let jtj = normal(n, m);
     let ssr = narrowing::narrow(residual(n, fit.amp, m));
-    solver_elimination::axis_std_errors(&jtj, ssr, n)
+    solver_errors::axis_std_errors(&jtj, ssr, n)
 }

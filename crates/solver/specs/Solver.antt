@@ -11,11 +11,12 @@ use Rattle.floats.specs.Library.{abs, signum, max, sqrt}
 use Rattle.elementary.specs.Elementary.{sinCos, tanh}
 use Rattle.elementary.specs.declared.SinCos.{SinCos}
 use Rattle.loops.specs.Loops.{iter, tab}
-use Rattle.solver_elimination.specs.Solve.{Matrix, solve4x4, axisStdErrors, unfounded, standing}
+use Rattle.solver_elimination.specs.Solve.{Matrix, solve4x4}
+use Rattle.solver_errors.specs.StdErrors.{axisStdErrors, unfounded, standing}
 use Rattle.floats.specs.Rows.{Row, at, count}
 use Rattle.solver_elimination.specs.declared.Solved.{Solved}
 use Rattle.solver_elimination.specs.declared.Solved.the-variants.{Values, Failed}
-use Rattle.solver_elimination.specs.declared.Errors.{Errors}
+use Rattle.solver_errors.specs.declared.Errors.{Errors}
 use Rattle.solver_axes.specs.Canonical.{canonicalizeTrackingSwap}
 use Rattle.solver_axes.specs.declared.Axes.{Axes}
 use Rattle.solver.specs.declared.Params.{Params}

@@ -8,12 +8,13 @@ use lib.Dec.{T}
 use lib.Ieee.{Float, binary32, lt, le, eq, fits, isNan, ofBits}
 use lib.Ieee.Fits.{add-fits}
 use Rattle.floats.specs.Ops.{nought, pi, tau}
-use Rattle.solver_elimination.specs.Solve.{Matrix, solve4x4, axisStdErrors}
+use Rattle.solver_elimination.specs.Solve.{Matrix, solve4x4}
+use Rattle.solver_errors.specs.StdErrors.{axisStdErrors}
 use Rattle.floats.specs.Rows.{Row}
-use Rattle.solver_elimination.specs.SolveLaws.{Bounded, errors-bounded}
+use Rattle.solver_errors.specs.StdErrorsLaws.{Bounded, errors-bounded}
 use Rattle.solver_elimination.specs.declared.Solved.{Solved}
 use Rattle.solver_elimination.specs.declared.Solved.the-variants.{Values, Failed}
-use Rattle.solver_elimination.specs.declared.Errors.{Errors}
+use Rattle.solver_errors.specs.declared.Errors.{Errors}
 use Rattle.solver_axes.specs.Canonical.{canonicalizeTrackingSwap, CanonicalRange}
 use Rattle.solver_axes.specs.CanonicalLaws.{canonical-range}
 use Rattle.solver_axes.specs.declared.Axes.{Axes}

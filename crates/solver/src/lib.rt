@@ -1,9 +1,9 @@
 // The Gauss-Newton fit from a seed: ring_fit/solver.rs, fit_with_seed and degenerate_fit.
 use elementary::SinCos;
 use solver_axes::Axes;
-use solver_elimination::Errors;
 use solver_elimination::Solved;
-use solver_elimination::Standing;
+use solver_errors::Errors;
+use solver_errors::Standing;
 ghost use mathlib.Core.Path.{_≡_};
 ghost use mathlib.Core.Bool.{true};
 ghost use Prim.Native.Nat.{_*_, _^_, _<_, _≤_};
@@ -369,7 +369,7 @@ pub fn refused(centered_var: f32) -> Started
     ensures { λ r. ⌜ r ≡ S.refused «centered_var» ⌝ }
 {
     let fit = degenerate_fit(centered_var);
-    let standing = solver_elimination::unfounded();
+    let standing = solver_errors::unfounded();
     Started {
         fit,
         standing,
@@ -411,7 +411,7 @@ fn finished(p: Params, jtj: &[[f32; 4]; 4], ssr: f32, n: usize, updates: usize) 
     requires { ⌜ n < 2 ^ 32 ⌝ }
     ensures { λ r. ⌜ r ≡ S.startOf n p (now (jtj .entry)) ssr updates ⌝ }
 {
-    let e = solver_elimination::axis_std_errors(jtj, ssr, n);
+    let e = solver_errors::axis_std_errors(jtj, ssr, n);
     let errors = e.errors;
     let standing = e.standing;
     let rms = roots::sqrt(ssr / floats::count_f32(n));

@@ -1,30 +1,17 @@
--- A column with a usable pivot is one turn more, and one without ends the elimination whatever follows.
--- Errors lie from 0 to PI for every matrix, and they are known exactly if what is asked of them holds. Assumes nothing.
+-- A column with a usable pivot is one turn more, and one without ends the elimination whatever follows. Assumes nothing.
 use mathlib.Core.Path.{_≡_, refl}
-use mathlib.Core.Bool.{Bool, true, false, cond, _&&_, false≢true}
+use mathlib.Core.Bool.{true, false}
 use Prim.Native.Nat.{ℕ, _+_, _-_, _<_}
 use native.Mathlib.Omega.{arith}
-use lib.Dec.{T, leb, nleb→lt}
-use lib.Ieee.Bits.{is-true}
-use lib.Ieee.Scale.{finite}
-use borrow.Author.Tests.{lt-leb}
-use lib.IntN.{pos}
-use lib.Ieee.{Float, nan, binary32, eq, le, ofInt}
+use lib.Ieee.{Float, nan, eq}
 use lib.ListN.{length}
-use mathlib.Core.List.{[], _∷_, zipWith}
-use Rattle.floats.specs.Ops.{_⊖_, _⊗_, _⊘_, nought, pi}
+use mathlib.Core.List.{zipWith}
+use Rattle.floats.specs.Ops.{_⊖_, _⊗_, nought}
 use Rattle.floats.specs.Rows.{Row, at}
 use Rattle.loops.specs.TabLaws.{tab-self}
-use Rattle.floats.specs.Library.{max}
-use Rattle.floats.specs.RootRangeLaws.{capped-root, pi-between}
 use Rattle.loops.specs.Loops.{iter, tab}
 use Rattle.loops.specs.IterLaws.{iter-next, iter-stuck}
-use Rattle.solver_elimination.specs.declared.Solved.{Solved}
-use Rattle.solver_elimination.specs.declared.Solved.the-variants.{Values, Failed}
-use Rattle.solver_elimination.specs.declared.Errors.{Errors}
-use Rattle.solver_elimination.specs.Solve.{Matrix, Elim, gone, going, column, stopped, columned, reduced, solve4x4}
-use Rattle.solver_elimination.specs.Known.{FiniteAt, KnownErrors}
-use Rattle.solver_elimination.specs.Solve.{axisError, unknown, bothErrors, axisStdErrors, unit2, unit3, unfounded, bothStanding, standingBy, standing}
+use Rattle.solver_elimination.specs.Solve.{Matrix, Elim, gone, going, column, stopped, columned, reduced}
 
 pub reduced-by :
     (r p : Row) (f : Float) (n : ℕ) → length r ≡ n → length p ≡ n → eq f nought ≡ false →
@@ -40,70 +27,3 @@ stops-at s i m h e f =
     let next : iter column s (i + 1) ≡ gone = rw (iter-next, ← e, f) in
     let z : 4 ≡ (i + 1) + (3 - i) = omega arith in
     rw (z, iter-stuck column s gone (i + 1) (3 - i) (λ _. refl) next)
-
--- ---- ranges
-pub record Bounded (e : Errors) : Type 0 where
-  pub low1 : T (le nought (e .error1))
-  pub high1 : T (le (e .error1) pi)
-  pub low2 : T (le nought (e .error2))
-  pub high2 : T (le (e .error2) pi)
-
-both-bounded : (v : Float) (s t : Solved) → Bounded (bothErrors v s t)
-unfolding bothErrors axisError
-both-bounded v Failed t = let p = pi-between in record { low1 = p .0; high1 = p .1; low2 = p .0; high2 = p .1 }
-both-bounded v (Values a0 a1 a2 a3) Failed = let p = pi-between in record { low1 = p .0; high1 = p .1; low2 = p .0; high2 = p .1 }
-both-bounded v (Values a0 a1 a2 a3) (Values b0 b1 b2 b3) =
-    let p = capped-root (v ⊗ max a2 nought) (lib.Ieee.Fits.mul-fits binary32 v (max a2 nought)) in
-    let q = capped-root (v ⊗ max b3 nought) (lib.Ieee.Fits.mul-fits binary32 v (max b3 nought)) in
-    record { low1 = p .0; high1 = p .1; low2 = q .0; high2 = q .1 }
-
-pub errors-bounded : (m : Matrix) (ssr : Float) (n : ℕ) → Bounded (axisStdErrors m ssr n)
-unfolding axisStdErrors
-errors-bounded m ssr n = go (leb n 4)
-  where
-    both : Errors
-    both = bothErrors (ssr ⊘ ofInt binary32 (pos (n - 4))) (solve4x4 m unit2) (solve4x4 m unit3)
-
-    go : (b : Bool) → Bounded (cond b unknown both)
-    go true = let p = pi-between in record { low1 = p .0; high1 = p .1; low2 = p .0; high2 = p .1 }
-    go false = both-bounded (ssr ⊘ ofInt binary32 (pos (n - 4))) (solve4x4 m unit2) (solve4x4 m unit3)
-
--- ---- known
-module _ (ssr : Float) where
-  both-known : (s t : Solved) → bothStanding ssr s t .known ≡ true → T (finite ssr) × FiniteAt 2 s × FiniteAt 3 t
-  unfolding bothStanding standingBy
-  both-known Failed t e = absurd (false≢true e)
-  both-known (Values a0 a1 a2 a3) Failed e = absurd (false≢true e)
-  both-known (Values a0 a1 a2 a3) (Values b0 b1 b2 b3) e =
-      let h = three (finite ssr) (finite a2) (finite b3) e in (
-        h .0,
-        record { solution = a0 ∷ a1 ∷ a2 ∷ a3 ∷ []; solved = refl; value = h .1 },
-        record { solution = b0 ∷ b1 ∷ b2 ∷ b3 ∷ []; solved = refl; value = h .2 },
-      )
-    where
-      three : (a b c : Bool) → (a && (b && c)) ≡ true → T a × T b × T c
-      three true true true e = (tt, tt, tt)
-      three true true false e = absurd (false≢true e)
-      three true false c e = absurd (false≢true e)
-      three false b c e = absurd (false≢true e)
-
-  known-both : (s t : Solved) → T (finite ssr) → FiniteAt 2 s → FiniteAt 3 t → bothStanding ssr s t .known ≡ true
-  unfolding bothStanding standingBy
-  known-both s t h u v =
-      rw (u .solved, v .solved, is-true (finite ssr) h, is-true (finite (at (u .solution) 2)) (u .value), is-true (finite (at (v .solution) 3)) (v .value))
-
--- Errors are known exactly if that holds.
-module _ (m : Matrix) (ssr : Float) (n : ℕ) where
-  pub known-only : standing m ssr n .known ≡ true → KnownErrors m ssr n
-  unfolding standing
-  known-only = go (leb n 4) refl
-    where
-      go : (b : Bool) → leb n 4 ≡ b → cond b unfounded (bothStanding ssr (solve4x4 m unit2) (solve4x4 m unit3)) .known ≡ true → KnownErrors m ssr n
-      go true p e = absurd (false≢true e)
-      go false p e =
-          let h = both-known ssr (solve4x4 m unit2) (solve4x4 m unit3) e in
-          record { samples = nleb→lt n 4 (rw p tt); sum = h .0; first = h .1; second = h .2 }
-
-  pub known-if : KnownErrors m ssr n → standing m ssr n .known ≡ true
-  unfolding standing
-  known-if k = rw (lt-leb n 4 (k .samples)) (known-both ssr (solve4x4 m unit2) (solve4x4 m unit3) (k .sum) (k .first) (k .second))

@@ -13,8 +13,7 @@ use Rattle.solver_elimination.specs.declared.Solved.{Solved}
 use Rattle.solver_elimination.specs.declared.Solved.the-variants.{Values, Failed}
 use Rattle.solver_elimination.specs.declared.Sides.{Sides}
 use Rattle.solver_elimination.specs.declared.Sides.the-variants.{Both, Neither}
-use Rattle.solver_elimination.specs.declared.Estimate.{Estimate}
-use Rattle.solver_elimination.specs.Solve.{Matrix, Elim, going, column, axisError, unknown, bothErrors, unfounded, standingBy, bothStanding}
+use Rattle.solver_elimination.specs.Solve.{Matrix, Elim, going, column}
 
 -- a row of the matrix, its entries of two right sides, and two places that lie idle
 abbrev pub widenedRow : Row → Float → Float → Row
@@ -45,19 +44,6 @@ sides (Values a0 a1 a2 a3) (Values b0 b1 b2 b3) = Both a0 a1 a2 a3 b0 b1 b2 b3
 abbrev pub firstSide : Sides → Solved
 firstSide Neither = Failed
 firstSide (Both a0 a1 a2 a3 b0 b1 b2 b3) = Values a0 a1 a2 a3
-
--- ---- both errors with their standing: without an inverse PI, and not known
-abbrev pub noEstimate : Estimate
-noEstimate = record { errors = unknown; standing = unfounded }
-
-abbrev pub bothEstimated : Float → Float → Solved → Solved → Estimate
-bothEstimated ssr v s t = record { errors = bothErrors v s t; standing = bothStanding ssr s t }
-
--- by the entries on the inverse's diagonal
-abbrev pub estimateBy : Float → Float → Sides → Estimate
-estimateBy ssr v Neither = noEstimate
-estimateBy ssr v (Both a0 a1 a2 a3 b0 b1 b2 b3) =
-    record { errors = record { error1 = axisError v a2; error2 = axisError v b3 }; standing = standingBy ssr a2 b3 }
 
 -- ---- a system that a wider one carries: behind the same left side its column c stands there as column d
 module _ (c d : ℕ) where

@@ -19,7 +19,6 @@ use Rattle.solver_elimination.specs.declared.Solved.the-variants.{Values
 use Rattle.solver_elimination.specs.Solve as S
 use Rattle.solver_elimination.specs.Solve.{Matrix, Elim, gone, going}
 use Rattle.solver_elimination.specs.Wide.{RowCarried, Carried, widenedRow, widened, rightSide, eliminated, failed, sides, firstSide}
-use Rattle.solver_elimination.specs.Wide.{bothEstimated, estimateBy}
 
 -- ---- one case by its values: column 0 has its pivot in the last row, which holds the second side's 1, and is exchanged with the first
 abbrev turned : Matrix
@@ -192,9 +191,3 @@ first-by a b c = go (S.solve4x4 a b) (S.solve4x4 a c) (fail-together a b c)
     go Failed t e = refl
     go (Values a0 a1 a2 a3) Failed e = absurd (false≢true e)
     go (Values a0 a1 a2 a3) (Values b0 b1 b2 b3) e = refl
-
-pub estimate-by : (ssr v : Float) (s t : Solved) → bothEstimated ssr v s t ≡ estimateBy ssr v (sides s t)
-unfolding S.bothErrors S.bothStanding sides
-estimate-by ssr v Failed t = refl
-estimate-by ssr v (Values a0 a1 a2 a3) Failed = refl
-estimate-by ssr v (Values a0 a1 a2 a3) (Values b0 b1 b2 b3) = refl

@@ -1,9 +1,8 @@
-// Elimination of a 4 by 4 system, and the standard errors that two right sides give, which go through one elimination:
-// ring_fit/solver.rs, solve_4x4 and axis_std_errors. A row has eight places: the matrix, two right sides, and two that lie
-// idle, so that it is two vectors of four.
+// Elimination of a 4 by 4 system with one right side or two: ring_fit/solver.rs, solve_4x4. A row has eight places: the
+// matrix, two right sides, and two that lie idle, so that it is two vectors of four.
 ghost use mathlib.Core.Path.{_≡_};
 ghost use mathlib.Core.Bool.{false};
-ghost use Prim.Native.Nat.{_^_, _<_};
+ghost use Prim.Native.Nat.{_<_};
 ghost use Rattle.floats.specs.Rows.{at};
 ghost use Rattle.solver_elimination.specs.Solve as S;
 ghost use Rattle.solver_elimination.specs.Wide as W;
@@ -16,27 +15,9 @@ pub enum Solved {
 
 // What one elimination gives for two right sides: the four values of the first solution and then of the second, or that it
 // failed, which it does for both or for neither.
-enum Sides {
+pub enum Sides {
     Both(f32, f32, f32, f32, f32, f32, f32, f32),
     Neither,
-}
-
-// The standard errors of the two axes.
-pub struct Errors {
-    pub error1: f32,
-    pub error2: f32,
-}
-
-// What is to be said of a fit's errors beside their numbers: whether they are known. Callers hand it on whole, so that what
-// is to be said besides needs a place here and none of its own in their records.
-pub struct Standing {
-    pub known: bool,
-}
-
-// Errors with their standing.
-pub struct Estimate {
-    pub errors: Errors,
-    pub standing: Standing,
 }
 
 fn widened_row(r: [f32; 4], b: f32, c: f32) -> [f32; 8]
@@ -157,7 +138,7 @@ fn column_stops(m: &mut [[f32; 8]; 4], i: usize) -> bool
 
 // Both right sides, b and c, go through one elimination. They come by their entries, in registers, and the matrix is on its
 // way in this function's own frame: neither takes room in the frame of a caller, where a pass over the samples comes next.
-fn eliminate(
+pub fn eliminate(
     a: &[[f32; 4]; 4],
     b0: f32,
     b1: f32,
@@ -205,61 +186,4 @@ pub fn solve_4x4(a: &[[f32; 4]; 4], b: &[f32; 4]) -> Solved
         return Solved::Failed;
     };
     Solved::Values(x0, x1, x2, x3)
-}
-
-fn axis_error(v: f32, c: f32) -> f32
-    ensures { λ r. ⌜ r ≡ S.axisError v c ⌝ }
-{
-    floats::min(roots::sqrt(v * floats::max(c, 0.0)), floats::PI)
-}
-
-pub fn unfounded() -> Standing
-    ensures { λ r. ⌜ r ≡ S.unfounded ⌝ }
-{
-    Standing { known: false }
-}
-
-// No errors to be had: PI stands in their place.
-fn no_estimate() -> Estimate
-    ensures { λ r. ⌜ r ≡ W.noEstimate ⌝ }
-{
-    let errors = Errors {
-        error1: floats::PI,
-        error2: floats::PI,
-    };
-    let standing = unfounded();
-    Estimate { errors, standing }
-}
-
-// The residual sum and the two entries on the inverse's diagonal, as the elimination left them.
-fn standing_by(ssr: f32, c2: f32, c3: f32) -> Standing
-    ensures { λ r. ⌜ r ≡ S.standingBy ssr c2 c3 ⌝ }
-{
-    let known = floats::is_finite(ssr) & (floats::is_finite(c2) & floats::is_finite(c3));
-    Standing { known }
-}
-
-// Of the inverse the two columns that matter, by one elimination: a failure answers PI.
-fn both_errors(jtj: &[[f32; 4]; 4], ssr: f32, v: f32) -> Estimate
-    ensures { λ r. ⌜ r ≡ W.bothEstimated ssr v (S.solve4x4 (now (jtj .entry)) S.unit2) (S.solve4x4 (now (jtj .entry)) S.unit3) ⌝ }
-{
-    let sides = eliminate(jtj, 0.0, 0.0, 1.0, 0.0, 0.0, 0.0, 0.0, 1.0);
-    let Sides::Both(_, _, c2, _, _, _, _, c3) = sides else {
-        return no_estimate();
-    };
-    let error1 = axis_error(v, c2);
-    let error2 = axis_error(v, c3);
-    let errors = Errors { error1, error2 };
-    let standing = standing_by(ssr, c2, c3);
-    Estimate { errors, standing }
-}
-
-pub fn axis_std_errors(jtj: &[[f32; 4]; 4], ssr: f32, n: usize) -> Estimate
-    requires { ⌜ n < 2 ^ 32 ⌝ }
-    ensures { λ r. ⌜ r ≡ S.estimate (now (jtj .entry)) ssr n ⌝ }
-{
-    if n <= 4 {
-        return no_estimate();
-    }
-    both_errors(jtj, ssr, ssr / floats::count_f32(n - 4))
 }

@@ -1,10 +1,10 @@
 -- Up to four samples answer PI, and more go to both eliminations. Assumes nothing.
 use native.Mathlib.Omega.{arith}
 use borrow.Author.Tests.{le-leb, lt-leb}
-use Rattle.solver_elimination.specs.Solve.{axisStdErrors, standing}
+use Rattle.solver_errors.specs.StdErrors.{axisStdErrors, standing}
 use borrow.Author.Needs.{needs}
-use Rattle.solver_elimination.proofs.axis_std_errors.Statement.{statement}
-use Rattle.solver_elimination.proofs.axis_std_errors.Tie as tie
+use Rattle.solver_errors.proofs.axis_std_errors.Statement.{statement}
+use Rattle.solver_errors.proofs.axis_std_errors.Tie as tie
 
 returns : tie.Need-returns
 unfolding axisStdErrors standing

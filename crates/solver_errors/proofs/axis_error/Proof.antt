@@ -1,8 +1,8 @@
 -- Three calls in a row. Assumes nothing.
 use borrow.Author.Needs.{needs}
-use Rattle.solver_elimination.specs.Solve as S
-use Rattle.solver_elimination.proofs.axis_error.Statement.{statement}
-use Rattle.solver_elimination.proofs.axis_error.Tie as tie
+use Rattle.solver_errors.specs.StdErrors as S
+use Rattle.solver_errors.proofs.axis_error.Statement.{statement}
+use Rattle.solver_errors.proofs.axis_error.Tie as tie
 
 returns : tie.Need-returns
 unfolding S.axisError

@@ -1,7 +1,7 @@
 -- Constants, and one call. Assumes nothing.
 use borrow.Author.Needs.{needs}
-use Rattle.solver_elimination.proofs.no_estimate.Statement.{statement}
-use Rattle.solver_elimination.proofs.no_estimate.Tie as tie
+use Rattle.solver_errors.proofs.no_estimate.Statement.{statement}
+use Rattle.solver_errors.proofs.no_estimate.Tie as tie
 
 returns : tie.Need-returns
 returns c = rw (c .unfounded .ensures)

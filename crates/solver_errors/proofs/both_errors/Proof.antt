@@ -1,10 +1,10 @@
 -- A failure answers PI, and two solutions answer both errors, with what their entries say of them. Assumes nothing.
 use mathlib.Core.Path.{sym, ap, _∙_}
-use Rattle.solver_elimination.specs.Wide.{estimateBy}
-use Rattle.solver_elimination.specs.WideLaws.{estimate-by}
+use Rattle.solver_errors.specs.Parts.{estimateBy}
+use Rattle.solver_errors.specs.StdErrorsLaws.{estimate-by}
 use borrow.Author.Needs.{needs}
-use Rattle.solver_elimination.proofs.both_errors.Statement.{statement}
-use Rattle.solver_elimination.proofs.both_errors.Tie as tie
+use Rattle.solver_errors.proofs.both_errors.Statement.{statement}
+use Rattle.solver_errors.proofs.both_errors.Tie as tie
 
 returns : tie.Need-returns
 returns c =

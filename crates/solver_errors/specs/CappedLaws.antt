@@ -13,8 +13,9 @@ use Rattle.floats.specs.Rows.{at}
 use Rattle.floats.specs.SquareSumLaws.{Upright}
 use Rattle.floats.specs.UprightLaws.{FiniteUpright, mul-upright, share-upright, max-upright, max-finite}
 use Rattle.floats.specs.RootRangeLaws.{capped-above}
-use Rattle.solver_elimination.specs.Solve.{Matrix, axisError, bothErrors, axisStdErrors}
-use Rattle.solver_elimination.specs.Known.{KnownErrors, residualVar, Estimated}
+use Rattle.solver_elimination.specs.Solve.{Matrix}
+use Rattle.solver_errors.specs.StdErrors.{axisError, bothErrors, axisStdErrors}
+use Rattle.solver_errors.specs.Known.{KnownErrors, residualVar, Estimated}
 
 estimated : (v c : Float) → FiniteUpright v → T (finite c) → Estimated v c (axisError v c)
 unfolding axisError

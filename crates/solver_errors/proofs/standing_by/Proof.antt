@@ -1,8 +1,8 @@
 -- The three tests. Assumes nothing.
 use borrow.Author.Needs.{needs}
-use Rattle.solver_elimination.specs.Solve as S
-use Rattle.solver_elimination.proofs.standing_by.Statement.{statement}
-use Rattle.solver_elimination.proofs.standing_by.Tie as tie
+use Rattle.solver_errors.specs.StdErrors as S
+use Rattle.solver_errors.proofs.standing_by.Statement.{statement}
+use Rattle.solver_errors.proofs.standing_by.Tie as tie
 
 returns : tie.Need-returns
 unfolding S.standingBy
