@@ -19,7 +19,7 @@ use Rattle.solver_errors.specs.Known.{KnownErrors, residualVar, Estimated}
 use Rattle.solver_errors.specs.StdErrorsLaws.{known-only, known-if}
 use Rattle.solver_errors.specs.CappedLaws.{known-estimated}
 use Rattle.solver_errors.specs.declared.Standing.{Standing}
-use Rattle.solver.specs.Solver.{Normal}
+use Rattle.solver.specs.Solver.{Final, axesOf}
 use Rattle.robust.specs.Robust.{Source, ofPass, ofMean, ring, fitRing, ringSum}
 use Rattle.robust.specs.KnownLaws.{StandsOn, ring-stands}
 use Rattle.robust.specs.SoundLaws.{SoundRing, ring-sound}
@@ -132,16 +132,16 @@ module _ (n : ℕ) (samples angles : List Float) where
   abbrev pub SumTiny : Type 0
   SumTiny = let sum = ringSum n samples angles in T (not (isNan sum)) × T (le nought sum) × T (le sum (half n))
 
-  -- what the answered start was made of: the sums of its last pass, or, where it was degenerate, the mean
+  -- what the answered start was made of: where its updates stopped, with the sums of the last pass, or, where it was degenerate, the mean
   abbrev source : Source
   source = ring n samples angles .answered .source
 
   -- what is asked of a ring whose errors are known: the answered start was not degenerate, there are more than four samples, both eliminations of its
   -- last pass's matrix succeed, and the residual sum and the two entries on the diagonal are finite
   pub record RingKnown : Type 0 where
-    pub last : Normal
-    pub fitted : source ≡ ofPass last
-    pub errors : KnownErrors (last .m) (last .ssr) n
+    pub end : Final
+    pub fitted : source ≡ ofPass end
+    pub errors : KnownErrors (end .last .m) (end .last .ssr) n
 
   -- what number 0 means: 2 n finite values, and the fit of the definition with its own counts, value by value
   pub record RingFitted : Type 0 where
@@ -210,37 +210,45 @@ module _ (n : ℕ) (samples angles : List Float) where
       where
         only : (s : Source) → source ≡ s → StandsOn n s (theFit .fit) (theFit .standing) → theFit .standing .known ≡ true → RingKnown
         only ofMean p w e = absurd (false≢true (sym (ap (λ (x : Standing). x .known) (w .2)) ∙ e))
-        only (ofPass last) p w e =
-            record { last = last; fitted = p; errors = known-only (last .m) (last .ssr) n (sym (ap (λ (x : Standing). x .known) (w .1)) ∙ e) }
+        only (ofPass end) p w e =
+            record { end = end; fitted = p; errors = known-only (end .last .m) (end .last .ssr) n (sym (ap (λ (x : Standing). x .known) (w .1)) ∙ e) }
 
         if : RingKnown → theFit .standing .known ≡ true
         if k =
             let w = subst (λ (s : Source). StandsOn n s (theFit .fit) (theFit .standing)) (k .fitted) (ring-stands n samples angles) in
-            ap (λ (x : Standing). x .known) (w .1) ∙ known-if (k .last .m) (k .last .ssr) n (k .errors)
+            ap (λ (x : Standing). x .known) (w .1) ∙ known-if (k .end .last .m) (k .end .last .ssr) n (k .errors)
 
-    -- The error words do not depend on it: they are the Rust's errors of that matrix and that sum, in the order of the axes, and of a degenerate start PI.
+    -- The error words do not depend on it: they are the Rust's errors of that matrix and that sum, exchanged where the axes are, and of a degenerate
+    -- start PI.
     pub ring-error-words :
         (source ≡ ofMean → (value 3 ≡ pi) × (value 4 ≡ pi)) ×
-        ((last : Normal) → source ≡ ofPass last → let e = axisStdErrors (last .m) (last .ssr) n in
-        (w : Bool) × (value 3 ≡ cond w (e .error2) (e .error1)) × (value 4 ≡ cond w (e .error1) (e .error2)))
+        ((end : Final) → source ≡ ofPass end →
+        let a = axesOf (end .p) in
+        let e = axisStdErrors (end .last .m) (end .last .ssr) n in
+        (value 1 ≡ a .theta1) × (value 2 ≡ a .theta2) ×
+        (value 3 ≡ cond (a .swapped) (e .error2) (e .error1)) × (value 4 ≡ cond (a .swapped) (e .error1) (e .error2)))
     ring-error-words =
-        rw values-are (λ p. let w = of ofMean p in (w .0, w .1), λ last p. let o = of (ofPass last) p .0 in (o .swapped, o .first, o .second))
+        rw values-are (
+          λ p. let w = of ofMean p in (w .0, w .1),
+          λ end p. let o = of (ofPass end) p .0 in (o .axis1, o .axis2, o .first, o .second),
+        )
       where
         of : (s : Source) → source ≡ s → StandsOn n s (theFit .fit) (theFit .standing)
         of s p = subst (λ (x : Source). StandsOn n x (theFit .fit) (theFit .standing)) p (ring-stands n samples angles)
 
     -- Where they are known, each is an estimate, of the variance and of its own entry, capped at PI: one that is PI was PI or more.
     pub ring-estimated : n ≤ 2 ^ 24 → (k : RingKnown) →
-        let v = residualVar (k .last .ssr) n in
+        let v = residualVar (k .end .last .ssr) n in
         let c2 = at (k .errors .first .solution) 2 in
         let c3 = at (k .errors .second .solution) 3 in
-        (w : Bool) × Estimated v (cond w c3 c2) (value 3) × Estimated v (cond w c2 c3) (value 4)
+        let w = axesOf (k .end .p) .swapped in
+        Estimated v (cond w c3 c2) (value 3) × Estimated v (cond w c2 c3) (value 4)
     ring-estimated few k =
-        let last = k .last in
-        let sum = ring-sum-upright n samples angles last (k .fitted) (k .errors .sum) in
-        let words = ring-error-words .1 last (k .fitted) in
-        let e = ordered (words .0) (known-estimated (last .m) (last .ssr) n (sum .0) (sum .1) few (k .errors)) in
-        (words .0, rw (words .1) (e .0), rw (words .2) (e .1))
+        let end = k .end in
+        let sum = ring-sum-upright n samples angles end (k .fitted) (k .errors .sum) in
+        let words = ring-error-words .1 end (k .fitted) in
+        let e = ordered (axesOf (end .p) .swapped) (known-estimated (end .last .m) (end .last .ssr) n (sum .0) (sum .1) few (k .errors)) in
+        (rw (words .2) (e .0), rw (words .3) (e .1))
       where
         ordered : {v c d x y : Float} (w : Bool) → Estimated v c x × Estimated v d y →
             Estimated v (cond w d c) (cond w y x) × Estimated v (cond w c d) (cond w x y)

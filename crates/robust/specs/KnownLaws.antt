@@ -8,7 +8,7 @@ use Rattle.floats.specs.Ops.{pi}
 use Rattle.floats.specs.Rows.{Row}
 use Rattle.solver_errors.specs.StdErrors.{axisStdErrors, unfounded, standing}
 use Rattle.solver_errors.specs.declared.Standing.{Standing}
-use Rattle.solver.specs.Solver.{Final, sines, cosines, updates, startFrom, degenerate, degenerateFit, refused, fitWithSeed}
+use Rattle.solver.specs.Solver.{Final, axesOf, sines, cosines, updates, startFrom, degenerate, degenerateFit, refused, fitWithSeed}
 use Rattle.solver.specs.SoundLaws.{ErrorsOf, finished-errors}
 use Rattle.solver.specs.declared.Params.{Params}
 use Rattle.solver.specs.declared.TwoAxisFit.{TwoAxisFit}
@@ -17,7 +17,8 @@ use Rattle.robust.specs.SoundLaws.{ring-each}
 
 abbrev pub StandsOn : ℕ → Source → TwoAxisFit → Standing → Type 0
 StandsOn n ofMean f s = (f .«fit_std_error_theta1» ≡ pi) × (f .«fit_std_error_theta2» ≡ pi) × (s ≡ unfounded)
-StandsOn n (ofPass last) f s = ErrorsOf (axisStdErrors (last .m) (last .ssr) n) f × (s ≡ standing (last .m) (last .ssr) n)
+StandsOn n (ofPass end) f s =
+    let l = end .last in ErrorsOf (axesOf (end .p)) (axisStdErrors (l .m) (l .ssr) n) f × (s ≡ standing (l .m) (l .ssr) n)
 
 start-stands : (n : ℕ) (samples ringPhi : Row) (seed : Params) (centeredVar : Float)
     → let s = start n samples ringPhi seed centeredVar in StandsOn n (s .source) (s .fit) (s .standing)
@@ -27,7 +28,7 @@ start-stands n samples ringPhi seed centeredVar = go (degenerate (seed .amp) cen
     end : Final
     end = updates n samples (sines n ringPhi) (cosines n ringPhi) seed
 
-    go : (b : Bool) → let s = cond b (refused centeredVar) (startFrom n end) in StandsOn n (cond b ofMean (ofPass (end .last))) (s .fit) (s .standing)
+    go : (b : Bool) → let s = cond b (refused centeredVar) (startFrom n end) in StandsOn n (cond b ofMean (ofPass end)) (s .fit) (s .standing)
     go true = unfold degenerateFit in (refl, refl, refl)
     go false = (finished-errors n (end .p) (end .last .m) (end .last .ssr), refl)
 

@@ -263,20 +263,20 @@ start-made n samples ringPhi seed centeredVar = go (degenerate (seed .amp) cente
     end = updates n samples (sines n ringPhi) (cosines n ringPhi) seed
 
     go : (b : Bool) → MadeOf n centeredVar (cond b (refused centeredVar) (startFrom n end) .fit .rms)
-        (cond b ofMean (ofPass (end .last)))
+        (cond b ofMean (ofPass end))
     go true = unfold degenerateFit in refl
     go false = unfold finished assembled in refl
 
 -- a pass's sum fits f32, and is a NaN or not below zero
 abbrev Summed : Source → Type 0
-Summed (ofPass last) = Good (last .ssr)
+Summed (ofPass end) = Good (end .last .ssr)
 Summed ofMean = 0 ≤ 0
 
 start-summed : (n : ℕ) (samples ringPhi : Row) (seed : Params) (centeredVar : Float) → Summed (start n samples ringPhi seed centeredVar .source)
 unfolding start
 start-summed n samples ringPhi seed centeredVar = go (degenerate (seed .amp) centeredVar)
   where
-    go : (b : Bool) → Summed (cond b ofMean (ofPass (updates n samples (sines n ringPhi) (cosines n ringPhi) seed .last)))
+    go : (b : Bool) → Summed (cond b ofMean (ofPass (updates n samples (sines n ringPhi) (cosines n ringPhi) seed)))
     go true = omega arith
     go false = updates-good n samples (sines n ringPhi) (cosines n ringPhi) seed
 
@@ -285,10 +285,11 @@ ring-summed : (n : ℕ) (samples ringPhi : Row) → Summed (ring n samples ringP
 ring-summed n samples ringPhi =
     ring-each (λ s. Summed (s .source)) n samples ringPhi (λ seed h. start-summed n samples ringPhi seed (varianceOf n samples (meanOf n samples)))
 
-pub ring-sum-upright : (n : ℕ) (samples ringPhi : Row) (last : Normal) → ring n samples ringPhi .answered .source ≡ ofPass last → T (finite (last .ssr)) →
-    T (fits binary32 (last .ssr)) × Upright (last .ssr)
-ring-sum-upright n samples ringPhi last e p =
-    let good = subst Summed e (ring-summed n samples ringPhi) in (good .0, level-upright (last .ssr) (finite-number (last .ssr) p) (good .1))
+pub ring-sum-upright : (n : ℕ) (samples ringPhi : Row) (end : Final) → ring n samples ringPhi .answered .source ≡ ofPass end →
+    T (finite (end .last .ssr)) → T (fits binary32 (end .last .ssr)) × Upright (end .last .ssr)
+ring-sum-upright n samples ringPhi end e p =
+    let ssr = end .last .ssr in
+    let good = subst Summed e (ring-summed n samples ringPhi) in (good .0, level-upright ssr (finite-number ssr p) (good .1))
 
 -- for every number of samples and all values: what the answered rms was made of
 pub ring-made : (n : ℕ) (samples ringPhi : Row)
@@ -302,8 +303,8 @@ ring-made n samples ringPhi =
 module _ (n : ℕ) (share : Share n) where
   made-tiny : (dev rms : Float) (s : Source) → Fit dev → Upright dev → Summed s → MadeOf n (dev ⊘ count n) rms s → eq rms nought ≡ true
       → Tiny n (sumOf dev s)
-  made-tiny dev rms (ofPass last) p u q e z =
-      let ssr = last .ssr in
+  made-tiny dev rms (ofPass end) p u q e z =
+      let ssr = end .last .ssr in
       let root = zero-root (ssr ⊘ count n) (div-fits binary32 ssr (count n)) (subst (λ (r : Float). eq r nought ≡ true) e z) in
       let low = nth-low n share ssr (q .0) root in
       record { number = low .number; above = upright-above binary32 ssr (q .0) (level-upright ssr (low .number) (q .1)); small = low .small }

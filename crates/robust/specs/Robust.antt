@@ -11,7 +11,7 @@ use Rattle.floats.specs.Rows.{Row, at, count}
 use Rattle.floats.specs.Library.{max, toRadians}
 use Rattle.geometry.specs.Geometry.{lineSeparation}
 use Rattle.loops.specs.Loops.{iter, tab}
-use Rattle.solver.specs.Solver.{Normal, sines, cosines, updates, degenerate, fitWithSeed}
+use Rattle.solver.specs.Solver.{Final, sines, cosines, updates, degenerate, fitWithSeed}
 use Rattle.solver_errors.specs.declared.Standing.{Standing}
 use Rattle.solver.specs.declared.Params.{Params}
 use Rattle.solver.specs.declared.TwoAxisFit.{TwoAxisFit}
@@ -65,10 +65,10 @@ triggered f = outside (lineSeparation (f .theta1) (f .theta2)) || le robustRelRm
 unfoldable pub fitIsSuspicious : TwoAxisFit → Bool
 fitIsSuspicious f = cond (not (finite (f .amp)) || (not (finite (f .rms)) || lt (f .amp) ampFloor)) false (triggered f)
 
--- ---- a start: fit_with_seed's fit, the standing of its errors and its number of updates, and what rms and errors were made of: the sums of the
--- last pass, or, where the start is refused, the deviations from the mean
+-- ---- a start: fit_with_seed's fit, the standing of its errors and its number of updates, and what they were made of: where the updates stopped,
+-- with the sums of the last pass, or, where the start is refused, the deviations from the mean
 pub data Source : Type 0 where
-  ofPass : Normal → Source
+  ofPass : Final → Source
   ofMean : Source
 
 pub record Start : Type 0 where
@@ -80,12 +80,12 @@ pub record Start : Type 0 where
 unfoldable pub start : ℕ → Row → Row → Params → Float → Start
 start n samples ringPhi seed centeredVar =
     let s = fitWithSeed n samples ringPhi seed centeredVar in
-    let last = updates n samples (sines n ringPhi) (cosines n ringPhi) seed .last in
+    let end = updates n samples (sines n ringPhi) (cosines n ringPhi) seed in
     record {
       fit = s .fit;
       standing = s .standing;
       updates = s .updates;
-      source = cond (degenerate (seed .amp) centeredVar) ofMean (ofPass last);
+      source = cond (degenerate (seed .amp) centeredVar) ofMean (ofPass end);
     }
 
 -- ---- robust.rs: refine_seed_candidates, ROBUST_TOP_SEEDS being 1
@@ -149,7 +149,7 @@ fitRing n samples ringPhi = ringFitOf (ring n samples ringPhi)
 
 -- the sum of squares that the answered rms was made of
 abbrev pub sumOf : Float → Source → Float
-sumOf dev (ofPass last) = last .ssr
+sumOf dev (ofPass end) = end .last .ssr
 sumOf dev ofMean = dev
 
 unfoldable pub ringSum : ℕ → Row → Row → Float

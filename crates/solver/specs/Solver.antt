@@ -174,6 +174,10 @@ finished n p m ssr =
     let a = canonicalizeTrackingSwap (p .theta1) (p .theta2) (p .amp) in
     assembled a e rms
 
+-- its axes, and whether they were exchanged
+abbrev pub axesOf : Params → Axes
+axesOf p = canonicalizeTrackingSwap (p .theta1) (p .theta2) (p .amp)
+
 abbrev pub sines : ℕ → Row → Row
 sines n ringPhi = tab (λ i. sinCos (at ringPhi i) .s) n
 

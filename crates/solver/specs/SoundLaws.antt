@@ -21,7 +21,7 @@ use Rattle.solver_axes.specs.declared.Axes.{Axes}
 use Rattle.solver.specs.declared.Params.{Params}
 use Rattle.solver.specs.declared.TwoAxisFit.{TwoAxisFit}
 use Rattle.solver.specs.Solver.{pass, cut, small, moved, Step, stay, to, stepOf, after, Final, updatesFrom, updates}
-use Rattle.solver.specs.Solver.{degenerateFit, degenerate, assembled, finished, startFrom, refused, sines, cosines, fitWithSeed}
+use Rattle.solver.specs.Solver.{degenerateFit, degenerate, assembled, finished, axesOf, startFrom, refused, sines, cosines, fitWithSeed}
 
 -- ---- at most six updates
 after-most : (s : Step) (k m : ℕ) (a : Final) (f : Params → Final) → a .updates ≤ m → ((q : Params) → f q .updates ≤ m) → after s a f .updates ≤ m
@@ -135,13 +135,13 @@ start-sound n samples ringPhi p centeredVar h = go (degenerate (p .amp) centered
     go true = degenerate-sound centeredVar
     go false = finished-sound n (end .p) (end .last .m) (end .last .ssr) held
 
--- ---- the two errors of a fit, as they are or exchanged with the axes
-pub record ErrorsOf (e : Errors) (f : TwoAxisFit) : Type 0 where
-  pub swapped : Bool
-  pub first : f .«fit_std_error_theta1» ≡ cond swapped (e .error2) (e .error1)
-  pub second : f .«fit_std_error_theta2» ≡ cond swapped (e .error1) (e .error2)
+-- ---- the two axes of a fit and their errors, which are exchanged exactly where the axes are
+pub record ErrorsOf (a : Axes) (e : Errors) (f : TwoAxisFit) : Type 0 where
+  pub axis1 : f .theta1 ≡ a .theta1
+  pub axis2 : f .theta2 ≡ a .theta2
+  pub first : f .«fit_std_error_theta1» ≡ cond (a .swapped) (e .error2) (e .error1)
+  pub second : f .«fit_std_error_theta2» ≡ cond (a .swapped) (e .error1) (e .error2)
 
-pub finished-errors : (n : ℕ) (p : Params) (m : Matrix) (ssr : Float) → ErrorsOf (axisStdErrors m ssr n) (finished n p m ssr)
+pub finished-errors : (n : ℕ) (p : Params) (m : Matrix) (ssr : Float) → ErrorsOf (axesOf p) (axisStdErrors m ssr n) (finished n p m ssr)
 unfolding finished assembled
-finished-errors n p m ssr =
-    record { swapped = canonicalizeTrackingSwap (p .theta1) (p .theta2) (p .amp) .swapped; first = refl; second = refl }
+finished-errors n p m ssr = record { axis1 = refl; axis2 = refl; first = refl; second = refl }
