@@ -3,8 +3,8 @@
  *
  * Common to all of them:
  *   - No global state, no heap, no errno: any number of threads may call them. jb_answer_line, jb_fit_ring,
- *     jb_fit_ring24 and jb_fit_disk read and write the arrays that they are given and no other memory; the others take
- *     and return values alone.
+ *     jb_fit_ring24, jb_ring_record and jb_fit_disk read and write the arrays that they are given and no other memory;
+ *     the others take and return values alone.
  *   - They accept every bit pattern and always return.
  *   - They expect the rounding mode that a C program starts with (to nearest, ties to even), and subnormal numbers
  *     switched on (no flush to zero). Floating-point exception flags may be raised.
@@ -92,6 +92,21 @@ uint32_t jb_fit_ring(const float *samples, size_t samples_len, const float *angl
  * length than 24 returns 65536; of a value that is not finite the place is 0 to 23 for a sample, 24 to 47 for an angle. */
 uint32_t jb_fit_ring24(const float *samples, size_t samples_len, const float *angles, size_t angles_len,
                        float *fit, size_t fit_len, uint32_t *counts, size_t counts_len);
+
+/* The ring fit of 16 samples or of 24, with its mean: what jb_fit_ring or jb_fit_ring24 answers, the number of samples
+ * saying which, and one value more: fit[0..5] and counts[0..3] as there, and
+ *   fit[6] = mean, the brightness about which the fitted edges lie (mu of docs/RULES.md, Ring): that of the start that
+ *   is answered. It is fitted with the axes and the amplitude, and differs from the mean of the samples where the dark
+ *   and the bright sectors are unlike. A start without contrast to fit is degenerate (amplitude 0, errors not known)
+ *   and carries its seed's mean, which is that of the samples where there was one start. After an overflow the mean
+ *   may be infinite or NaN.
+ * Returns 0 for a fit, else number * 65536 + place, and then neither buffer is changed:
+ *   65536 (number 1)       `fit` under 7 or `counts` under 4 elements; samples that are neither 16 nor 24; angles that
+ *                          are not as many
+ *   196608 + place (3)     a value that is not finite, the first one: its place as of jb_fit_ring or jb_fit_ring24
+ * The four arrays must not overlap. */
+uint32_t jb_ring_record(const float *samples, size_t samples_len, const float *angles, size_t angles_len,
+                        float *fit, size_t fit_len, uint32_t *counts, size_t counts_len);
 
 /* The disk fit of n pixels, 1 to 320, around a corner at (0, 0): element i of the five slices belongs to pixel i.
  * In: xs and ys, the place of a pixel; vals_centered, its brightness less the mean of all; grad_angles, the direction

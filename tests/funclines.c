@@ -153,10 +153,15 @@ static void put_start(struct start s)
     put(s.updates);
 }
 
+static void put_counts(struct ring r)
+{
+    for (size_t k = 0; k < 3; k++) put(r.counts[k]);
+}
+
 static void put_ring(struct ring r)
 {
     put_values(r.values, 6);
-    for (size_t k = 0; k < 3; k++) put(r.counts[k]);
+    put_counts(r);
 }
 
 static void put_some_start(struct start s)
@@ -393,6 +398,16 @@ static void line_65(void)
     if (ends()) put_ring(fl_fit_ring24(samples, ring_phi));
 }
 
+static void line_66(void)
+{
+    const float *samples = floats(SAMPLES), *ring_phi = floats(SAMPLES);
+    if (!ends()) return;
+    struct ring r = fl_fit_ring(samples, ring_phi);
+    put_values(r.values, 6);
+    put_value(r.mean);
+    put_counts(r);
+}
+
 /* ---- 70 to 77: candidate angles and their pairs */
 
 static void line_70(void)
@@ -552,7 +567,7 @@ static void (*const lines[256])(void) = {
     ROW(30), ROW(31), ROW(32), ROW(33), ROW(34), ROW(35),
     ROW(40), ROW(41), ROW(42), ROW(43), ROW(44), ROW(45), ROW(46),
     ROW(50), ROW(51), ROW(52), ROW(53), ROW(54),
-    ROW(60), ROW(61), ROW(62), ROW(63), ROW(64), ROW(65),
+    ROW(60), ROW(61), ROW(62), ROW(63), ROW(64), ROW(65), ROW(66),
     ROW(70), ROW(71), ROW(72), ROW(73), ROW(74), ROW(75), ROW(76), ROW(77),
     ROW(80), ROW(81), ROW(82), ROW(83),
     ROW(90), ROW(91), ROW(92), ROW(93), ROW(94), ROW(95),

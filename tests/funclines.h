@@ -1,4 +1,4 @@
-/* What libfunclines.a (10 to 65) and libfunclines_disk.a (70 to 95) export: each function calls the ported function of
+/* What libfunclines.a (10 to 66) and libfunclines_disk.a (70 to 95) export: each function calls the ported function of
  * its name, and asks what that one asks of lengths and counts: tests/funclines.c tests them before it calls. Here
  * `const float x[N]` is Rattle's `&[f32; N]`, and a pointer with a length behind it a slice. */
 #ifndef FUNCLINES_H
@@ -23,7 +23,7 @@ struct swapped { float values[3]; bool swapped; };
 struct seed5 { bool some; float values[5]; };
 struct fit6 { float values[6]; };
 struct start { bool some; float values[6]; size_t updates; };
-struct ring { float values[6]; size_t counts[3]; };
+struct ring { float values[6], mean; size_t counts[3]; };
 struct set { size_t n; float angles[ANGLES]; };
 struct index { bool some; size_t i; };
 struct pair { bool some; size_t i, j; };
@@ -77,7 +77,7 @@ struct seed5 fl_score_seed_pair(const float centered[SAMPLES], float centered_su
                                 const float h1[SAMPLES], const float h2[SAMPLES], float theta1, float theta2);
 struct seed5 fl_insert_seed_candidate(struct seed5 top, const float candidate[5]);
 
-/* 60 to 65 */
+/* 60 to 66; 66 is fl_fit_ring with its mean */
 struct ring fl_fit_ring(const float samples[SAMPLES], const float ring_phi[SAMPLES]);
 bool fl_fit_is_suspicious(const float fit[6]);
 float fl_relative_rms(const float fit[6]);

@@ -53,6 +53,29 @@ pub fn answer(line: &[u8]) -> Answered {
     }
 }
 
+/// The values of a ring's frame as jb_ring_record answers them: the six words of the fit, the mean and the four counts, or the
+/// one word number * 65536 + place. Any other line has `?`.
+pub fn record(line: &[u8]) -> (Vec<u8>, Option<Outcome>) {
+    let answered = answer(line);
+    let words = match &answered.outcome {
+        Outcome::Fit(Kind::Ring | Kind::Ring24, counts, known) => {
+            let mut text = answered.line[4..52].to_vec();
+            let [first, second] = counts.updates;
+            for word in [to_bits(counts.mean()), counts.starts, first, second, u32::from(known.holds())] {
+                push_hex(&mut text, word, 8);
+            }
+            text
+        }
+        Outcome::Refused(Refusal { kind: Some(Kind::Ring | Kind::Ring24), number, place }, _) => {
+            let mut text = Vec::with_capacity(8);
+            push_hex(&mut text, number * 65536 + place, 8);
+            text
+        }
+        _ => return (b"?".to_vec(), None),
+    };
+    (words, Some(answered.outcome))
+}
+
 /// The answer to a line that can not be read.
 pub fn malformed() -> Vec<u8> {
     refused(MALFORMED, Counts::default()).line

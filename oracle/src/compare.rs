@@ -13,6 +13,8 @@ use std::time::{Duration, Instant};
 pub enum Lines {
     Frames,
     Functions,
+    /// Ring frames, answered as jb_ring_record answers their values.
+    Records,
 }
 
 /// The frame types that the compared program serves: a line of another is answered as a malformed one.
@@ -42,9 +44,15 @@ impl Oracle {
     pub fn answer(&mut self, line: &[u8]) -> Vec<u8> {
         match self.lines {
             Lines::Functions => {
-                let (text, counts, known) = functions::answered(line);
-                counts.iter().for_each(|counts| self.paths.elimination(counts));
-                known.iter().for_each(|known| self.paths.known("", known));
+                let (text, told) = functions::answered(line);
+                told.eliminated.iter().for_each(|counts| self.paths.elimination(counts));
+                told.known.iter().for_each(|known| self.paths.known("", known));
+                told.ring.iter().for_each(|counts| self.paths.record("ring: ", counts));
+                text
+            }
+            Lines::Records => {
+                let (text, outcome) = checked::record(line);
+                outcome.iter().for_each(|outcome| self.paths.note(outcome));
                 text
             }
             Lines::Frames if !self.served.frame(line) => checked::malformed(),

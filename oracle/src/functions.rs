@@ -1,12 +1,12 @@
 //! Function lines: one function of the Rust text for each number of docs/RULES.md, Function lines.
 
 use crate::both;
-use crate::known::{self, Known};
-use crate::wire::{words, Answer, Arguments};
+use crate::known;
+use crate::wire::{words, Answer, Arguments, Told};
 use plain::disk::{candidates, geometry, score, search};
 use plain::given::{Choice, Float, Ranked};
 use plain::ring::{robust, seed, solver};
-use shapes::{Fit6, ANGLES, PAIRED_ANGLES, PIXELS};
+use shapes::{ANGLES, PAIRED_ANGLES, PIXELS};
 use std::f32::consts::{PI, TAU};
 use support::Counts;
 
@@ -17,7 +17,7 @@ pub const NUMBERS: [u8; 53] = [
 ];
 
 /// Numbers that came later: lines are made for them only where they are named, so that a list of before stays as it was.
-pub const LATER: [u8; 2] = [46, 65];
+pub const LATER: [u8; 3] = [46, 65, 66];
 
 /// Numbers whose function takes a matrix.
 pub const ELIMINATIONS: [u8; 3] = [40, 41, 46];
@@ -26,9 +26,9 @@ pub fn answer(line: &[u8]) -> Vec<u8> {
     answered(line).0
 }
 
-/// With what the eliminations did, where the function is one, or two, and whether the errors are known, where it says so.
-pub fn answered(line: &[u8]) -> (Vec<u8>, Option<Counts>, Option<Known>) {
-    answer_words(line).map_or((b"?".to_vec(), None, None), |answer| (answer.text(), answer.counts, answer.known))
+/// With what is told beside the words; a line that is none has `?` for its answer.
+pub fn answered(line: &[u8]) -> (Vec<u8>, Told) {
+    answer_words(line).map_or((b"?".to_vec(), Told::default()), |answer| (answer.text(), answer.told))
 }
 
 fn answer_words(line: &[u8]) -> Option<Answer> {
@@ -41,7 +41,7 @@ fn answer_words(line: &[u8]) -> Option<Answer> {
         30..=35 => lines(number, a),
         40..=46 => solving(number, a),
         50..=54 => seeding(number, a),
-        60..=65 => ring_fit(number, a),
+        60..=66 => ring_fit(number, a),
         70..=77 => candidate_set(number, a),
         80..=83 => scoring(number, a),
         90..=95 => searching(number, a),
@@ -193,13 +193,16 @@ fn ring_fit(number: u8, a: &mut Arguments) -> Option<Answer> {
     if number == 65 {
         let ring = a.ring()?;
         a.end()?;
-        return Some(whole_fit(both::fit_ring24(&ring)));
+        let (fit, counts) = both::fit_ring24(&ring);
+        return Some(counted(new().floats(&fit), &counts));
     }
     let ring = a.ring()?;
     let (fit, counts) = match number {
-        60 => {
+        60 | 66 => {
             a.end()?;
-            return Some(whole_fit(both::fit_ring(&ring)));
+            let (fit, counts) = both::fit_ring(&ring);
+            let answer = new().floats(&fit);
+            return Some(counted(if number == 60 { answer } else { answer.mean(counts) }, &counts));
         }
         63 => {
             let [mean, variance] = a.floats()?;
@@ -215,9 +218,10 @@ fn ring_fit(number: u8, a: &mut Arguments) -> Option<Answer> {
     Some(new().optional(fit, |answer, words| answer.floats(&words).number(counts.updates[0] as usize)))
 }
 
-fn whole_fit((fit, counts): (Fit6, Counts)) -> Answer {
+/// The starts and the updates of each.
+fn counted(answer: Answer, counts: &Counts) -> Answer {
     let [first, second] = counts.updates;
-    new().floats(&fit).number(counts.starts as usize).number(first as usize).number(second as usize)
+    answer.number(counts.starts as usize).number(first as usize).number(second as usize)
 }
 
 fn candidate_set(number: u8, a: &mut Arguments) -> Option<Answer> {

@@ -20,13 +20,13 @@ use std::process::ExitCode;
 const USAGE: &str = "usage: oracle frames
        oracle functions
        oracle generate KIND COUNT SEED [NUMBERS]
-       oracle compare --program PATH --lines frames|functions --kind KIND --count N --seed S [--numbers LIST] [--types LIST]
-       oracle list --lines frames|functions --kind KIND --count N --seed S [--numbers LIST] [--types LIST] --out DIR
-       oracle paths --lines frames|functions --kind KIND --count N --seed S [--numbers LIST] [--types LIST]
+       oracle compare --program PATH --lines frames|functions|records --kind KIND --count N --seed S [--numbers LIST] [--types LIST]
+       oracle list --lines frames|functions|records --kind KIND --count N --seed S [--numbers LIST] [--types LIST] --out DIR
+       oracle paths --lines frames|functions|records --kind KIND --count N --seed S [--numbers LIST] [--types LIST]
        oracle corners --program PATH --count N --seed S
        oracle bench --kind rings|rings24|disks --count N --seed S [--program PATH]
        oracle once
-KIND is rings, disks, bits, limits, damaged, rings24, bits24, limits24, damaged24, functions or matrices; NUMBERS and LIST are such as 10-17,20-24
+KIND is rings, disks, bits, limits, damaged, rings24, bits24, limits24, damaged24, faint, faint24, functions or matrices; NUMBERS and LIST are such as 10-17,20-24
 --numbers chooses the functions that lines are made for; a frame outside --types (01,02,03) is answered as malformed";
 
 fn answer_lines(answer: impl Fn(&[u8]) -> Vec<u8>) -> io::Result<()> {

@@ -40,7 +40,8 @@ impl Options {
         match self.need("--lines")? {
             "frames" => Ok(Lines::Frames),
             "functions" => Ok(Lines::Functions),
-            other => Err(format!("--lines is frames or functions, not {other}")),
+            "records" => Ok(Lines::Records),
+            other => Err(format!("--lines is frames, functions or records, not {other}")),
         }
     }
 

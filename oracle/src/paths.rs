@@ -14,7 +14,7 @@ impl Paths {
     pub fn note(&mut self, outcome: &Outcome) {
         match outcome {
             Outcome::Fit(Kind::Ring, counts, known) => {
-                self.ring("ring: ", counts);
+                self.record("ring: ", counts);
                 self.known("ring: ", known);
             }
             Outcome::Fit(Kind::Disk, counts, known) => {
@@ -22,7 +22,7 @@ impl Paths {
                 self.known("disk: ", known);
             }
             Outcome::Fit(Kind::Ring24, counts, known) => {
-                self.ring("ring of 24: ", counts);
+                self.record("ring of 24: ", counts);
                 self.known("ring of 24: ", known);
             }
             Outcome::Refused(refusal, counts) => {
@@ -61,6 +61,20 @@ impl Paths {
         for &updates in &counts.updates[..counts.starts as usize] {
             self.add(what, UPDATES[updates as usize], true);
         }
+    }
+
+    /// The ways of a ring, and what is peculiar about the mean of the start that is answered.
+    pub fn record(&mut self, what: &'static str, counts: &Counts) {
+        self.ring(what, counts);
+        let (mean, start) = (counts.mean(), usize::from(counts.second_answered));
+        self.add(what, "first start answered of two", counts.starts == 2 && start == 0);
+        self.add(what, "degenerate second start answered", start == 1 && counts.degenerate[1]);
+        self.add(what, "degenerate start answered", counts.degenerate[start]);
+        self.add(what, "mean NaN", mean.is_nan());
+        self.add(what, "mean infinite", mean.is_infinite());
+        self.add(what, "mean -0", mean.to_bits() == (-0.0f32).to_bits());
+        let other = counts.means[1 - start];
+        self.add(what, "means of the two starts differ", other.is_some_and(|x| x.to_bits() != mean.to_bits()));
     }
 
     fn disk(&mut self, counts: &Counts) {

@@ -55,6 +55,15 @@ pub struct Counts {
     pub way: u64,
     /// Of the first and the second start; a disk has the first place.
     pub errors: [Option<Given>; 2],
+    /// The mu of the first and the second start.
+    pub means: [Option<f32>; 2],
+}
+
+impl Counts {
+    /// The mu of the start that is answered.
+    pub fn mean(&self) -> f32 {
+        self.means[usize::from(self.second_answered)].expect("a start has its mu")
+    }
 }
 
 thread_local! {
@@ -79,6 +88,15 @@ pub extern "C" fn oracle_errors(jtj: &[[f32; 4]; 4], ssr: f32, n: usize) {
         let mut counts = counts.borrow_mut();
         let start = (counts.starts as usize).saturating_sub(1);
         counts.errors[start] = Some(Given { jtj: *jtj, ssr, n });
+    });
+}
+
+#[no_mangle]
+pub extern "C" fn oracle_mean(mu: f32) {
+    COUNTS.with(|counts| {
+        let mut counts = counts.borrow_mut();
+        let start = counts.starts as usize - 1;
+        counts.means[start] = Some(mu);
     });
 }
 

@@ -173,23 +173,36 @@ impl Arguments {
     }
 }
 
-/// The words of an answer, of an elimination what it did, and of errors that say so whether they are known.
+/// Beside the words: of an elimination what it did, of errors that say so whether they are known, of a ring with its mean the way
+/// that it went.
+#[derive(Default)]
+pub struct Told {
+    pub eliminated: Option<Counts>,
+    pub known: Option<Known>,
+    pub ring: Option<Counts>,
+}
+
 #[derive(Default)]
 pub struct Answer {
     words: Vec<u32>,
-    pub counts: Option<Counts>,
-    pub known: Option<Known>,
+    pub told: Told,
 }
 
 impl Answer {
     pub fn eliminated(mut self, counts: Counts) -> Self {
-        self.counts = Some(counts);
+        self.told.eliminated = Some(counts);
         self
     }
 
     pub fn known(mut self, known: Known) -> Self {
-        self.known = Some(known);
+        self.told.known = Some(known);
         self.bool(known.holds())
+    }
+
+    /// The mu of the start that is answered.
+    pub fn mean(mut self, counts: Counts) -> Self {
+        self.told.ring = Some(counts);
+        self.float(counts.mean())
     }
 
     pub fn number(mut self, number: usize) -> Self {

@@ -6,8 +6,10 @@ use lib.ListN.{length, getD}
 use lib.Dec.{eqb, ltb}
 use lib.Ieee.{Float, nan}
 use lib.Ieee.Scale.{finite}
-use Rattle.robust.specs.Robust.{fitRing}
+use Rattle.robust.specs.Record.{fitRing}
 use Rattle.robust.specs.declared.RingFit.{RingFit}
+use Rattle.solver.specs.Solver.{RustFit}
+use Rattle.solver.specs.Record.{withoutMean}
 use Rattle.solver.specs.declared.TwoAxisFit.{TwoAxisFit}
 use Rattle.score.specs.Score.{fitEstimate}
 use Rattle.score.specs.declared.Fit.{Fit}
@@ -60,13 +62,21 @@ ringPlace (Fitted r) = 0
 ringPlace (Refused number place) = place
 
 -- amp, theta1, theta2, both errors, rms: the order of a ring's values stands here alone
-abbrev pub fitValues : TwoAxisFit → List Float
+abbrev pub fitValues : RustFit → List Float
 fitValues f = f .amp ∷ f .theta1 ∷ f .theta2 ∷ f .«fit_std_error_theta1» ∷ f .«fit_std_error_theta2» ∷ f .rms ∷ []
 
 -- nothing of a refusal
 unfoldable pub ringValues : RingAnswer → List Float
-ringValues (Fitted r) = fitValues (r .fit)
+ringValues (Fitted r) = fitValues (withoutMean (r .fit))
 ringValues (Refused number place) = []
+
+-- the record: those six, and the mean
+abbrev pub recordValues : TwoAxisFit → List Float
+recordValues f = fitValues (withoutMean f) ++ (f .mean ∷ [])
+
+unfoldable pub ringRecord : RingAnswer → List Float
+ringRecord (Fitted r) = recordValues (r .fit)
+ringRecord (Refused number place) = []
 
 -- starts, updates of the first and of the second start, known
 abbrev pub flag : Bool → ℕ

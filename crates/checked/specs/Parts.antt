@@ -8,7 +8,7 @@ use lib.ListN.{length, getD}
 use lib.Ieee.{Float, nan}
 use lib.Ieee.Scale.{finite}
 use Rattle.loops.specs.Loops.{iter}
-use Rattle.robust.specs.Robust.{fitRing}
+use Rattle.robust.specs.Record.{fitRing}
 use Rattle.checked.specs.declared.Refusal.{Refusal}
 use Rattle.checked.specs.declared.Refusal.the-variants.{By, Nothing}
 use Rattle.checked.specs.declared.RingAnswer.the-variants.{Fitted, Refused}

@@ -3,7 +3,7 @@
 -- that the code's answers equal them. A promise speaks of the paper's number, place, values and counts of an answer (Checked.antt). Assumes nothing.
 use mathlib.Core.Path.{_≡_, refl, sym, ap, subst, _∙_}
 use mathlib.Core.Bool.{Bool, true, false, cond, not, _&&_, _||_, true≢false, false≢true}
-use mathlib.Core.List.{List}
+use mathlib.Core.List.{List, [], _∷_, _++_}
 use Prim.Native.Nat.{ℕ, _+_, _*_, _^_, _≤_, _<_, min}
 use native.Mathlib.Omega.{arith}
 use lib.ListN.{length, getD, length-append, List·getD-append}
@@ -20,7 +20,12 @@ use Rattle.solver_errors.specs.StdErrorsLaws.{known-only, known-if}
 use Rattle.solver_errors.specs.CappedLaws.{known-estimated}
 use Rattle.solver_errors.specs.declared.Standing.{Standing}
 use Rattle.solver.specs.Solver.{Final, axesOf}
-use Rattle.robust.specs.Robust.{Source, ofPass, ofMean, ring, fitRing, ringSum}
+use Rattle.solver.specs.Record.{withoutMean}
+use Rattle.solver.specs.declared.Params.{Params}
+use Rattle.robust.specs.Robust.{Source, ofPass, ofSeed, ring, ringSum}
+use Rattle.robust.specs.Robust as Rust
+use Rattle.robust.specs.Record.{fitRing}
+use Rattle.robust.specs.RecordLaws as Kept
 use Rattle.robust.specs.KnownLaws.{StandsOn, ring-stands}
 use Rattle.robust.specs.SoundLaws.{SoundRing, ring-sound}
 use Rattle.robust.specs.Residual.{half, Share}
@@ -44,7 +49,7 @@ use Rattle.checked.specs.declared.DiskAnswer.the-variants as Disks
 use Rattle.checked.specs.declared.RingAnswer.{RingAnswer}
 use Rattle.checked.specs.declared.RingAnswer.the-variants.{Fitted, Refused}
 use Rattle.checked.specs.Checked as C
-use Rattle.checked.specs.Checked.{firstWild, ringInputs, checkedRing, ringNumber, ringPlace, ringValues, ringCounts, diskInputs, checkedDisk, diskNumber}
+use Rattle.checked.specs.Checked.{firstWild, ringInputs, checkedRing, ringNumber, ringPlace, ringValues, ringRecord, ringCounts, diskInputs, checkedDisk, diskNumber}
 use Rattle.checked.specs.Checked.{diskPlace, diskValues, diskCounts}
 use Rattle.checked.specs.CheckedLaws.{IsFirstWild, wild-first, clean-finite}
 use Rattle.floats.specs.FiniteLaws.{of-true}
@@ -132,7 +137,7 @@ module _ (n : ℕ) (samples angles : List Float) where
   abbrev pub SumTiny : Type 0
   SumTiny = let sum = ringSum n samples angles in T (not (isNan sum)) × T (le nought sum) × T (le sum (half n))
 
-  -- what the answered start was made of: where its updates stopped, with the sums of the last pass, or, where it was degenerate, the mean
+  -- what the answered start was made of: where its updates stopped, with the sums of the last pass, or, where it was degenerate, its seed
   abbrev source : Source
   source = ring n samples angles .answered .source
 
@@ -166,7 +171,7 @@ module _ (n : ℕ) (samples angles : List Float) where
     abbrev theFit : RingFit
     theFit = fitRing n samples angles
 
-    values-are : ringValues answer ≡ C.fitValues (theFit .fit)
+    values-are : ringValues answer ≡ C.fitValues (withoutMean (theFit .fit))
     unfolding ringValues
     values-are = rw (answered-is-the-fit .answer)
 
@@ -185,9 +190,22 @@ module _ (n : ℕ) (samples angles : List Float) where
     pub answered-finite : (length (ringInputs samples angles) ≡ 2 * n) × AllFinite (ringInputs samples angles)
     answered-finite = (answered-is-the-fit .length, answered-is-the-fit .finite)
 
-    -- demand 2: the six values and the counts are those of the definition that follows the Rust
-    pub answered-values : (ringValues answer ≡ C.fitValues (theFit .fit)) × (ringCounts answer ≡ C.fitCounts theFit)
-    answered-values = (values-are, counts-are)
+    -- demand 2: the six values are those of the definition that follows the Rust, and the counts those of its steps
+    pub answered-values : (ringValues answer ≡ C.fitValues (Rust.fitRing n samples angles)) × (ringCounts answer ≡ C.fitCounts theFit)
+    answered-values = (values-are ∙ ap C.fitValues (Kept.ring-rust n samples angles), counts-are)
+
+    -- the record has these six values and the mean, the mu that the Rust drops: that of the final parameters of the answered start, or, where that start
+    -- is degenerate, of its seed
+    abbrev recorded : ℕ → Float
+    recorded k = getD (ringRecord answer) k nan
+
+    pub ring-mean :
+        (ringRecord answer ≡ ringValues answer ++ (recorded 6 ∷ [])) ×
+        ((end : Final) → source ≡ ofPass end → recorded 6 ≡ end .p .mu) × ((seed : Params) → source ≡ ofSeed seed → recorded 6 ≡ seed .mu)
+    unfolding ringRecord ringValues
+    ring-mean =
+        let m = Kept.ring-mean n samples angles in
+        rw (answered-is-the-fit .answer) (refl, λ end e. rw e at m, λ seed e. rw e at m)
 
     sound : SoundRing theFit
     sound = ring-sound n samples angles
@@ -208,20 +226,20 @@ module _ (n : ℕ) (samples angles : List Float) where
     pub ring-known : (counted 3 ≡ 1 → RingKnown) × (RingKnown → counted 3 ≡ 1)
     ring-known = rw counts-are (λ e. only source refl (ring-stands n samples angles) (is-one _ e), λ k. ap C.flag (if k))
       where
-        only : (s : Source) → source ≡ s → StandsOn n s (theFit .fit) (theFit .standing) → theFit .standing .known ≡ true → RingKnown
-        only ofMean p w e = absurd (false≢true (sym (ap (λ (x : Standing). x .known) (w .2)) ∙ e))
+        only : (s : Source) → source ≡ s → StandsOn n s (withoutMean (theFit .fit)) (theFit .standing) → theFit .standing .known ≡ true → RingKnown
+        only (ofSeed seed) p w e = absurd (false≢true (sym (ap (λ (x : Standing). x .known) (w .2)) ∙ e))
         only (ofPass end) p w e =
             record { end = end; fitted = p; errors = known-only (end .last .m) (end .last .ssr) n (sym (ap (λ (x : Standing). x .known) (w .1)) ∙ e) }
 
         if : RingKnown → theFit .standing .known ≡ true
         if k =
-            let w = subst (λ (s : Source). StandsOn n s (theFit .fit) (theFit .standing)) (k .fitted) (ring-stands n samples angles) in
+            let w = subst (λ (s : Source). StandsOn n s (withoutMean (theFit .fit)) (theFit .standing)) (k .fitted) (ring-stands n samples angles) in
             ap (λ (x : Standing). x .known) (w .1) ∙ known-if (k .end .last .m) (k .end .last .ssr) n (k .errors)
 
     -- The error words do not depend on it: they are the Rust's errors of that matrix and that sum, exchanged where the axes are, and of a degenerate
     -- start PI.
     pub ring-error-words :
-        (source ≡ ofMean → (value 3 ≡ pi) × (value 4 ≡ pi)) ×
+        ((seed : Params) → source ≡ ofSeed seed → (value 3 ≡ pi) × (value 4 ≡ pi)) ×
         ((end : Final) → source ≡ ofPass end →
         let a = axesOf (end .p) in
         let e = axisStdErrors (end .last .m) (end .last .ssr) n in
@@ -229,12 +247,12 @@ module _ (n : ℕ) (samples angles : List Float) where
         (value 3 ≡ cond (a .swapped) (e .error2) (e .error1)) × (value 4 ≡ cond (a .swapped) (e .error1) (e .error2)))
     ring-error-words =
         rw values-are (
-          λ p. let w = of ofMean p in (w .0, w .1),
+          λ seed p. let w = of (ofSeed seed) p in (w .0, w .1),
           λ end p. let o = of (ofPass end) p .0 in (o .axis1, o .axis2, o .first, o .second),
         )
       where
-        of : (s : Source) → source ≡ s → StandsOn n s (theFit .fit) (theFit .standing)
-        of s p = subst (λ (x : Source). StandsOn n x (theFit .fit) (theFit .standing)) p (ring-stands n samples angles)
+        of : (s : Source) → source ≡ s → StandsOn n s (withoutMean (theFit .fit)) (theFit .standing)
+        of s p = subst (λ (x : Source). StandsOn n x (withoutMean (theFit .fit)) (theFit .standing)) p (ring-stands n samples angles)
 
     -- Where they are known, each is an estimate, of the variance and of its own entry, capped at PI: one that is PI was PI or more.
     pub ring-estimated : n ≤ 2 ^ 24 → (k : RingKnown) →

@@ -11,6 +11,7 @@ use Rattle.shapes.specs.declared.Shape.{Shape}
 use Rattle.shapes.specs.declared.Shape.the-variants as Shapes
 use Rattle.robust.specs.declared.RingFit.{RingFit}
 use Rattle.data.specs.Data.{DiskData}
+use Rattle.solver.specs.Record.{withoutMean}
 use Rattle.checked.specs.Checked.{checkedRing, checkedDisk, flag, fitValues, fitCounts, measuredValues}
 use Rattle.checked.specs.declared.RingAnswer.{RingAnswer}
 use Rattle.checked.specs.declared.RingAnswer.the-variants as Rings
@@ -79,7 +80,7 @@ valueWords = map (toBits binary32)
 
 -- the six values, and a word of the four counts
 abbrev pub ringWords : RingFit → List ℕ
-ringWords r = valueWords (fitValues (r .fit)) ++ (countsWord (fitCounts r) ∷ [])
+ringWords r = valueWords (fitValues (withoutMean (r .fit))) ++ (countsWord (fitCounts r) ∷ [])
 
 -- 8100 or 8300, then seven words: 60 characters
 unfoldable pub ringText : ℕ → RingFit → List ℕ

@@ -1,5 +1,5 @@
 // The test instrument's half below the disk: libfunclines.a, one export for each function that a
-// function line 10 to 65 calls. The program around it, tests/funclines.c, reads the lines and is not
+// function line 10 to 66 calls. The program around it, tests/funclines.c, reads the lines and is not
 // proved. No part of the product: an export may ask for something by `requires`, which that program
 // tests before it calls, and promises nothing but that it is safe and ends.
 use robust::RingFit;
@@ -58,6 +58,7 @@ pub struct Start {
 #[repr(C)]
 pub struct Ring {
     pub values: [f32; 6],
+    pub mean: f32,
     pub counts: [usize; 3],
 }
 
@@ -72,6 +73,7 @@ fn values_of(f: TwoAxisFit) -> [f32; 6] {
     ]
 }
 
+// The functions that take a fit do not look at its mean.
 fn fit_of(x: [f32; 6]) -> TwoAxisFit {
     TwoAxisFit {
         amp: x[0],
@@ -80,6 +82,7 @@ fn fit_of(x: [f32; 6]) -> TwoAxisFit {
         fit_std_error_theta1: x[3],
         fit_std_error_theta2: x[4],
         rms: x[5],
+        mean: 0.0,
     }
 }
 
@@ -282,7 +285,7 @@ pub extern "C" fn fl_axis_std_errors_known(jtj: &[[f32; 4]; 4], ssr: f32, n: usi
 
 #[no_mangle]
 pub extern "C" fn fl_degenerate_fit(centered_var: f32) -> Fit6 {
-    let values = values_of(solver::degenerate_fit(centered_var));
+    let values = values_of(solver::degenerate_fit(centered_var, 0.0));
     Fit6 { values }
 }
 
@@ -359,12 +362,14 @@ pub extern "C" fn fl_insert_seed_candidate(top: Seed5, candidate: &[f32; 5]) -> 
     seed_of(seed::insert_seed_candidate(top_of(top), candidate_of(*candidate)))
 }
 
-// ---- 60 to 65: the whole ring
+// ---- 60 to 66: the whole ring; 60 and 66 are one export
 
 fn ring_of(r: RingFit) -> Ring {
-    let values = values_of(r.fit);
+    let f = r.fit;
+    let values = values_of(f);
     Ring {
         values,
+        mean: f.mean,
         counts: [r.starts, r.first, r.second],
     }
 }

@@ -3,9 +3,11 @@ use mathlib.Core.Bool.{cond}
 use mathlib.Core.List.{List, [], _∷_, map}
 use Prim.Native.Nat.{ℕ, _+_, _*_, _%_}
 use lib.ListN.{length, set}
-use lib.Dec.{ltb}
+use lib.Dec.{eqb, ltb}
 use lib.Ieee.{Float}
-use Rattle.checked.specs.Checked.{checkedRing, checkedDisk, fitValues, fitCounts, measuredValues, measuredCounts}
+use Rattle.solver.specs.Record.{withoutMean}
+use Rattle.solver.specs.declared.TwoAxisFit.{TwoAxisFit}
+use Rattle.checked.specs.Checked.{checkedRing, checkedDisk, fitValues, recordValues, fitCounts, measuredValues, measuredCounts}
 use Rattle.checked.specs.declared.DiskAnswer.{DiskAnswer}
 use Rattle.checked.specs.declared.DiskAnswer.the-variants as Disks
 use Rattle.data.specs.Data.{DiskData}
@@ -27,17 +29,32 @@ pub record Stored : Type 0 where
   pub fit : List Float
   pub counts : List ℕ
 
+-- which values of a fit a ring's call writes, and how many they are: the Rust's six, or the record's seven
+pub record Form : Type 0 where
+  pub room : ℕ
+  pub values : TwoAxisFit → List Float
+
+abbrev pub theSix : Form
+theSix = record { room = 6; values = λ f. fitValues (withoutMean f) }
+
+abbrev pub theRecord : Form
+theRecord = record { room = 7; values = recordValues }
+
 -- 0 for a fit, whose values and counts stand in front; of a refusal number * 65536 + place, with both buffers as they were
-unfoldable pub ringStored : RingAnswer → List Float → List ℕ → Stored
-ringStored (Fitted r) fit counts = record { code = 0; fit = putFrom (fitValues (r .fit)) 0 fit; counts = putFrom (map wide (fitCounts r)) 0 counts }
-ringStored (Refused number place) fit counts = record { code = number * 65536 + place; fit = fit; counts = counts }
+unfoldable pub ringStored : Form → RingAnswer → List Float → List ℕ → Stored
+ringStored w (Fitted r) fit counts = record { code = 0; fit = putFrom (w .values (r .fit)) 0 fit; counts = putFrom (map wide (fitCounts r)) 0 counts }
+ringStored w (Refused number place) fit counts = record { code = number * 65536 + place; fit = fit; counts = counts }
 
 -- the call for a ring of n samples; a buffer that is too short gives number 1
-unfoldable pub ringCall : ℕ → List Float → List Float → List Float → List ℕ → Stored
-ringCall n samples angles fit counts =
-    cond (ltb (length fit) 6) (record { code = 65536; fit = fit; counts = counts })
+unfoldable pub ringCall : Form → ℕ → List Float → List Float → List Float → List ℕ → Stored
+ringCall w n samples angles fit counts =
+    cond (ltb (length fit) (w .room)) (record { code = 65536; fit = fit; counts = counts })
     (cond (ltb (length counts) 4) (record { code = 65536; fit = fit; counts = counts })
-    (ringStored (checkedRing n samples angles) fit counts))
+    (ringStored w (checkedRing n samples angles) fit counts))
+
+-- the record's call serves both rings: 24 samples are a ring of 24, and any other number is taken as a ring of 16
+abbrev pub ringSize : List Float → ℕ
+ringSize samples = cond (eqb (length samples) 24) 24 16
 
 unfoldable pub diskStored : DiskAnswer → List Float → List ℕ → Stored
 diskStored (Disks.Fitted m) fit counts =

@@ -11,7 +11,8 @@ ghost use mathlib.Core.List.{map};
 ghost use lib.ListN.{length};
 ghost use lib.Ieee.{binary32};
 ghost use Rattle.data.specs.Data.{lentDisk};
-ghost use Rattle.checked.specs.Checked.{fitValues, fitCounts, measuredValues, measuredCounts, flag};
+ghost use Rattle.solver.specs.Record.{withoutMean};
+ghost use Rattle.checked.specs.Checked.{fitValues, recordValues, fitCounts, measuredValues, measuredCounts, flag};
 ghost use Rattle.frames.specs.Frames as F;
 ghost use Rattle.jengubool.specs.Calls as J;
 ghost use Rattle.floats.specs.Library as L;
@@ -77,7 +78,7 @@ pub extern "C" fn jb_answer_line(line: &[u8], out: &mut [u8]) -> u32
 // The six values of a fit, in front of whatever the buffer holds behind them.
 fn put_fit(f: TwoAxisFit, fit: &mut [f32])
     requires { ⌜ 6 ≤ length (now fit) ⌝ }
-    ensures { λ _. ⌜ now (fit .exit) ≡ J.putFrom (fitValues f) 0 (now (fit .entry)) ⌝ }
+    ensures { λ _. ⌜ now (fit .exit) ≡ J.putFrom (fitValues (withoutMean f)) 0 (now (fit .entry)) ⌝ }
 {
     fit[0] = f.amp;
     fit[1] = f.theta1;
@@ -111,7 +112,7 @@ fn put_counts(r: RingFit, counts: &mut [u32])
 fn ring_stored(a: RingAnswer, fit: &mut [f32], counts: &mut [u32]) -> u32
     requires { ⌜ (6 ≤ length (now fit)) × (4 ≤ length (now counts)) ⌝ }
     ensures { λ r. ⌜ _≡_ {A = J.Stored} (record { code = r; fit = now (fit .exit); counts = now (counts .exit) })
-        (J.ringStored a (now (fit .entry)) (now (counts .entry))) ⌝ }
+        (J.ringStored J.theSix a (now (fit .entry)) (now (counts .entry))) ⌝ }
 {
     match a {
         RingAnswer::Fitted(r) => {
@@ -132,7 +133,7 @@ pub extern "C" fn jb_fit_ring(
     counts: &mut [u32],
 ) -> u32
     ensures { λ r. ⌜ _≡_ {A = J.Stored} (record { code = r; fit = now (fit .exit); counts = now (counts .exit) })
-        (J.ringCall 16 (now (samples .entry)) (now (angles .entry)) (now (fit .entry)) (now (counts .entry))) ⌝ }
+        (J.ringCall J.theSix 16 (now (samples .entry)) (now (angles .entry)) (now (fit .entry)) (now (counts .entry))) ⌝ }
 {
     if fit.len() < 6 {
         return 65536;
@@ -152,7 +153,7 @@ pub extern "C" fn jb_fit_ring24(
     counts: &mut [u32],
 ) -> u32
     ensures { λ r. ⌜ _≡_ {A = J.Stored} (record { code = r; fit = now (fit .exit); counts = now (counts .exit) })
-        (J.ringCall 24 (now (samples .entry)) (now (angles .entry)) (now (fit .entry)) (now (counts .entry))) ⌝ }
+        (J.ringCall J.theSix 24 (now (samples .entry)) (now (angles .entry)) (now (fit .entry)) (now (counts .entry))) ⌝ }
 {
     if fit.len() < 6 {
         return 65536;
@@ -161,6 +162,54 @@ pub extern "C" fn jb_fit_ring24(
         return 65536;
     }
     ring_stored(checked::fit_ring24(samples, angles), fit, counts)
+}
+
+// The seven values of a fit's record: the six, and the mean.
+fn put_record(f: TwoAxisFit, fit: &mut [f32])
+    requires { ⌜ 7 ≤ length (now fit) ⌝ }
+    ensures { λ _. ⌜ now (fit .exit) ≡ J.putFrom (recordValues f) 0 (now (fit .entry)) ⌝ }
+{
+    put_fit(f, fit);
+    fit[6] = f.mean;
+}
+
+fn record_stored(a: RingAnswer, fit: &mut [f32], counts: &mut [u32]) -> u32
+    requires { ⌜ (7 ≤ length (now fit)) × (4 ≤ length (now counts)) ⌝ }
+    ensures { λ r. ⌜ _≡_ {A = J.Stored} (record { code = r; fit = now (fit .exit); counts = now (counts .exit) })
+        (J.ringStored J.theRecord a (now (fit .entry)) (now (counts .entry))) ⌝ }
+{
+    match a {
+        RingAnswer::Fitted(r) => {
+            put_record(r.fit, fit);
+            put_counts(r, counts);
+            0
+        }
+        RingAnswer::Refused(number, place) => (number as u32) * 65536 + place as u32,
+    }
+}
+
+// The ring's answer with its mean, of 16 samples or of 24: any four slices.
+#[no_mangle]
+pub extern "C" fn jb_ring_record(
+    samples: &[f32],
+    angles: &[f32],
+    fit: &mut [f32],
+    counts: &mut [u32],
+) -> u32
+    ensures { λ r. ⌜ _≡_ {A = J.Stored} (record { code = r; fit = now (fit .exit); counts = now (counts .exit) })
+        (J.ringCall J.theRecord (J.ringSize (now (samples .entry))) (now (samples .entry)) (now (angles .entry))
+        (now (fit .entry)) (now (counts .entry))) ⌝ }
+{
+    if fit.len() < 7 {
+        return 65536;
+    }
+    if counts.len() < 4 {
+        return 65536;
+    }
+    if samples.len() == 24 {
+        return record_stored(checked::fit_ring24(samples, angles), fit, counts);
+    }
+    record_stored(checked::fit_ring(samples, angles), fit, counts)
 }
 
 // The eleven values of a disk's fit.

@@ -8,33 +8,36 @@ use Rattle.floats.specs.Ops.{pi}
 use Rattle.floats.specs.Rows.{Row}
 use Rattle.solver_errors.specs.StdErrors.{axisStdErrors, unfounded, standing}
 use Rattle.solver_errors.specs.declared.Standing.{Standing}
-use Rattle.solver.specs.Solver.{Final, axesOf, sines, cosines, updates, startFrom, degenerate, degenerateFit, refused, fitWithSeed}
+use Rattle.solver.specs.Solver.{RustFit, Final, axesOf, sines, cosines, updates, degenerate, degenerateFit, finishedAt, fitWithSeed}
+use Rattle.solver.specs.Record.{withoutMean, startFrom, refused}
+use Rattle.solver.specs.Record as Record
 use Rattle.solver.specs.SoundLaws.{ErrorsOf, finished-errors}
 use Rattle.solver.specs.declared.Params.{Params}
-use Rattle.solver.specs.declared.TwoAxisFit.{TwoAxisFit}
-use Rattle.robust.specs.Robust.{Source, ofPass, ofMean, Start, start, meanOf, varianceOf, ring, fitRing}
+use Rattle.robust.specs.Robust.{Source, ofPass, ofSeed, Start, start, meanOf, varianceOf, ring}
+use Rattle.robust.specs.Record.{fitRing}
 use Rattle.robust.specs.SoundLaws.{ring-each}
 
-abbrev pub StandsOn : ℕ → Source → TwoAxisFit → Standing → Type 0
-StandsOn n ofMean f s = (f .«fit_std_error_theta1» ≡ pi) × (f .«fit_std_error_theta2» ≡ pi) × (s ≡ unfounded)
+abbrev pub StandsOn : ℕ → Source → RustFit → Standing → Type 0
+StandsOn n (ofSeed seed) f s = (f .«fit_std_error_theta1» ≡ pi) × (f .«fit_std_error_theta2» ≡ pi) × (s ≡ unfounded)
 StandsOn n (ofPass end) f s =
     let l = end .last in ErrorsOf (axesOf (end .p)) (axisStdErrors (l .m) (l .ssr) n) f × (s ≡ standing (l .m) (l .ssr) n)
 
 start-stands : (n : ℕ) (samples ringPhi : Row) (seed : Params) (centeredVar : Float)
     → let s = start n samples ringPhi seed centeredVar in StandsOn n (s .source) (s .fit) (s .standing)
-unfolding start fitWithSeed
+unfolding start fitWithSeed Record.fitWithSeed
 start-stands n samples ringPhi seed centeredVar = go (degenerate (seed .amp) centeredVar)
   where
     end : Final
     end = updates n samples (sines n ringPhi) (cosines n ringPhi) seed
 
-    go : (b : Bool) → let s = cond b (refused centeredVar) (startFrom n end) in StandsOn n (cond b ofMean (ofPass end)) (s .fit) (s .standing)
+    go : (b : Bool) → StandsOn n (cond b (ofSeed seed) (ofPass end)) (cond b (degenerateFit centeredVar) (finishedAt n end))
+        (cond b (refused centeredVar (seed .mu)) (startFrom n end) .standing)
     go true = unfold degenerateFit in (refl, refl, refl)
     go false = (finished-errors n (end .p) (end .last .m) (end .last .ssr), refl)
 
 -- for every number of samples and all values
 pub ring-stands : (n : ℕ) (samples ringPhi : Row)
-    → let r = fitRing n samples ringPhi in StandsOn n (ring n samples ringPhi .answered .source) (r .fit) (r .standing)
+    → let r = fitRing n samples ringPhi in StandsOn n (ring n samples ringPhi .answered .source) (withoutMean (r .fit)) (r .standing)
 unfolding fitRing
 ring-stands n samples ringPhi =
     ring-each (λ (s : Start). StandsOn n (s .source) (s .fit) (s .standing)) n samples ringPhi

@@ -1,5 +1,7 @@
 pub mod Robust
+pub mod Record
 pub mod Parts
+pub mod RecordLaws
 pub mod RobustLaws
 pub mod SoundLaws
 pub mod Residual

@@ -5,7 +5,7 @@ use mathlib.Core.Option.{Option, none, some}
 use Prim.Native.Nat.{ℕ, _+_, _*_, _≤_}
 use lib.ListN.{length}
 use Rattle.floats.specs.Rows.{Row}
-use Rattle.solver.specs.Solver.{fitWithSeed}
+use Rattle.solver.specs.Record.{withMean, fitWithSeed}
 use Rattle.solver.specs.Buffers.{Prepared, maxSamples}
 use Rattle.solver.specs.declared.Started.{Started}
 use Rattle.seed.specs.Seed.{secondHarmonic}
@@ -15,6 +15,7 @@ use Rattle.robust.specs.declared.Second.{Second}
 use Rattle.robust.specs.declared.Second.the-variants.{Made, Missing}
 use Rattle.robust.specs.declared.RingFit.{RingFit}
 use Rattle.robust.specs.Robust as R
+use Rattle.robust.specs.Record.{meanFrom, ringFitOf}
 
 -- ---- the buffers: an angle, a sine and a cosine for each sample, and four places in js
 pub record Lent (samples ringPhi sphi cphi js : Row) : Type 0 where
@@ -35,9 +36,9 @@ pub record Ready (samples ringPhi sphi cphi js : Row) : Type 0 where
 pub record Rows (samples h : Row) : Type 0 where
   pub places : length h ≡ gridPlaces * length samples + 2
 
--- ---- starts without what they were made of
+-- ---- starts with their mean, without what they were made of
 abbrev pub startedOf : R.Start → Started
-startedOf s = record { fit = s .fit; standing = s .standing; updates = s .updates }
+startedOf s = record { fit = withMean (s .fit) (meanFrom (s .source)); standing = s .standing; updates = s .updates }
 
 abbrev pub secondOf : Option R.Start → Second
 secondOf none = Missing
@@ -53,10 +54,10 @@ firstOf n samples ringPhi =
 
 -- r is the answer of one start, or of two, whatever their sums
 pub record Alone (primary : Started) (r : RingFit) : Type 0 where
-  pub is : (f : R.Start) → primary ≡ startedOf f → r ≡ R.ringFitOf (R.single f)
+  pub is : (f : R.Start) → primary ≡ startedOf f → r ≡ ringFitOf (R.single f)
 
 pub record Chosen (primary : Started) (second : Second) (r : RingFit) : Type 0 where
-  pub is : (f : R.Start) (o : Option R.Start) → primary ≡ startedOf f → second ≡ secondOf o → r ≡ R.ringFitOf (R.chosen f o)
+  pub is : (f : R.Start) (o : Option R.Start) → primary ≡ startedOf f → second ≡ secondOf o → r ≡ ringFitOf (R.chosen f o)
 
 -- r is the answer of the first start f and of the grid's
 abbrev pub WithGrid : Row → Row → First → RingFit → Type 0

@@ -9,12 +9,12 @@ use Rattle.floats.specs.Ops.{_⊘_, lit, nought}
 use Rattle.floats.specs.Rows.{count}
 use Rattle.floats.specs.UnitLaws.{Val}
 use Rattle.floats.specs.Library.{max, sqrt}
-use Rattle.robust.specs.Robust.{Source, ofPass, ofMean}
+use Rattle.robust.specs.Robust.{Source, ofPass, ofSeed}
 
 -- the root of the mean square of a pass, or of the variance, one below zero taken as 0
 abbrev pub MadeOf : ℕ → Float → Float → Source → Type 0
 MadeOf n centeredVar rms (ofPass end) = rms ≡ sqrt binary32 (end .last .ssr ⊘ count n)
-MadeOf n centeredVar rms ofMean = rms ≡ sqrt binary32 (max centeredVar nought)
+MadeOf n centeredVar rms (ofSeed seed) = rms ≡ sqrt binary32 (max centeredVar nought)
 
 -- half of n units of 2 ^ -149, the smallest f32 above 0: 2 ^ -146 of 16 samples
 abbrev pub half : ℕ → Float

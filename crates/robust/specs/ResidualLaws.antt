@@ -30,10 +30,11 @@ use Rattle.floats.specs.FiniteLaws.{of-true, finite-number}
 use Rattle.loops.specs.Loops.{iter}
 use Rattle.loops.specs.IterLaws.{iter-keeps}
 use Rattle.solver.specs.SolverLaws.{run-full, run-stay, run-to}
-use Rattle.solver.specs.Solver.{Normal, empty, added, pass, Step, stay, to, Final, updatesFrom, updates, sines, cosines, startFrom}
-use Rattle.solver.specs.Solver.{degenerate, degenerateFit, refused, finished, assembled, fitWithSeed}
+use Rattle.solver.specs.Solver.{Normal, empty, added, pass, Step, stay, to, Final, updatesFrom, updates, sines, cosines, finishedAt}
+use Rattle.solver.specs.Solver.{degenerate, degenerateFit, finished, assembled, fitWithSeed}
 use Rattle.solver.specs.declared.Params.{Params}
-use Rattle.robust.specs.Robust.{negativeZero, total, deviations, meanOf, varianceOf, Source, ofPass, ofMean, start, ring, fitRing, sumOf, ringSum}
+use Rattle.robust.specs.Robust.{negativeZero, total, deviations, meanOf, varianceOf, Source, ofPass, ofSeed, start, ring, sumOf, ringSum}
+use Rattle.robust.specs.Record.{fitRing}
 use Rattle.robust.specs.SoundLaws.{ring-each}
 use Rattle.robust.specs.Residual.{MadeOf, half, Tiny, oneUnit, Share}
 
@@ -262,21 +263,21 @@ start-made n samples ringPhi seed centeredVar = go (degenerate (seed .amp) cente
     end : Final
     end = updates n samples (sines n ringPhi) (cosines n ringPhi) seed
 
-    go : (b : Bool) → MadeOf n centeredVar (cond b (refused centeredVar) (startFrom n end) .fit .rms)
-        (cond b ofMean (ofPass end))
+    go : (b : Bool) → MadeOf n centeredVar (cond b (degenerateFit centeredVar) (finishedAt n end) .rms)
+        (cond b (ofSeed seed) (ofPass end))
     go true = unfold degenerateFit in refl
     go false = unfold finished assembled in refl
 
 -- a pass's sum fits f32, and is a NaN or not below zero
 abbrev Summed : Source → Type 0
 Summed (ofPass end) = Good (end .last .ssr)
-Summed ofMean = 0 ≤ 0
+Summed (ofSeed seed) = 0 ≤ 0
 
 start-summed : (n : ℕ) (samples ringPhi : Row) (seed : Params) (centeredVar : Float) → Summed (start n samples ringPhi seed centeredVar .source)
 unfolding start
 start-summed n samples ringPhi seed centeredVar = go (degenerate (seed .amp) centeredVar)
   where
-    go : (b : Bool) → Summed (cond b ofMean (ofPass (updates n samples (sines n ringPhi) (cosines n ringPhi) seed)))
+    go : (b : Bool) → Summed (cond b (ofSeed seed) (ofPass (updates n samples (sines n ringPhi) (cosines n ringPhi) seed)))
     go true = omega arith
     go false = updates-good n samples (sines n ringPhi) (cosines n ringPhi) seed
 
@@ -308,7 +309,7 @@ module _ (n : ℕ) (share : Share n) where
       let root = zero-root (ssr ⊘ count n) (div-fits binary32 ssr (count n)) (subst (λ (r : Float). eq r nought ≡ true) e z) in
       let low = nth-low n share ssr (q .0) root in
       record { number = low .number; above = upright-above binary32 ssr (q .0) (level-upright ssr (low .number) (q .1)); small = low .small }
-  made-tiny dev rms ofMean p u q e z =
+  made-tiny dev rms (ofSeed seed) p u q e z =
       let v = dev ⊘ count n in
       let root = zero-root (max v nought) (max-fits v (div-fits binary32 dev (count n))) (subst (λ (r : Float). eq r nought ≡ true) e z) in
       let low = nth-low n share dev p (max-low v (nth-number n share dev p (upright-number dev u)) root) in

@@ -1,6 +1,6 @@
--- The whole ring fit: ring_fit/robust.rs, and AMP_FLOOR of ring_fit/mod.rs. Definitions only.
+-- The whole ring fit as the Rust has it: ring_fit/robust.rs, and AMP_FLOOR of ring_fit/mod.rs. Definitions only.
 -- robust_grid_fit from the rows of the grid to the best seed is crates/robust_grid/specs/Grid.antt.
--- `n` is the number of samples throughout; `ringPhi` are their angles on the ring.
+-- `n` is the number of samples throughout; `ringPhi` are their angles on the ring. The answer of ours, which keeps the mean, is Record.antt.
 use mathlib.Core.Bool.{Bool, false, cond, not, _&&_, _||_}
 use mathlib.Core.Option.{Option, none, some}
 use Prim.Native.Nat.{ℕ}
@@ -11,17 +11,16 @@ use Rattle.floats.specs.Rows.{Row, at, count}
 use Rattle.floats.specs.Library.{max, toRadians}
 use Rattle.geometry.specs.Geometry.{lineSeparation}
 use Rattle.loops.specs.Loops.{iter, tab}
-use Rattle.solver.specs.Solver.{Final, sines, cosines, updates, degenerate, fitWithSeed}
+use Rattle.solver.specs.Solver.{RustFit, Final, sines, cosines, updates, degenerate, fitWithSeed}
+use Rattle.solver.specs.Record as Record
 use Rattle.solver_errors.specs.declared.Standing.{Standing}
 use Rattle.solver.specs.declared.Params.{Params}
-use Rattle.solver.specs.declared.TwoAxisFit.{TwoAxisFit}
 use Rattle.seed.specs.Seed.{secondHarmonic, flat}
 use Rattle.seed.specs.declared.Harmonic.{Harmonic}
 use Rattle.seed.specs.declared.Seed.{Seed}
 use Rattle.seed.specs.declared.Seed.the-variants.{Found, Nothing}
 use Rattle.seed.specs.declared.SeedCandidate.{SeedCandidate}
 use Rattle.robust_grid.specs.Grid.{bestSeed}
-use Rattle.robust.specs.declared.RingFit.{RingFit}
 
 -- ---- mod.rs: AMP_FLOOR; robust.rs: ROBUST_REL_RMS_TRIGGER, ROBUST_SEP_TRIGGER_MIN_RAD and ROBUST_SEP_TRIGGER_MAX_RAD, 0.12 and 65 and 115 degrees
 abbrev pub ampFloor : Float
@@ -53,39 +52,39 @@ abbrev pub varianceOf : ℕ → Row → Float → Float
 varianceOf n samples mean = deviations n samples mean ⊘ count n
 
 -- ---- robust.rs: relative_rms and fit_is_suspicious
-unfoldable pub relativeRms : TwoAxisFit → Float
+unfoldable pub relativeRms : RustFit → Float
 relativeRms f = cond (finite (f .rms)) (max (f .rms) nought ⊘ max (f .amp) ampFloor) (inf false)
 
 unfoldable pub outside : Float → Bool
 outside sep = not (le robustSepTriggerMinRad sep && le sep robustSepTriggerMaxRad)
 
-unfoldable pub triggered : TwoAxisFit → Bool
+unfoldable pub triggered : RustFit → Bool
 triggered f = outside (lineSeparation (f .theta1) (f .theta2)) || le robustRelRmsTrigger (relativeRms f)
 
-unfoldable pub fitIsSuspicious : TwoAxisFit → Bool
+unfoldable pub fitIsSuspicious : RustFit → Bool
 fitIsSuspicious f = cond (not (finite (f .amp)) || (not (finite (f .rms)) || lt (f .amp) ampFloor)) false (triggered f)
 
 -- ---- a start: fit_with_seed's fit, the standing of its errors and its number of updates, and what they were made of: where the updates stopped,
--- with the sums of the last pass, or, where the start is refused, the deviations from the mean
+-- with the sums of the last pass, or, where the start is degenerate, the seed alone
 pub data Source : Type 0 where
   ofPass : Final → Source
-  ofMean : Source
+  ofSeed : Params → Source
 
 pub record Start : Type 0 where
-  pub fit : TwoAxisFit
+  pub fit : RustFit
   pub standing : Standing
   pub updates : ℕ
   pub source : Source
 
 unfoldable pub start : ℕ → Row → Row → Params → Float → Start
 start n samples ringPhi seed centeredVar =
-    let s = fitWithSeed n samples ringPhi seed centeredVar in
+    let s = Record.fitWithSeed n samples ringPhi seed centeredVar in
     let end = updates n samples (sines n ringPhi) (cosines n ringPhi) seed in
     record {
-      fit = s .fit;
+      fit = fitWithSeed n samples ringPhi seed centeredVar;
       standing = s .standing;
       updates = s .updates;
-      source = cond (degenerate (seed .amp) centeredVar) ofMean (ofPass end);
+      source = cond (degenerate (seed .amp) centeredVar) (ofSeed seed) (ofPass end);
     }
 
 -- ---- robust.rs: refine_seed_candidates, ROBUST_TOP_SEEDS being 1
@@ -110,7 +109,7 @@ robustGridFit n samples ringPhi mean centeredVar =
     cond (lt centeredVar (lit 0x3586_37bd) || flat centeredSs) none
     (refineSeedCandidates n samples ringPhi centeredVar (bestSeed n (sines n ringPhi) (cosines n ringPhi) centered centeredSs mean))
 
--- ---- robust.rs: fit_ring, with its number of starts and of updates
+-- ---- robust.rs: fit_ring, beside it its number of starts and of updates
 -- the start that is answered, the number of starts, and the updates of each
 pub record Ring : Type 0 where
   pub answered : Start
@@ -122,7 +121,7 @@ abbrev pub single : Start → Ring
 single f = record { answered = f; starts = 1; first = f .updates; second = 0 }
 
 -- the second start is answered only where its residual is lower by more than 1e-3
-abbrev pub isLower : TwoAxisFit → TwoAxisFit → Bool
+abbrev pub isLower : RustFit → RustFit → Bool
 isLower candidate primary = lt (candidate .rms) (primary .rms ⊖ lit 0x3a83_126f)
 
 unfoldable pub chosen : Start → Option Start → Ring
@@ -141,16 +140,13 @@ ring n samples ringPhi =
     let primary = start n samples ringPhi seed centeredVar in
     cond (fitIsSuspicious (primary .fit)) (chosen primary (robustGridFit n samples ringPhi mean centeredVar)) (single primary)
 
-abbrev pub ringFitOf : Ring → RingFit
-ringFitOf r = record { fit = r .answered .fit; standing = r .answered .standing; starts = r .starts; first = r .first; second = r .second }
-
-unfoldable pub fitRing : ℕ → Row → Row → RingFit
-fitRing n samples ringPhi = ringFitOf (ring n samples ringPhi)
+unfoldable pub fitRing : ℕ → Row → Row → RustFit
+fitRing n samples ringPhi = ring n samples ringPhi .answered .fit
 
 -- the sum of squares that the answered rms was made of
 abbrev pub sumOf : Float → Source → Float
 sumOf dev (ofPass end) = end .last .ssr
-sumOf dev ofMean = dev
+sumOf dev (ofSeed seed) = dev
 
 unfoldable pub ringSum : ℕ → Row → Row → Float
 ringSum n samples ringPhi = sumOf (deviations n samples (meanOf n samples)) (ring n samples ringPhi .answered .source)

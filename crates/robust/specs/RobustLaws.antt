@@ -13,7 +13,9 @@ use Rattle.floats.specs.Ops.{lit}
 use Rattle.floats.specs.Rows.{Row}
 use Rattle.floats.specs.Library.{toRadians}
 use Rattle.loops.specs.TabLaws.{tab-length, part-same}
-use Rattle.solver.specs.Solver.{sines, cosines, updates, startFrom, degenerate, degenerateFit, refused, fitWithSeed}
+use Rattle.solver.specs.Solver.{sines, cosines, updates, degenerate, degenerateFit}
+use Rattle.solver.specs.Record.{withoutMean, startFrom, refused, fitWithSeed}
+use Rattle.solver.specs.Record as Record
 use Rattle.solver.specs.Buffers.{Prepared, PassRoom, maxSamples}
 use Rattle.robust_lanes.specs.Lanes.{gridPlaces}
 use Rattle.solver.specs.SolverLaws.{prepared-length, whole-prepared}
@@ -31,6 +33,8 @@ use Rattle.robust.specs.declared.Second.{Second}
 use Rattle.robust.specs.declared.Second.the-variants.{Made, Missing}
 use Rattle.robust.specs.declared.RingFit.{RingFit}
 use Rattle.robust.specs.Robust as R
+use Rattle.robust.specs.Record.{ringFitOf, fitRing}
+use Rattle.robust.specs.RecordLaws.{start-is}
 use Rattle.robust.specs.Parts.{Ready, Rows, startedOf, secondOf, firstOf, Alone, Chosen}
 
 -- ---- the literals of the code
@@ -51,9 +55,11 @@ degenerate-calm centeredVar = go (not (finite (degenerateFit centeredVar .rms)))
     go true = refl
     go false = refl
 
-pub refused-calm : {P : Type 0} (s : Started) (centeredVar : Float) → s ≡ refused centeredVar → R.fitIsSuspicious (s .fit) ≡ true → P
-refused-calm s centeredVar e t =
-    absurd (false≢true (sym (degenerate-calm centeredVar) ∙ sym (ap (λ (x : Started). R.fitIsSuspicious (x .fit)) e) ∙ t))
+pub refused-calm : {P : Type 0} (s : Started) (centeredVar mean : Float) → s ≡ refused centeredVar mean
+    → R.fitIsSuspicious (withoutMean (s .fit)) ≡ true → P
+unfolding Record.degenerateFit
+refused-calm s centeredVar mean e t =
+    absurd (false≢true (sym (degenerate-calm centeredVar) ∙ sym (ap (λ (x : Started). R.fitIsSuspicious (withoutMean (x .fit))) e) ∙ t))
 
 -- ---- the buffers of a start are those of the solver
 pub ready-room : {samples ringPhi sphi cphi js : Row} → Ready samples ringPhi sphi cphi js → PassRoom samples sphi cphi js
@@ -71,7 +77,7 @@ ready-rows {samples} {ringPhi} {sphi} {cphi} r w =
 
 -- ---- a start, where it is refused and where the sines and cosines are at hand
 module _ (n : ℕ) (samples ringPhi : Row) (seed : Params) (centeredVar : Float) where
-  pub start-refused : {b : Bool} {s : Started} → b ≡ degenerate (seed .amp) centeredVar → b ≡ true → s ≡ refused centeredVar
+  pub start-refused : {b : Bool} {s : Started} → b ≡ degenerate (seed .amp) centeredVar → b ≡ true → s ≡ refused centeredVar (seed .mu)
       → s ≡ fitWithSeed n samples ringPhi seed centeredVar
   unfolding fitWithSeed
   start-refused d t e = rw (← d, t) e
@@ -89,8 +95,8 @@ module _ (n : ℕ) (samples ringPhi : Row) (centeredVar : Float) (top : Seed) wh
 
   pub refined-made : (s : SeedCandidate) (f : Started) → top ≡ Found s → f ≡ fitWithSeed n samples ringPhi (R.seeded s) centeredVar
       → Made f ≡ secondOf (R.refineSeedCandidates n samples ringPhi centeredVar top)
-  unfolding R.refineSeedCandidates R.start
-  refined-made s f e h = rw e (ap Made h)
+  unfolding R.refineSeedCandidates
+  refined-made s f e h = rw e (ap Made (h ∙ start-is n samples ringPhi (R.seeded s) centeredVar))
 
 -- ---- the grid's start: refused by the variance or the sum of squares, or made
 -- the centred samples stand at the front of js
@@ -151,7 +157,7 @@ module _ (primary : Started) (s : Second) where
   chosen-alone r e a = record { is = go e a }
     where
       go : s ≡ Missing → Alone primary r → (f : R.Start) (o : Option R.Start) → primary ≡ startedOf f → s ≡ secondOf o
-          → r ≡ R.ringFitOf (R.chosen f o)
+          → r ≡ ringFitOf (R.chosen f o)
       go e a f none p q = unfold R.chosen in a .is f p
       go e a f (some g) p q = absurd (never (sym q ∙ e))
         where
@@ -159,7 +165,7 @@ module _ (primary : Started) (s : Second) where
           never e = let z : _≡_ {A = ℕ} 0 1 = cc in omega arith
 
   pub chosen-two : (candidate answered : Started) → s ≡ Made candidate
-      → answered ≡ cond (R.isLower (candidate .fit) (primary .fit)) candidate primary
+      → answered ≡ cond (R.isLower (withoutMean (candidate .fit)) (withoutMean (primary .fit))) candidate primary
       → Chosen primary s (two answered (primary .updates) (candidate .updates))
   unfolding R.chosen
   chosen-two candidate answered e h = record { is = go }
@@ -172,7 +178,7 @@ module _ (primary : Started) (s : Second) where
       same g e = cc
 
       go : (f : R.Start) (o : Option R.Start) → primary ≡ startedOf f → s ≡ secondOf o
-          → two answered (primary .updates) (candidate .updates) ≡ R.ringFitOf (R.chosen f o)
+          → two answered (primary .updates) (candidate .updates) ≡ ringFitOf (R.chosen f o)
       go f none p q = absurd (never (sym e ∙ q))
         where
           never : Made candidate ≡ Missing → ⊥
@@ -191,16 +197,20 @@ module _ (n : ℕ) (samples ringPhi : Row) (f : First) (r : RingFit) (e : f ≡ 
   abbrev primary : R.Start
   primary = R.start n samples ringPhi (R.firstSeed (secondHarmonic n samples ringPhi mean) mean) centeredVar
 
-  pub ring-alone : R.fitIsSuspicious (f .primary .fit) ≡ false → Alone (f .primary) r → r ≡ R.fitRing n samples ringPhi
-  unfolding R.fitRing R.ring R.start
-  ring-alone t a =
-      let calm : R.fitIsSuspicious (primary .fit) ≡ false = ap (λ (x : First). R.fitIsSuspicious (x .primary .fit)) (sym e) ∙ t in
-      rw calm (subst (λ (x : First). Alone (x .primary) r) e a .is primary refl)
+  -- the code's first start is the definition's
+  first-is : f .primary ≡ startedOf primary
+  first-is = ap (λ (x : First). x .primary) e ∙ start-is n samples ringPhi _ centeredVar
 
-  pub ring-chosen : R.fitIsSuspicious (f .primary .fit) ≡ true
-      → Chosen (f .primary) (secondOf (R.robustGridFit n samples ringPhi (f .mean) (f .«centered_var»))) r → r ≡ R.fitRing n samples ringPhi
-  unfolding R.fitRing R.ring R.start
+  pub ring-alone : R.fitIsSuspicious (withoutMean (f .primary .fit)) ≡ false → Alone (f .primary) r → r ≡ fitRing n samples ringPhi
+  unfolding fitRing R.ring
+  ring-alone t a =
+      let calm : R.fitIsSuspicious (primary .fit) ≡ false = ap (λ (x : Started). R.fitIsSuspicious (withoutMean (x .fit))) (sym first-is) ∙ t in
+      rw calm (a .is primary first-is)
+
+  pub ring-chosen : R.fitIsSuspicious (withoutMean (f .primary .fit)) ≡ true
+      → Chosen (f .primary) (secondOf (R.robustGridFit n samples ringPhi (f .mean) (f .«centered_var»))) r → r ≡ fitRing n samples ringPhi
+  unfolding fitRing R.ring
   ring-chosen t c =
-      let due : R.fitIsSuspicious (primary .fit) ≡ true = ap (λ (x : First). R.fitIsSuspicious (x .primary .fit)) (sym e) ∙ t in
+      let due : R.fitIsSuspicious (primary .fit) ≡ true = ap (λ (x : Started). R.fitIsSuspicious (withoutMean (x .fit))) (sym first-is) ∙ t in
       let second : First → Second = λ x. secondOf (R.robustGridFit n samples ringPhi (x .mean) (x .«centered_var»)) in
-      rw due (subst (λ (x : First). Chosen (x .primary) (second x) r) e c .is primary _ refl refl)
+      rw due (c .is primary _ first-is (ap second e))

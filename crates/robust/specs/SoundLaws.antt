@@ -14,6 +14,7 @@ use Rattle.floats.specs.Library.{toRadians}
 use Rattle.loops.specs.IterLaws.{iter-keeps, range-keeps}
 use Rattle.geometry.specs.Geometry.{validPair}
 use Rattle.solver.specs.Solver.{sines, cosines}
+use Rattle.solver.specs.Record.{withoutMean}
 use Rattle.solver.specs.SoundLaws.{ParamsHeld, Sound, start-sound, start-most}
 use Rattle.solver.specs.declared.Params.{Params}
 use Rattle.seed.specs.Seed.{robustGridStepDeg, flat, kept, scored, scoreSeedPair, pairSums, insertSeedCandidate, secondHarmonic, harmonic}
@@ -25,6 +26,7 @@ use Rattle.robust_lanes.specs.Lanes.{inserted}
 use Rattle.robust_grid.specs.Grid.{gridAngle, gridRow, pairAt, pairsFrom, bestOf, bestSeed}
 use Rattle.robust.specs.declared.RingFit.{RingFit}
 use Rattle.robust.specs.Robust as R
+use Rattle.robust.specs.Record.{ringFitOf, fitRing}
 
 -- ---- a seed that f32 holds, or none
 abbrev SeedHeld : Seed → Type 0
@@ -157,10 +159,10 @@ pub record Billed (r : RingFit) : Type 0 where
 abbrev Few : R.Start → Type 0
 Few s = s .updates ≤ 6
 
-single-billed : (f : R.Start) → Few f → Billed (R.ringFitOf (R.single f))
+single-billed : (f : R.Start) → Few f → Billed (ringFitOf (R.single f))
 single-billed f h = record { some = omega arith; most = omega arith; first = h; second = omega arith; alone = λ e. refl }
 
-chosen-billed : (f : R.Start) (o : Option R.Start) → Few f → Each Few o → Billed (R.ringFitOf (R.chosen f o))
+chosen-billed : (f : R.Start) (o : Option R.Start) → Few f → Each Few o → Billed (ringFitOf (R.chosen f o))
 unfolding R.chosen
 chosen-billed f none h k = single-billed f h
 chosen-billed f (some g) h k = record { some = omega arith; most = omega arith; first = h; second = k; alone = λ e. absurd (two e) }
@@ -169,7 +171,7 @@ chosen-billed f (some g) h k = record { some = omega arith; most = omega arith; 
     two e = omega arith
 
 pub record SoundRing (r : RingFit) : Type 0 where
-  pub fit : Sound (r .fit)
+  pub fit : Sound (withoutMean (r .fit))
   pub bill : Billed r
 
 -- for every number of samples and all values, non-numbers included
@@ -178,7 +180,7 @@ module _ (n : ℕ) (samples ringPhi : Row) where
   unfolding R.start
   few seed h = start-most n samples ringPhi seed _
 
-  ring-billed : Billed (R.ringFitOf (R.ring n samples ringPhi))
+  ring-billed : Billed (ringFitOf (R.ring n samples ringPhi))
   unfolding R.ring
   ring-billed =
       let one = primary-each Few n samples ringPhi few in
@@ -187,10 +189,10 @@ module _ (n : ℕ) (samples ringPhi : Row) where
       let o = R.robustGridFit n samples ringPhi (mean Few n samples ringPhi) (centeredVar Few n samples ringPhi) in
       go (R.fitIsSuspicious (f .fit)) (R.chosen f o) (R.single f) (chosen-billed f o one two) (single-billed f one)
     where
-      go : (b : Bool) (x y : R.Ring) → Billed (R.ringFitOf x) → Billed (R.ringFitOf y) → Billed (R.ringFitOf (cond b x y))
+      go : (b : Bool) (x y : R.Ring) → Billed (ringFitOf x) → Billed (ringFitOf y) → Billed (ringFitOf (cond b x y))
       go true x y h k = h
       go false x y h k = k
 
-  pub ring-sound : SoundRing (R.fitRing n samples ringPhi)
-  unfolding R.fitRing R.start
+  pub ring-sound : SoundRing (fitRing n samples ringPhi)
+  unfolding fitRing R.start
   ring-sound = record { fit = ring-each (λ s. Sound (s .fit)) n samples ringPhi (λ seed h. start-sound n samples ringPhi seed _ h); bill = ring-billed }

@@ -9,9 +9,10 @@ use solver_errors::Standing;
 ghost use mathlib.Core.Path.{_≡_};
 ghost use mathlib.Core.Bool.{true, cond};
 ghost use lib.ListN.{length};
-ghost use Rattle.solver.specs.Solver.{fitWithSeed};
+ghost use Rattle.solver.specs.Record.{withoutMean, fitWithSeed};
 ghost use Rattle.solver.specs.Buffers.{Prepared};
 ghost use Rattle.robust.specs.Robust as R;
+ghost use Rattle.robust.specs.Record.{fitRing};
 ghost use Rattle.robust.specs.Parts as P;
 
 const AMP_FLOOR: f32 = 1.0;
@@ -67,7 +68,7 @@ fn deviations(samples: &[f32], mean: f32) -> f32
 }
 
 pub fn relative_rms(f: TwoAxisFit) -> f32
-    ensures { λ r. ⌜ r ≡ R.relativeRms f ⌝ }
+    ensures { λ r. ⌜ r ≡ R.relativeRms (withoutMean f) ⌝ }
 {
     if floats::is_finite(f.rms) {
         return floats::max(f.rms, 0.0) / floats::max(f.amp, AMP_FLOOR);
@@ -83,7 +84,7 @@ fn is_outside(sep: f32) -> bool
 
 // The two triggers of the grid.
 fn is_triggered(f: TwoAxisFit) -> bool
-    ensures { λ r. ⌜ r ≡ R.triggered f ⌝ }
+    ensures { λ r. ⌜ r ≡ R.triggered (withoutMean f) ⌝ }
 {
     if is_outside(geometry::line_separation(f.theta1, f.theta2)) {
         return true;
@@ -92,7 +93,7 @@ fn is_triggered(f: TwoAxisFit) -> bool
 }
 
 pub fn fit_is_suspicious(f: TwoAxisFit) -> bool
-    ensures { λ r. ⌜ r ≡ R.fitIsSuspicious f ⌝ }
+    ensures { λ r. ⌜ r ≡ R.fitIsSuspicious (withoutMean f) ⌝ }
 {
     if !floats::is_finite(f.amp) || !floats::is_finite(f.rms) || f.amp < AMP_FLOOR {
         return false;
@@ -135,7 +136,7 @@ fn started(
     ensures { λ r. ⌜ r ≡ fitWithSeed (length (now (samples .entry))) (now (samples .entry)) (now («ring_phi» .entry)) seed «centered_var» ⌝ }
 {
     if solver::is_degenerate(seed.amp, centered_var) {
-        return solver::refused(centered_var);
+        return solver::refused(centered_var, seed.mu);
     }
     solver::fit_prepared(samples, seed, sphi, cphi, js)
 }
@@ -267,10 +268,10 @@ fn start(
 ) -> Started
     requires { ⌜ P.Lent (now samples) (now «ring_phi») (now sphi) (now cphi) (now js) ⌝ }
     ensures { λ r. ⌜ r ≡ fitWithSeed (length (now (samples .entry))) (now (samples .entry)) (now («ring_phi» .entry)) seed «centered_var» ⌝ }
-    ensures { λ r. ⌜ (R.fitIsSuspicious (r .fit) ≡ true → Prepared (now («ring_phi» .entry)) (now (sphi .exit)) (now (cphi .exit))) ⌝ }
+    ensures { λ r. ⌜ (R.fitIsSuspicious (withoutMean (r .fit)) ≡ true → Prepared (now («ring_phi» .entry)) (now (sphi .exit)) (now (cphi .exit))) ⌝ }
 {
     if solver::is_degenerate(seed.amp, centered_var) {
-        return solver::refused(centered_var);
+        return solver::refused(centered_var, seed.mu);
     }
     let n = ring_phi.len();
     solver::prepare(ring_phi, &mut js[0..n], sphi, cphi);
@@ -286,7 +287,7 @@ fn first_start(
 ) -> First
     requires { ⌜ P.Lent (now samples) (now «ring_phi») (now sphi) (now cphi) (now js) ⌝ }
     ensures { λ r. ⌜ r ≡ P.firstOf (length (now (samples .entry))) (now (samples .entry)) (now («ring_phi» .entry)) ⌝ }
-    ensures { λ r. ⌜ (R.fitIsSuspicious (r .primary .fit) ≡ true → Prepared (now («ring_phi» .entry)) (now (sphi .exit)) (now (cphi .exit))) ⌝ }
+    ensures { λ r. ⌜ (R.fitIsSuspicious (withoutMean (r .primary .fit)) ≡ true → Prepared (now («ring_phi» .entry)) (now (sphi .exit)) (now (cphi .exit))) ⌝ }
 {
     let n = samples.len();
     let count = floats::count_f32(n);
@@ -319,7 +320,7 @@ fn alone(primary: Started) -> RingFit
 
 // Of two starts the second is answered only where its residual is lower by more than 1e-3.
 fn lower(primary: Started, candidate: Started) -> Started
-    ensures { λ r. ⌜ r ≡ cond (R.isLower (candidate .fit) (primary .fit)) candidate primary ⌝ }
+    ensures { λ r. ⌜ r ≡ cond (R.isLower (withoutMean (candidate .fit)) (withoutMean (primary .fit))) candidate primary ⌝ }
 {
     let f = primary.fit;
     let g = candidate.fit;
@@ -400,7 +401,7 @@ fn with_grid_24(
 // samples, so each number has its own two functions, and all that they call serves both.
 pub fn fit_ring(samples: &[f32], ring_phi: &[f32]) -> RingFit
     requires { ⌜ (length (now samples) ≡ 16) × (length (now «ring_phi») ≡ 16) ⌝ }
-    ensures { λ r. ⌜ r ≡ R.fitRing (length (now (samples .entry))) (now (samples .entry)) (now («ring_phi» .entry)) ⌝ }
+    ensures { λ r. ⌜ r ≡ fitRing (length (now (samples .entry))) (now (samples .entry)) (now («ring_phi» .entry)) ⌝ }
 {
     let mut sphi = [0.0f32; 16];
     let mut cphi = [0.0f32; 16];
@@ -416,7 +417,7 @@ pub fn fit_ring(samples: &[f32], ring_phi: &[f32]) -> RingFit
 // The fit of 24 samples: ours, without a counterpart in the Rust.
 pub fn fit_ring24(samples: &[f32], ring_phi: &[f32]) -> RingFit
     requires { ⌜ (length (now samples) ≡ 24) × (length (now «ring_phi») ≡ 24) ⌝ }
-    ensures { λ r. ⌜ r ≡ R.fitRing (length (now (samples .entry))) (now (samples .entry)) (now («ring_phi» .entry)) ⌝ }
+    ensures { λ r. ⌜ r ≡ fitRing (length (now (samples .entry))) (now (samples .entry)) (now («ring_phi» .entry)) ⌝ }
 {
     let mut sphi = [0.0f32; 24];
     let mut cphi = [0.0f32; 24];

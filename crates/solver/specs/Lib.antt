@@ -1,4 +1,6 @@
 pub mod Solver
+pub mod Record
 pub mod Buffers
 pub mod SolverLaws
 pub mod SoundLaws
+pub mod RecordLaws

@@ -1,4 +1,5 @@
--- The Gauss-Newton fit from a seed: ring_fit/solver.rs, fit_with_seed and degenerate_fit. Definitions only.
+-- The Gauss-Newton fit from a seed as the Rust has it: ring_fit/solver.rs, fit_with_seed and degenerate_fit. Definitions only.
+-- The fit record of ours, which keeps the mean, is Record.antt.
 -- `n` is the number of samples throughout, and `ringPhi` has their angles on the ring; `sphi` and `cphi` are the angles' sines and cosines.
 use mathlib.Core.Bool.{Bool, cond, not, _&&_, _||_}
 use mathlib.Core.List.{[], _∷_}
@@ -12,7 +13,7 @@ use Rattle.elementary.specs.Elementary.{sinCos, tanh}
 use Rattle.elementary.specs.declared.SinCos.{SinCos}
 use Rattle.loops.specs.Loops.{iter, tab}
 use Rattle.solver_elimination.specs.Solve.{Matrix, solve4x4}
-use Rattle.solver_errors.specs.StdErrors.{axisStdErrors, unfounded, standing}
+use Rattle.solver_errors.specs.StdErrors.{axisStdErrors}
 use Rattle.floats.specs.Rows.{Row, at, count}
 use Rattle.solver_elimination.specs.declared.Solved.{Solved}
 use Rattle.solver_elimination.specs.declared.Solved.the-variants.{Values, Failed}
@@ -21,8 +22,6 @@ use Rattle.solver_axes.specs.Canonical.{canonicalizeTrackingSwap}
 use Rattle.solver_axes.specs.declared.Axes.{Axes}
 use Rattle.solver.specs.declared.Params.{Params}
 use Rattle.solver.specs.declared.Sample.{Sample}
-use Rattle.solver.specs.declared.TwoAxisFit.{TwoAxisFit}
-use Rattle.solver.specs.declared.Started.{Started}
 
 -- mod.rs: TANH_BETA, the slope of the model
 abbrev pub tanhBeta : Float
@@ -138,8 +137,17 @@ module _ (n : ℕ) (samples sphi cphi : Row) where
   unfoldable pub updates : Params → Final
   updates seed = updatesFrom gnMaxIters 0 seed
 
+-- ---- mod.rs: TwoAxisFit, of six fields
+pub record RustFit : Type 0 where
+  pub amp : Float
+  pub theta1 : Float
+  pub theta2 : Float
+  pub «fit_std_error_theta1» : Float
+  pub «fit_std_error_theta2» : Float
+  pub rms : Float
+
 -- ---- solver.rs: degenerate_fit
-unfoldable pub degenerateFit : Float → TwoAxisFit
+unfoldable pub degenerateFit : Float → RustFit
 degenerateFit centeredVar =
     record {
       amp = nought;
@@ -155,7 +163,7 @@ unfoldable pub degenerate : Float → Float → Bool
 degenerate amp centeredVar = not (finite amp) || (lt (abs amp) minAmpSeed || lt centeredVar minCenteredVar)
 
 -- the errors follow their axes where these were exchanged
-unfoldable pub assembled : Axes → Errors → Float → TwoAxisFit
+unfoldable pub assembled : Axes → Errors → Float → RustFit
 assembled a e rms =
     record {
       amp = a .amp;
@@ -167,7 +175,7 @@ assembled a e rms =
     }
 
 -- the fit at the final parameters p, with the matrix and the sum of squares of the last pass
-unfoldable pub finished : ℕ → Params → Matrix → Float → TwoAxisFit
+unfoldable pub finished : ℕ → Params → Matrix → Float → RustFit
 finished n p m ssr =
     let e = axisStdErrors m ssr n in
     let rms = sqrt binary32 (ssr ⊘ count n) in
@@ -184,18 +192,12 @@ sines n ringPhi = tab (λ i. sinCos (at ringPhi i) .s) n
 abbrev pub cosines : ℕ → Row → Row
 cosines n ringPhi = tab (λ i. sinCos (at ringPhi i) .c) n
 
--- the fit, the standing of its errors, and the number of updates
-abbrev pub startOf : ℕ → Params → Matrix → Float → ℕ → Started
-startOf n p m ssr k = record { fit = finished n p m ssr; standing = standing m ssr n; updates = k }
+-- the fit where the updates stopped
+abbrev pub finishedAt : ℕ → Final → RustFit
+finishedAt n f = finished n (f .p) (f .last .m) (f .last .ssr)
 
-abbrev pub startFrom : ℕ → Final → Started
-startFrom n f = startOf n (f .p) (f .last .m) (f .last .ssr) (f .updates)
-
-abbrev pub refused : Float → Started
-refused centeredVar = record { fit = degenerateFit centeredVar; standing = unfounded; updates = 0 }
-
--- solver.rs: fit_with_seed, with the number of updates that it made, and whether its errors are known
-unfoldable pub fitWithSeed : ℕ → Row → Row → Params → Float → Started
+-- solver.rs: fit_with_seed
+unfoldable pub fitWithSeed : ℕ → Row → Row → Params → Float → RustFit
 fitWithSeed n samples ringPhi seed centeredVar =
-    cond (degenerate (seed .amp) centeredVar) (refused centeredVar)
-    (startFrom n (updates n samples (sines n ringPhi) (cosines n ringPhi) seed))
+    cond (degenerate (seed .amp) centeredVar) (degenerateFit centeredVar)
+    (finishedAt n (updates n samples (sines n ringPhi) (cosines n ringPhi) seed))

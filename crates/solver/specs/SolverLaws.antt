@@ -29,7 +29,8 @@ use Rattle.solver.specs.declared.Sample.{Sample}
 use Rattle.solver.specs.declared.Sums.{Sums}
 use Rattle.solver.specs.declared.Started.{Started}
 use Rattle.solver.specs.Solver.{sampleAt, Normal, empty, added, grown, pass, cut, small, moved, stay, to, stepOf}
-use Rattle.solver.specs.Solver.{Final, updatesFrom, updates, sines, cosines, startOf, startFrom}
+use Rattle.solver.specs.Solver.{Final, updatesFrom, updates, sines, cosines}
+use Rattle.solver.specs.Record.{startOf, startFrom}
 use Rattle.solver.specs.Buffers.{RingNear, TurnedTo, Sines, Prepared, sampleFrom, PassFilled, summed, noSums, packed, spread, Stopped}
 
 -- ---- the angles

@@ -19,9 +19,10 @@ use Rattle.solver_axes.specs.Canonical.{canonicalizeTrackingSwap, CanonicalRang
 use Rattle.solver_axes.specs.CanonicalLaws.{canonical-range}
 use Rattle.solver_axes.specs.declared.Axes.{Axes}
 use Rattle.solver.specs.declared.Params.{Params}
-use Rattle.solver.specs.declared.TwoAxisFit.{TwoAxisFit}
 use Rattle.solver.specs.Solver.{pass, cut, small, moved, Step, stay, to, stepOf, after, Final, updatesFrom, updates}
-use Rattle.solver.specs.Solver.{degenerateFit, degenerate, assembled, finished, axesOf, startFrom, refused, sines, cosines, fitWithSeed}
+use Rattle.solver.specs.Solver.{RustFit, degenerateFit, degenerate, assembled, finished, finishedAt, axesOf, sines, cosines, fitWithSeed}
+use Rattle.solver.specs.Record.{startFrom, refused}
+use Rattle.solver.specs.Record as Record
 
 -- ---- at most six updates
 after-most : (s : Step) (k m : ℕ) (a : Final) (f : Params → Final) → a .updates ≤ m → ((q : Params) → f q .updates ≤ m) → after s a f .updates ≤ m
@@ -40,14 +41,14 @@ pub updates-most : (n : ℕ) (samples sphi cphi : Row) (p : Params) → updates 
 unfolding updates
 updates-most n samples sphi cphi p = from-most n samples sphi cphi 6 0 p
 
-pub start-most : (n : ℕ) (samples ringPhi : Row) (p : Params) (centeredVar : Float) → fitWithSeed n samples ringPhi p centeredVar .updates ≤ 6
-unfolding fitWithSeed
+pub start-most : (n : ℕ) (samples ringPhi : Row) (p : Params) (centeredVar : Float) → Record.fitWithSeed n samples ringPhi p centeredVar .updates ≤ 6
+unfolding Record.fitWithSeed
 start-most n samples ringPhi p centeredVar = go (degenerate (p .amp) centeredVar)
   where
     end : Final
     end = updates n samples (sines n ringPhi) (cosines n ringPhi) p
 
-    go : (b : Bool) → cond b (refused centeredVar) (startFrom n end) .updates ≤ 6
+    go : (b : Bool) → cond b (refused centeredVar (p .mu)) (startFrom n end) .updates ≤ 6
     go true = omega arith
     go false = updates-most n samples (sines n ringPhi) (cosines n ringPhi) p
 
@@ -78,7 +79,7 @@ from-held n samples sphi cphi (suc fuel) k p h =
     (λ q g. from-held n samples sphi cphi fuel (k + 1) q g)
 
 -- ---- a sound fit
-pub record Sound (f : TwoAxisFit) : Type 0 where
+pub record Sound (f : RustFit) : Type 0 where
   pub low : T (le nought (f .theta1))
   pub first : T (lt (f .theta1) pi)
   pub order : T (le (f .theta1) (f .theta2))
@@ -92,7 +93,7 @@ pub record Sound (f : TwoAxisFit) : Type 0 where
 assembled-sound : (a : Axes) (e : Errors) (rms : Float) → CanonicalRange (a .theta1) (a .theta2) (a .amp) → Bounded e → Sound (assembled a e rms)
 assembled-sound a e rms r b = unfold assembled in go (a .swapped)
   where
-    given : Float → Float → TwoAxisFit
+    given : Float → Float → RustFit
     given e1 e2 =
         record {
           amp = a .amp;
@@ -121,7 +122,7 @@ pub degenerate-sound : (centeredVar : Float) → Sound (degenerateFit centeredVa
 unfolding degenerateFit le lt eq isNan ofBits
 degenerate-sound centeredVar = record { low = tt; first = tt; order = tt; second = tt; low1 = tt; high1 = tt; low2 = tt; high2 = tt; size = tt }
 
-pub start-sound : (n : ℕ) (samples ringPhi : Row) (p : Params) (centeredVar : Float) → ParamsHeld p → Sound (fitWithSeed n samples ringPhi p centeredVar .fit)
+pub start-sound : (n : ℕ) (samples ringPhi : Row) (p : Params) (centeredVar : Float) → ParamsHeld p → Sound (fitWithSeed n samples ringPhi p centeredVar)
 unfolding fitWithSeed
 start-sound n samples ringPhi p centeredVar h = go (degenerate (p .amp) centeredVar)
   where
@@ -131,12 +132,12 @@ start-sound n samples ringPhi p centeredVar h = go (degenerate (p .amp) centered
     held : ParamsHeld (end .p)
     held = unfold updates in from-held n samples (sines n ringPhi) (cosines n ringPhi) 6 0 p h
 
-    go : (b : Bool) → Sound (cond b (refused centeredVar) (startFrom n end) .fit)
+    go : (b : Bool) → Sound (cond b (degenerateFit centeredVar) (finishedAt n end))
     go true = degenerate-sound centeredVar
     go false = finished-sound n (end .p) (end .last .m) (end .last .ssr) held
 
 -- ---- the two axes of a fit and their errors, which are exchanged exactly where the axes are
-pub record ErrorsOf (a : Axes) (e : Errors) (f : TwoAxisFit) : Type 0 where
+pub record ErrorsOf (a : Axes) (e : Errors) (f : RustFit) : Type 0 where
   pub axis1 : f .theta1 ≡ a .theta1
   pub axis2 : f .theta2 ≡ a .theta2
   pub first : f .«fit_std_error_theta1» ≡ cond (a .swapped) (e .error2) (e .error1)

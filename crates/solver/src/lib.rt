@@ -9,6 +9,7 @@ ghost use mathlib.Core.Bool.{true};
 ghost use Prim.Native.Nat.{_*_, _^_, _<_, _≤_};
 ghost use lib.ListN.{length};
 ghost use Rattle.solver.specs.Solver as S;
+ghost use Rattle.solver.specs.Record as R;
 ghost use Rattle.elementary.specs.Elementary.{turn};
 ghost use Rattle.solver.specs.Buffers as B;
 
@@ -26,7 +27,7 @@ const MIN_AMP_SEED: f32 = 1e-4;
 const MIN_CENTERED_VAR: f32 = 1e-6;
 
 // Result of the parametric two-axis intensity fit: the amplitude, both axes, their standard errors
-// and the residual.
+// and the residual; and the fitted mean, which the Rust drops.
 pub struct TwoAxisFit {
     pub amp: f32,
     pub theta1: f32,
@@ -34,6 +35,7 @@ pub struct TwoAxisFit {
     pub fit_std_error_theta1: f32,
     pub fit_std_error_theta2: f32,
     pub rms: f32,
+    pub mean: f32,
 }
 
 // A start's fit, the standing of its errors, and how many updates it made.
@@ -351,8 +353,8 @@ fn run_updates(
     Run { p, s, count }
 }
 
-pub fn degenerate_fit(centered_var: f32) -> TwoAxisFit
-    ensures { λ r. ⌜ r ≡ S.degenerateFit «centered_var» ⌝ }
+pub fn degenerate_fit(centered_var: f32, mean: f32) -> TwoAxisFit
+    ensures { λ r. ⌜ r ≡ R.degenerateFit «centered_var» mean ⌝ }
 {
     TwoAxisFit {
         amp: 0.0,
@@ -361,14 +363,15 @@ pub fn degenerate_fit(centered_var: f32) -> TwoAxisFit
         fit_std_error_theta1: floats::PI,
         fit_std_error_theta2: floats::PI,
         rms: roots::sqrt(floats::max(centered_var, 0.0)),
+        mean,
     }
 }
 
-// A start that is degenerate: no update, and nothing is known of the errors.
-pub fn refused(centered_var: f32) -> Started
-    ensures { λ r. ⌜ r ≡ S.refused «centered_var» ⌝ }
+// A start that is degenerate: no update, the seed's mean, and nothing is known of the errors.
+pub fn refused(centered_var: f32, mean: f32) -> Started
+    ensures { λ r. ⌜ r ≡ R.refused «centered_var» mean ⌝ }
 {
-    let fit = degenerate_fit(centered_var);
+    let fit = degenerate_fit(centered_var, mean);
     let standing = solver_errors::unfounded();
     Started {
         fit,
@@ -384,8 +387,8 @@ pub fn is_degenerate(amp: f32, centered_var: f32) -> bool
 }
 
 // The errors follow their axes where these were exchanged.
-fn assembled(a: Axes, e: Errors, rms: f32) -> TwoAxisFit
-    ensures { λ r. ⌜ r ≡ S.assembled a e rms ⌝ }
+fn assembled(a: Axes, e: Errors, rms: f32, mean: f32) -> TwoAxisFit
+    ensures { λ r. ⌜ r ≡ R.withMean (S.assembled a e rms) mean ⌝ }
 {
     if a.swapped {
         return TwoAxisFit {
@@ -395,6 +398,7 @@ fn assembled(a: Axes, e: Errors, rms: f32) -> TwoAxisFit
             fit_std_error_theta1: e.error2,
             fit_std_error_theta2: e.error1,
             rms,
+            mean,
         };
     }
     TwoAxisFit {
@@ -404,19 +408,20 @@ fn assembled(a: Axes, e: Errors, rms: f32) -> TwoAxisFit
         fit_std_error_theta1: e.error1,
         fit_std_error_theta2: e.error2,
         rms,
+        mean,
     }
 }
 
 fn finished(p: Params, jtj: &[[f32; 4]; 4], ssr: f32, n: usize, updates: usize) -> Started
     requires { ⌜ n < 2 ^ 32 ⌝ }
-    ensures { λ r. ⌜ r ≡ S.startOf n p (now (jtj .entry)) ssr updates ⌝ }
+    ensures { λ r. ⌜ r ≡ R.startOf n p (now (jtj .entry)) ssr updates ⌝ }
 {
     let e = solver_errors::axis_std_errors(jtj, ssr, n);
     let errors = e.errors;
     let standing = e.standing;
     let rms = roots::sqrt(ssr / floats::count_f32(n));
     let a = solver_axes::canonicalize_tracking_swap(p.theta1, p.theta2, p.amp);
-    let fit = assembled(a, errors, rms);
+    let fit = assembled(a, errors, rms, p.mu);
     Started {
         fit,
         standing,
@@ -434,7 +439,7 @@ pub fn fit_prepared(
     js: &mut [f32],
 ) -> Started
     requires { ⌜ B.PassRoom (now samples) (now sphi) (now cphi) (now js) ⌝ }
-    ensures { λ r. ⌜ r ≡ S.startFrom (length (now (samples .entry)))
+    ensures { λ r. ⌜ r ≡ R.startFrom (length (now (samples .entry)))
         (S.updates (length (now (samples .entry))) (now (samples .entry)) (now (sphi .entry)) (now (cphi .entry)) seed) ⌝ }
 {
     let mut jtj = [[0.0f32; 4]; 4];
@@ -454,10 +459,10 @@ pub fn fit_with_seed(
     js: &mut [f32],
 ) -> Started
     requires { ⌜ (length (now «ring_phi») ≡ length (now samples)) × B.PassRoom (now samples) (now sphi) (now cphi) (now js) ⌝ }
-    ensures { λ r. ⌜ r ≡ S.fitWithSeed (length (now (samples .entry))) (now (samples .entry)) (now («ring_phi» .entry)) seed «centered_var» ⌝ }
+    ensures { λ r. ⌜ r ≡ R.fitWithSeed (length (now (samples .entry))) (now (samples .entry)) (now («ring_phi» .entry)) seed «centered_var» ⌝ }
 {
     if is_degenerate(seed.amp, centered_var) {
-        return refused(centered_var);
+        return refused(centered_var, seed.mu);
     }
     let n = ring_phi.len();
     prepare(ring_phi, &mut js[0..n], sphi, cphi);

@@ -4,6 +4,7 @@
 extern "C" {
     fn oracle_event(event: u32);
     fn oracle_errors(jtj: &[[f32; 4]; 4], ssr: f32, n: usize);
+    fn oracle_mean(mu: f32);
 }
 
 macro_rules! events {
@@ -45,4 +46,10 @@ pub fn stopped(pivot: usize, value: f32) {
 pub fn errors(jtj: &[[f32; 4]; 4], ssr: f32, n: usize) {
     // SAFETY: copies the matrix, and keeps to its own memory.
     unsafe { oracle_errors(jtj, ssr, n) }
+}
+
+/// The mu of a start, where the text drops it, and where it answers a degenerate fit.
+pub fn mean(mu: f32) {
+    // SAFETY: takes a number and keeps to its own memory.
+    unsafe { oracle_mean(mu) }
 }

@@ -3,7 +3,7 @@
 
 use super::disks::{disk, Made};
 use super::random::Random;
-use super::rings::ring;
+use super::rings::{faint, ring};
 use super::values::{drawn, finite_bits, finite_limit, limit, middling_bits, Taste};
 use crate::wire::push_hex;
 use shapes::PIXELS;
@@ -35,6 +35,10 @@ pub fn ring_line(points: usize, words: &[u32]) -> Vec<u8> {
 
 pub fn good_ring(random: &mut Random, points: usize) -> Vec<u8> {
     ring_line(points, &ring(random, points))
+}
+
+pub fn faint_ring(random: &mut Random, points: usize) -> Vec<u8> {
+    ring_line(points, &faint(random, points))
 }
 
 pub fn good_disk(random: &mut Random) -> Vec<u8> {

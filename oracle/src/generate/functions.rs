@@ -3,7 +3,7 @@
 use super::disks::{disk, Made};
 use super::frames::{broken, line as text_line};
 use super::random::Random;
-use super::rings::ring;
+use super::rings::{faint, ring};
 use super::values::{drawn, limit, nudged, taste, word, Taste, DEGREE};
 use shapes::{ANGLES, PAIRED_ANGLES, PAIRS, PIXELS};
 use std::f64::consts::PI;
@@ -76,7 +76,7 @@ impl Maker<'_> {
             30..=35 => self.lines(if number == 30 { 1 } else if number == 34 { 4 } else { 2 }),
             40..=46 => self.solving(number),
             50..=54 => self.seeding(number),
-            60..=65 => self.ring_fit(number),
+            60..=66 => self.ring_fit(number),
             70..=77 => self.candidates(number),
             80..=83 => self.scoring(number),
             90..=95 => self.searching(number),
@@ -323,6 +323,10 @@ impl Maker<'_> {
             61 | 62 => return self.suspect(),
             63 if self.random.percent(4) => return self.faint_ring(),
             65 => return self.ring(24),
+            66 if self.taste == Taste::Everyday && self.random.percent(30) => {
+                let made = faint(self.random, 16);
+                self.words.extend(made);
+            }
             _ => self.ring(16),
         }
         match number {

@@ -20,11 +20,12 @@ pub enum Kind {
     Bits(usize),
     Limits(usize),
     Damaged(usize),
+    Faint(usize),
     Functions,
     Matrices,
 }
 
-pub const KINDS: [(&str, Kind); 11] = [
+pub const KINDS: [(&str, Kind); 13] = [
     ("rings", Kind::Rings(16)),
     ("disks", Kind::Disks),
     ("bits", Kind::Bits(16)),
@@ -34,6 +35,8 @@ pub const KINDS: [(&str, Kind); 11] = [
     ("bits24", Kind::Bits(24)),
     ("limits24", Kind::Limits(24)),
     ("damaged24", Kind::Damaged(24)),
+    ("faint", Kind::Faint(16)),
+    ("faint24", Kind::Faint(24)),
     ("functions", Kind::Functions),
     ("matrices", Kind::Matrices),
 ];
@@ -56,6 +59,7 @@ impl List {
             Kind::Bits(points) => frames::bits(random, points),
             Kind::Limits(points) => frames::limits(random, points),
             Kind::Damaged(points) => frames::damaged(random, points),
+            Kind::Faint(points) => frames::faint_ring(random, points),
             Kind::Functions => {
                 let number = self.numbers[random.below(self.numbers.len())];
                 functions::line(random, number)

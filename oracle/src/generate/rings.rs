@@ -2,7 +2,7 @@
 
 use super::curves::{atan2, power_of_ten, sin, tanh};
 use super::random::Random;
-use super::values::word;
+use super::values::{finite_limit, word};
 use std::f64::consts::PI;
 
 /// Offsets of a 16 point ring of radius 5 on the pixel grid.
@@ -134,4 +134,26 @@ pub fn ring(random: &mut Random, n: usize) -> Vec<u32> {
         _ => samples(random, &angles),
     };
     samples.into_iter().chain(angles).map(word).collect()
+}
+
+/// A ring at or beyond the verge of a degenerate start: all samples alike, -0 among them; a variance near its bound; seeds that
+/// have hardly any amplitude; sums that overflow. The mean is then the seed's.
+pub fn faint(random: &mut Random, n: usize) -> Vec<u32> {
+    let angles = angles(random, n);
+    let samples: Vec<u32> = match random.below(5) {
+        0 => {
+            let limit = finite_limit(random);
+            vec![random.pick(&[0x8000_0000, 0x8000_0001, 0, limit]); n]
+        }
+        1 => {
+            let (value, spread) = (random.range(-255.0, 255.0), power_of_ten(random.range(-4.0, -2.0)));
+            (0..n).map(|_| word(value + spread * random.noise())).collect()
+        }
+        2 | 3 => odd(random, &angles).into_iter().map(word).collect(),
+        _ => {
+            let size = power_of_ten(random.range(36.5, 38.5));
+            (0..n).map(|_| word((size * (0.2 + random.noise())).clamp(-3.4e38, 3.4e38))).collect()
+        }
+    };
+    samples.into_iter().chain(angles.into_iter().map(word)).collect()
 }

@@ -7,7 +7,7 @@ use Rattle.robust.proofs.start.Tie as tie
 returns : tie.Need-returns
 returns c =
     let refused = c .refused .ensures in
-    (start-refused _ _ _ _ _ (c .before .before .is-degenerate .ensures) (c .before .if1 .taken) refused, refused-calm _ _ refused)
+    (start-refused _ _ _ _ _ (c .before .before .is-degenerate .ensures) (c .before .if1 .taken) refused, refused-calm _ _ _ refused)
 
 returns-2 : tie.Need-returns-2
 returns-2 c =

@@ -1,6 +1,6 @@
 -- A degenerate start is told by its test, and every other is prepared and made. Assumes nothing.
 use mathlib.Core.Path.{_∙_}
-use Rattle.solver.specs.Solver.{fitWithSeed}
+use Rattle.solver.specs.Record.{fitWithSeed}
 use Rattle.solver.specs.SolverLaws.{whole-prepared}
 use borrow.Author.Needs.{needs}
 use Rattle.solver.proofs.fit_with_seed.Statement.{statement}
