@@ -6,11 +6,11 @@ use lib.ListN.{length, getD}
 use lib.Dec.{eqb, ltb}
 use lib.Ieee.{Float, nan}
 use lib.Ieee.Scale.{finite}
-use Rattle.robust.specs.Record.{fitRing}
+use Rattle.robust.specs.Record.{recordRing}
 use Rattle.robust.specs.declared.RingFit.{RingFit}
-use Rattle.solver.specs.Solver.{RustFit}
-use Rattle.solver.specs.Record.{withoutMean}
-use Rattle.solver.specs.declared.TwoAxisFit.{TwoAxisFit}
+use Rattle.solver_record.specs.Fit.{RustFit}
+use Rattle.solver_record.specs.Record.{withoutMean}
+use Rattle.solver_record.specs.declared.TwoAxisFit.{TwoAxisFit}
 use Rattle.score.specs.Score.{fitEstimate}
 use Rattle.score.specs.declared.Fit.{Fit}
 use Rattle.data.specs.Data.{DiskData, maxTanhPixels}
@@ -39,7 +39,7 @@ abbrev pub ringInputs : List Float → List Float → List Float
 ringInputs samples angles = samples ++ angles
 
 unfoldable pub ringLooked : ℕ → List Float → List Float → Wild → RingAnswer
-ringLooked n samples angles Clean = Fitted (fitRing n samples angles)
+ringLooked n samples angles Clean = Fitted (recordRing n samples angles)
 ringLooked n samples angles (At i) = Refused 3 i
 
 -- the two slices are as long as the ring has samples

@@ -8,7 +8,7 @@ use lib.ListN.{length, getD}
 use lib.Ieee.{Float, nan}
 use lib.Ieee.Scale.{finite}
 use Rattle.loops.specs.Loops.{iter}
-use Rattle.robust.specs.Record.{fitRing}
+use Rattle.robust.specs.Record.{recordRing}
 use Rattle.checked.specs.declared.Refusal.{Refusal}
 use Rattle.checked.specs.declared.Refusal.the-variants.{By, Nothing}
 use Rattle.checked.specs.declared.RingAnswer.the-variants.{Fitted, Refused}
@@ -41,4 +41,4 @@ loneAt x place next = cond (finite x) next (At place)
 abbrev pub RingRefusal : ℕ → List Float → List Float → Refusal → Type 0
 RingRefusal n samples angles (By number place) = Refused number place ≡ checkedRing n samples angles
 RingRefusal n samples angles Nothing =
-    (length samples ≡ n) × (length angles ≡ n) × (Fitted (fitRing n samples angles) ≡ checkedRing n samples angles)
+    (length samples ≡ n) × (length angles ≡ n) × (Fitted (recordRing n samples angles) ≡ checkedRing n samples angles)

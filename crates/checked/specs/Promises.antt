@@ -8,28 +8,29 @@ use Prim.Native.Nat.{ℕ, _+_, _*_, _^_, _≤_, _<_, min}
 use native.Mathlib.Omega.{arith}
 use lib.ListN.{length, getD, length-append, List·getD-append}
 use lib.Dec.{T, eqb, ltb, eqb→eq}
-use lib.Ieee.{Float, nan, lt, le, eq, isNan}
+use lib.Ieee.{Float, nan, binary32, lt, le, eq, isNan}
 use lib.Ieee.Scale.{finite}
 use borrow.Author.Tests.{ltb-false}
-use Rattle.floats.specs.Ops.{nought, pi, tau}
-use Rattle.floats.specs.Rows.{at}
+use Rattle.floats.specs.Ops.{_⊘_, nought, pi, tau}
+use Rattle.floats.specs.Library.{sqrt}
+use Rattle.floats.specs.Rows.{at, count}
 use Rattle.floats.specs.NarrowLaws.{narrow-fits}
 use Rattle.solver_errors.specs.StdErrors.{axisStdErrors}
 use Rattle.solver_errors.specs.Known.{KnownErrors, residualVar, Estimated}
 use Rattle.solver_errors.specs.StdErrorsLaws.{known-only, known-if}
 use Rattle.solver_errors.specs.CappedLaws.{known-estimated}
 use Rattle.solver_errors.specs.declared.Standing.{Standing}
-use Rattle.solver.specs.Solver.{Final, axesOf}
-use Rattle.solver.specs.Record.{withoutMean}
-use Rattle.solver.specs.declared.Params.{Params}
-use Rattle.robust.specs.Robust.{Source, ofPass, ofSeed, ring, ringSum}
-use Rattle.robust.specs.Robust as Rust
-use Rattle.robust.specs.Record.{fitRing}
-use Rattle.robust.specs.RecordLaws as Kept
+use Rattle.solver_record.specs.Fit.{axesOf}
+use Rattle.solver_record.specs.Record.{withoutMean}
+use Rattle.solver.specs.Solver.{Final, pass, sines, cosines}
+use Rattle.solver_record.specs.declared.Params.{Params}
+use Rattle.robust.specs.Robust.{Source, ofPass, ofSeed, meanOf, varianceOf, ring, fitRing, ringSum}
+use Rattle.robust.specs.Record.{recordRing}
+use Rattle.robust.specs.RecordLaws.{ring-rust, ring-dropped, ring-own}
 use Rattle.robust.specs.KnownLaws.{StandsOn, ring-stands}
 use Rattle.robust.specs.SoundLaws.{SoundRing, ring-sound}
-use Rattle.robust.specs.Residual.{half, Share}
-use Rattle.robust.specs.ResidualLaws.{ring-tiny, ring-sum-upright, share-16, share-24}
+use Rattle.robust.specs.Residual.{MadeOf, half, Share}
+use Rattle.robust.specs.ResidualLaws.{ring-made, ring-tiny, ring-sum-upright, share-16, share-24}
 use Rattle.robust.specs.declared.RingFit.{RingFit}
 use Rattle.score.specs.Score.{fitStdErrors, errorMatrix, errorSum, fitStanding, widthsPx}
 use Rattle.score.specs.ScoreLaws.{SoundFit, errors-sound, error-sum-upright}
@@ -78,7 +79,7 @@ module _ (n : ℕ) (samples angles : List Float) where
   pub data RingCase (a : RingAnswer) : Type 0 where
     wrong-length : C.ringSized n samples angles ≡ false → a ≡ Refused 1 0 → RingCase a
     wrong-value : (p : ℕ) → (C.ringSized n samples angles ≡ true) × (p < 2 * n) → IsFirstWild inputs p → a ≡ Refused 3 p → RingCase a
-    answered : length samples ≡ n → length inputs ≡ 2 * n → AllFinite inputs → a ≡ Fitted (fitRing n samples angles) → RingCase a
+    answered : length samples ≡ n → length inputs ≡ 2 * n → AllFinite inputs → a ≡ Fitted (recordRing n samples angles) → RingCase a
 
   pub ring-cases : RingCase answer
   unfolding checkedRing C.ringLooked
@@ -153,7 +154,7 @@ module _ (n : ℕ) (samples angles : List Float) where
     pub sized : length samples ≡ n
     pub length : length inputs ≡ 2 * n
     pub finite : AllFinite inputs
-    pub answer : checkedRing n samples angles ≡ Fitted (fitRing n samples angles)
+    pub answer : checkedRing n samples angles ≡ Fitted (recordRing n samples angles)
 
   module _ (zero-number : ringNumber answer ≡ 0) where
     pub answered-is-the-fit : RingFitted
@@ -169,7 +170,7 @@ module _ (n : ℕ) (samples angles : List Float) where
         go (answered s l c e) = record { sized = s; length = l; finite = c; answer = e }
 
     abbrev theFit : RingFit
-    theFit = fitRing n samples angles
+    theFit = recordRing n samples angles
 
     values-are : ringValues answer ≡ C.fitValues (withoutMean (theFit .fit))
     unfolding ringValues
@@ -191,8 +192,8 @@ module _ (n : ℕ) (samples angles : List Float) where
     answered-finite = (answered-is-the-fit .length, answered-is-the-fit .finite)
 
     -- demand 2: the six values are those of the definition that follows the Rust, and the counts those of its steps
-    pub answered-values : (ringValues answer ≡ C.fitValues (Rust.fitRing n samples angles)) × (ringCounts answer ≡ C.fitCounts theFit)
-    answered-values = (values-are ∙ ap C.fitValues (Kept.ring-rust n samples angles), counts-are)
+    pub answered-values : (ringValues answer ≡ C.fitValues (fitRing n samples angles)) × (ringCounts answer ≡ C.fitCounts theFit)
+    answered-values = (values-are ∙ ap C.fitValues (ring-rust n samples angles), counts-are)
 
     -- the record has these six values and the mean, the mu that the Rust drops: that of the final parameters of the answered start, or, where that start
     -- is degenerate, of its seed
@@ -204,7 +205,7 @@ module _ (n : ℕ) (samples angles : List Float) where
         ((end : Final) → source ≡ ofPass end → recorded 6 ≡ end .p .mu) × ((seed : Params) → source ≡ ofSeed seed → recorded 6 ≡ seed .mu)
     unfolding ringRecord ringValues
     ring-mean =
-        let m = Kept.ring-mean n samples angles in
+        let m = ring-dropped n samples angles in
         rw (answered-is-the-fit .answer) (refl, λ end e. rw e at m, λ seed e. rw e at m)
 
     sound : SoundRing theFit
@@ -272,6 +273,18 @@ module _ (n : ℕ) (samples angles : List Float) where
             Estimated v (cond w d c) (cond w y x) × Estimated v (cond w c d) (cond w x y)
         ordered true e = (e .1, e .0)
         ordered false e = e
+
+    -- The mean is the one with which the rms was made: where the answered start is not degenerate, amplitude and axes are the canonical form of its final
+    -- parameters, whose mu the mean is, and the rms is the root of the n-th part of the sum of squares of a pass at these parameters.
+    pub ring-residual : (end : Final) → source ≡ ofPass end →
+        let a = axesOf (end .p) in
+        (value 0 ≡ a .amp) × (value 1 ≡ a .theta1) × (value 2 ≡ a .theta2) ×
+        (value 5 ≡ sqrt binary32 (pass n (end .p) samples (sines n angles) (cosines n angles) .ssr ⊘ count n))
+    ring-residual end e =
+        let o = subst (λ (x : Source). StandsOn n x (withoutMean (theFit .fit)) (theFit .standing)) e (ring-stands n samples angles) .0 in
+        let centeredVar = varianceOf n samples (meanOf n samples) in
+        let made = subst (λ (x : Source). MadeOf n centeredVar (theFit .fit .rms) x) e (ring-made n samples angles) in
+        rw values-are (o .amp, o .axis1, o .axis2, rw (ring-own n samples angles end e) at made)
 
     -- the amplitude is NaN or not below zero
     pub ring-amplitude : T (isNan (value 0) || le nought (value 0))

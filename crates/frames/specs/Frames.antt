@@ -11,7 +11,7 @@ use Rattle.shapes.specs.declared.Shape.{Shape}
 use Rattle.shapes.specs.declared.Shape.the-variants as Shapes
 use Rattle.robust.specs.declared.RingFit.{RingFit}
 use Rattle.data.specs.Data.{DiskData}
-use Rattle.solver.specs.Record.{withoutMean}
+use Rattle.solver_record.specs.Record.{withoutMean}
 use Rattle.checked.specs.Checked.{checkedRing, checkedDisk, flag, fitValues, fitCounts, measuredValues}
 use Rattle.checked.specs.declared.RingAnswer.{RingAnswer}
 use Rattle.checked.specs.declared.RingAnswer.the-variants as Rings

@@ -20,12 +20,14 @@ use Rattle.solver_errors.specs.StdErrors.{standingBy, bothStanding, standing, e
 use Rattle.solver_elimination.specs.declared.Solved.{Solved}
 use Rattle.solver_elimination.specs.declared.Solved.the-variants.{Values, Failed}
 use Rattle.solver_errors.specs.declared.Estimate.{Estimate}
-use Rattle.solver.specs.Solver.{degenerateFit, degenerate, fitWithSeed}
-use Rattle.solver.specs.Record as Record
+use Rattle.solver_record.specs.Fit.{degenerateFit, degenerate}
+use Rattle.solver_record.specs.Record.{degenerateRecord}
+use Rattle.solver.specs.Solver.{fitWithSeed}
+use Rattle.solver.specs.Record.{recordWithSeed}
 use Rattle.seed.specs.Seed.{wavedBy, waves, harmonic, secondHarmonic}
 use Rattle.robust_grid.specs.Grid.{gridAngle}
 use Rattle.robust.specs.Robust.{total, deviations, fitIsSuspicious, start, ring}
-use Rattle.robust.specs.Record.{fitRing}
+use Rattle.robust.specs.Record.{recordRing}
 use Rattle.checked.specs.Checked.{wildFrom, firstWild, ringLooked, checkedRing}
 use Rattle.candidates.specs.Candidates.{combineEdgePair}
 use Rattle.hex.specs.Hex.{isHex, allHex, byteOf, wordOf, valuesOf, byteText, countText, wordText, wordsText, codes, bytes}
@@ -105,8 +107,8 @@ pub rows-to-prove : (
 unfolding combineEdgePair canonicalizeTrackingSwap axesSettled placed wrapToTau arc remEuclid validPair lineSeparation lineDelta signedLineDelta abs
     negative before max min sqrt rootUnits wholeRoot degenerateFit iter range solve4x4 augmented larger pivotRow unusable reduced cleared clear topRow
     columned stopped axisError bothErrors axisStdErrors standingBy bothStanding standing
-    floor bin tab whole sinRest cosRest quadrant sinCosNear turn sinCos degenerate fitWithSeed Record.fitWithSeed Record.degenerateFit
-    wavedBy waves harmonic secondHarmonic total deviations fitIsSuspicious fitRing wildFrom firstWild checkedRing isHex allHex
+    floor bin tab whole sinRest cosRest quadrant sinCosNear turn sinCos degenerate fitWithSeed recordWithSeed degenerateRecord
+    wavedBy waves harmonic secondHarmonic total deviations fitIsSuspicious recordRing wildFrom firstWild checkedRing isHex allHex
     byteOf wordOf valuesOf byteText countText wordText wordsText answerOf shapeOf typedShape ringShape ringText toUnsigned ofBits toBits ofInt add sub
     mul div rem neg lt le eq isNan round size toRadians ringLooked bytes codes zipWith
     start ring

@@ -6,9 +6,9 @@ use robust::RingFit;
 use robust::Second;
 use seed::Seed;
 use seed::SeedCandidate;
-use solver::Params;
-use solver::Started;
-use solver::TwoAxisFit;
+use solver_record::Params;
+use solver_record::Started;
+use solver_record::TwoAxisFit;
 use solver_elimination::Solved;
 ghost use Prim.Native.Nat.{_^_, _<_};
 
@@ -285,7 +285,7 @@ pub extern "C" fn fl_axis_std_errors_known(jtj: &[[f32; 4]; 4], ssr: f32, n: usi
 
 #[no_mangle]
 pub extern "C" fn fl_degenerate_fit(centered_var: f32) -> Fit6 {
-    let values = values_of(solver::degenerate_fit(centered_var, 0.0));
+    let values = values_of(solver_record::degenerate_fit(centered_var, 0.0));
     Fit6 { values }
 }
 

@@ -5,8 +5,8 @@ use Prim.Native.Nat.{ℕ, _+_, _*_, _%_}
 use lib.ListN.{length, set}
 use lib.Dec.{eqb, ltb}
 use lib.Ieee.{Float}
-use Rattle.solver.specs.Record.{withoutMean}
-use Rattle.solver.specs.declared.TwoAxisFit.{TwoAxisFit}
+use Rattle.solver_record.specs.Record.{withoutMean}
+use Rattle.solver_record.specs.declared.TwoAxisFit.{TwoAxisFit}
 use Rattle.checked.specs.Checked.{checkedRing, checkedDisk, fitValues, recordValues, fitCounts, measuredValues, measuredCounts}
 use Rattle.checked.specs.declared.DiskAnswer.{DiskAnswer}
 use Rattle.checked.specs.declared.DiskAnswer.the-variants as Disks

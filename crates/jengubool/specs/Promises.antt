@@ -12,7 +12,7 @@ use lib.Ieee.{Float}
 use Rattle.data.specs.Data.{DiskData}
 use Rattle.checked.specs.Checked.{checkedRing, checkedDisk, ringNumber, ringPlace, ringValues, ringRecord, ringCounts, diskNumber}
 use Rattle.checked.specs.Checked.{diskPlace, diskValues, diskCounts, flag, fitCounts}
-use Rattle.robust.specs.Record.{fitRing}
+use Rattle.robust.specs.Record.{recordRing}
 use Rattle.score.specs.Score.{fitStanding}
 use Rattle.checked.specs.Promises.{answered-is-the-fit, answered-values, ring-bill, disk-answered-is-the-fit, disk-answered-values, disk-trials}
 use Rattle.checked.specs.declared.DiskAnswer.{DiskAnswer}
@@ -103,10 +103,10 @@ module _ (fit : List Float) (counts : List ℕ) where
 
     written : (w : Form) → w .room ≤ length fit → 4 ≤ length counts →
         ringCall w n samples angles fit counts ≡
-        record { code = 0; fit = putFrom (w .values (fitRing n samples angles .fit)) 0 fit; counts = putFrom (fitCounts (fitRing n samples angles)) 0 counts }
+        record { code = 0; fit = putFrom (w .values (recordRing n samples angles .fit)) 0 fit; counts = putFrom (fitCounts (recordRing n samples angles)) 0 counts }
     unfolding ringCall ringStored
     written w f c =
-        let r = fitRing n samples angles in
+        let r = recordRing n samples angles in
         let v = answered-values n samples angles zero-number in
         let b = rw (v .1) at (ring-bill n samples angles zero-number) in
         let k = r .standing .known in

@@ -8,13 +8,14 @@ use Rattle.floats.specs.Ops.{pi}
 use Rattle.floats.specs.Rows.{Row}
 use Rattle.solver_errors.specs.StdErrors.{axisStdErrors, unfounded, standing}
 use Rattle.solver_errors.specs.declared.Standing.{Standing}
-use Rattle.solver.specs.Solver.{RustFit, Final, axesOf, sines, cosines, updates, degenerate, degenerateFit, finishedAt, fitWithSeed}
-use Rattle.solver.specs.Record.{withoutMean, startFrom, refused}
-use Rattle.solver.specs.Record as Record
-use Rattle.solver.specs.SoundLaws.{ErrorsOf, finished-errors}
-use Rattle.solver.specs.declared.Params.{Params}
+use Rattle.solver_record.specs.Fit.{RustFit, axesOf, degenerate, degenerateFit}
+use Rattle.solver_record.specs.Record.{withoutMean, refused}
+use Rattle.solver_record.specs.FitLaws.{ErrorsOf, finished-errors}
+use Rattle.solver.specs.Solver.{Final, sines, cosines, updates, finishedAt, fitWithSeed}
+use Rattle.solver.specs.Record.{startFrom, recordWithSeed}
+use Rattle.solver_record.specs.declared.Params.{Params}
 use Rattle.robust.specs.Robust.{Source, ofPass, ofSeed, Start, start, meanOf, varianceOf, ring}
-use Rattle.robust.specs.Record.{fitRing}
+use Rattle.robust.specs.Record.{recordRing}
 use Rattle.robust.specs.SoundLaws.{ring-each}
 
 abbrev pub StandsOn : ℕ → Source → RustFit → Standing → Type 0
@@ -24,7 +25,7 @@ StandsOn n (ofPass end) f s =
 
 start-stands : (n : ℕ) (samples ringPhi : Row) (seed : Params) (centeredVar : Float)
     → let s = start n samples ringPhi seed centeredVar in StandsOn n (s .source) (s .fit) (s .standing)
-unfolding start fitWithSeed Record.fitWithSeed
+unfolding start fitWithSeed recordWithSeed
 start-stands n samples ringPhi seed centeredVar = go (degenerate (seed .amp) centeredVar)
   where
     end : Final
@@ -37,8 +38,8 @@ start-stands n samples ringPhi seed centeredVar = go (degenerate (seed .amp) cen
 
 -- for every number of samples and all values
 pub ring-stands : (n : ℕ) (samples ringPhi : Row)
-    → let r = fitRing n samples ringPhi in StandsOn n (ring n samples ringPhi .answered .source) (withoutMean (r .fit)) (r .standing)
-unfolding fitRing
+    → let r = recordRing n samples ringPhi in StandsOn n (ring n samples ringPhi .answered .source) (withoutMean (r .fit)) (r .standing)
+unfolding recordRing
 ring-stands n samples ringPhi =
     ring-each (λ (s : Start). StandsOn n (s .source) (s .fit) (s .standing)) n samples ringPhi
     (λ seed h. start-stands n samples ringPhi seed (varianceOf n samples (meanOf n samples)))

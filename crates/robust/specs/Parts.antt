@@ -5,9 +5,10 @@ use mathlib.Core.Option.{Option, none, some}
 use Prim.Native.Nat.{ℕ, _+_, _*_, _≤_}
 use lib.ListN.{length}
 use Rattle.floats.specs.Rows.{Row}
-use Rattle.solver.specs.Record.{withMean, fitWithSeed}
+use Rattle.solver_record.specs.Record.{withMean}
+use Rattle.solver.specs.Record.{recordWithSeed}
 use Rattle.solver.specs.Buffers.{Prepared, maxSamples}
-use Rattle.solver.specs.declared.Started.{Started}
+use Rattle.solver_record.specs.declared.Started.{Started}
 use Rattle.seed.specs.Seed.{secondHarmonic}
 use Rattle.robust_lanes.specs.Lanes.{gridPlaces}
 use Rattle.robust.specs.declared.First.{First}
@@ -50,7 +51,7 @@ firstOf n samples ringPhi =
     let mean = R.meanOf n samples in
     let centeredVar = R.varianceOf n samples mean in
     let seed = R.firstSeed (secondHarmonic n samples ringPhi mean) mean in
-    record { primary = fitWithSeed n samples ringPhi seed centeredVar; mean = mean; «centered_var» = centeredVar }
+    record { primary = recordWithSeed n samples ringPhi seed centeredVar; mean = mean; «centered_var» = centeredVar }
 
 -- r is the answer of one start, or of two, whatever their sums
 pub record Alone (primary : Started) (r : RingFit) : Type 0 where

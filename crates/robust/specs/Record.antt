@@ -3,7 +3,7 @@
 use Prim.Native.Nat.{ℕ}
 use lib.Ieee.{Float}
 use Rattle.floats.specs.Rows.{Row}
-use Rattle.solver.specs.Record.{withMean}
+use Rattle.solver_record.specs.Record.{withMean}
 use Rattle.robust.specs.declared.RingFit.{RingFit}
 use Rattle.robust.specs.Robust.{Source, ofPass, ofSeed, Ring, ring}
 
@@ -17,5 +17,5 @@ ringFitOf r =
     let s = r .answered in
     record { fit = withMean (s .fit) (meanFrom (s .source)); standing = s .standing; starts = r .starts; first = r .first; second = r .second }
 
-unfoldable pub fitRing : ℕ → Row → Row → RingFit
-fitRing n samples ringPhi = ringFitOf (ring n samples ringPhi)
+unfoldable pub recordRing : ℕ → Row → Row → RingFit
+recordRing n samples ringPhi = ringFitOf (ring n samples ringPhi)

@@ -1,31 +1,53 @@
--- Demand 2 with the mean kept: without it the answer of a ring is the Rust's, and the mean is the mu that the Rust drops in the start that it answers.
--- Assumes nothing.
-use mathlib.Core.Path.{_≡_, refl, sym, ap, _∙_}
+-- Demand 2 with the mean kept: without it the answer of a ring is the Rust's, and the mean is the mu that the Rust drops in the start that it answers,
+-- with which the last pass was made. Assumes nothing.
+use mathlib.Core.Path.{_≡_, refl, ap, _∙_, subst}
 use mathlib.Core.Bool.{Bool, true, false, cond}
-use Prim.Native.Nat.{ℕ}
+use Prim.Native.Nat.{ℕ, _≤_}
+use native.Mathlib.Omega.{arith}
 use lib.Ieee.{Float}
 use Rattle.floats.specs.Rows.{Row}
-use Rattle.solver.specs.Solver.{Final, degenerate}
-use Rattle.solver.specs.Solver as Rust
-use Rattle.solver.specs.Record.{withMean, withoutMean, fitWithSeed}
+use Rattle.solver_record.specs.Fit.{degenerate}
+use Rattle.solver_record.specs.Record.{withMean, withoutMean}
+use Rattle.solver.specs.Solver.{Final, updates, sines, cosines, fitWithSeed}
+use Rattle.solver.specs.Record.{recordWithSeed}
 use Rattle.solver.specs.RecordLaws.{start-kept}
-use Rattle.solver.specs.declared.Params.{Params}
-use Rattle.solver.specs.declared.Started.{Started}
-use Rattle.solver.specs.declared.TwoAxisFit.{TwoAxisFit}
-use Rattle.robust.specs.Robust.{ofPass, ofSeed, start, ring}
-use Rattle.robust.specs.Robust as Robust
-use Rattle.robust.specs.Record.{meanFrom, fitRing}
+use Rattle.solver.specs.SoundLaws.{Own, updates-own}
+use Rattle.solver_record.specs.declared.Params.{Params}
+use Rattle.solver_record.specs.declared.Started.{Started}
+use Rattle.solver_record.specs.declared.TwoAxisFit.{TwoAxisFit}
+use Rattle.robust.specs.Robust.{Source, ofPass, ofSeed, start, meanOf, varianceOf, ring, fitRing}
+use Rattle.robust.specs.Record.{meanFrom, recordRing}
 use Rattle.robust.specs.Parts.{startedOf}
+use Rattle.robust.specs.SoundLaws.{ring-each}
 
 -- ---- for every number of samples and all values
 module _ (n : ℕ) (samples ringPhi : Row) where
-  pub ring-rust : withoutMean (fitRing n samples ringPhi .fit) ≡ Robust.fitRing n samples ringPhi
-  unfolding fitRing Robust.fitRing
+  pub ring-rust : withoutMean (recordRing n samples ringPhi .fit) ≡ fitRing n samples ringPhi
+  unfolding recordRing fitRing
   ring-rust = refl
 
-  pub ring-mean : fitRing n samples ringPhi .fit .mean ≡ meanFrom (ring n samples ringPhi .answered .source)
-  unfolding fitRing
-  ring-mean = refl
+  pub ring-dropped : recordRing n samples ringPhi .fit .mean ≡ meanFrom (ring n samples ringPhi .answered .source)
+  unfolding recordRing
+  ring-dropped = refl
+
+-- ---- the sums that the answer is made of are those of a pass at the parameters whose mu is the mean
+module _ (n : ℕ) (samples ringPhi : Row) where
+  abbrev OwnPass : Source → Type 0
+  OwnPass (ofPass end) = Own n samples (sines n ringPhi) (cosines n ringPhi) end
+  OwnPass (ofSeed seed) = 0 ≤ 0
+
+  start-own : (seed : Params) (centeredVar : Float) → OwnPass (start n samples ringPhi seed centeredVar .source)
+  unfolding start
+  start-own seed centeredVar = go (degenerate (seed .amp) centeredVar)
+    where
+      go : (b : Bool) → OwnPass (cond b (ofSeed seed) (ofPass (updates n samples (sines n ringPhi) (cosines n ringPhi) seed)))
+      go true = omega arith
+      go false = updates-own n samples (sines n ringPhi) (cosines n ringPhi) seed
+
+  pub ring-own : (end : Final) → ring n samples ringPhi .answered .source ≡ ofPass end → Own n samples (sines n ringPhi) (cosines n ringPhi) end
+  ring-own end e =
+      subst OwnPass e
+      (ring-each (λ s. OwnPass (s .source)) n samples ringPhi (λ seed h. start-own seed (varianceOf n samples (meanOf n samples))))
 
 -- ---- the code's start is the definition's, without what that was made of
 picked : (b : Bool) (seed : Params) (end : Final) → cond b (seed .mu) (end .p .mu) ≡ meanFrom (cond b (ofSeed seed) (ofPass end))
@@ -33,10 +55,10 @@ picked true seed end = refl
 picked false seed end = refl
 
 module _ (n : ℕ) (samples ringPhi : Row) (seed : Params) (centeredVar : Float) where
-  pub start-is : fitWithSeed n samples ringPhi seed centeredVar ≡ startedOf (start n samples ringPhi seed centeredVar)
+  pub start-is : recordWithSeed n samples ringPhi seed centeredVar ≡ startedOf (start n samples ringPhi seed centeredVar)
   unfolding start
   start-is =
-      let s = fitWithSeed n samples ringPhi seed centeredVar in
+      let s = recordWithSeed n samples ringPhi seed centeredVar in
       let with-fit : TwoAxisFit → Started = λ f. record { fit = f; standing = s .standing; updates = s .updates } in
       let mean = picked (degenerate (seed .amp) centeredVar) seed _ in
-      ap with-fit (start-kept n samples ringPhi seed centeredVar ∙ ap (withMean (Rust.fitWithSeed n samples ringPhi seed centeredVar)) mean)
+      ap with-fit (start-kept n samples ringPhi seed centeredVar ∙ ap (withMean (fitWithSeed n samples ringPhi seed centeredVar)) mean)

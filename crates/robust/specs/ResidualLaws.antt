@@ -31,10 +31,11 @@ use Rattle.loops.specs.Loops.{iter}
 use Rattle.loops.specs.IterLaws.{iter-keeps}
 use Rattle.solver.specs.SolverLaws.{run-full, run-stay, run-to}
 use Rattle.solver.specs.Solver.{Normal, empty, added, pass, Step, stay, to, Final, updatesFrom, updates, sines, cosines, finishedAt}
-use Rattle.solver.specs.Solver.{degenerate, degenerateFit, finished, assembled, fitWithSeed}
-use Rattle.solver.specs.declared.Params.{Params}
+use Rattle.solver.specs.Solver.{fitWithSeed}
+use Rattle.solver_record.specs.Fit.{degenerate, degenerateFit, finished, assembled}
+use Rattle.solver_record.specs.declared.Params.{Params}
 use Rattle.robust.specs.Robust.{negativeZero, total, deviations, meanOf, varianceOf, Source, ofPass, ofSeed, start, ring, sumOf, ringSum}
-use Rattle.robust.specs.Record.{fitRing}
+use Rattle.robust.specs.Record.{recordRing}
 use Rattle.robust.specs.SoundLaws.{ring-each}
 use Rattle.robust.specs.Residual.{MadeOf, half, Tiny, oneUnit, Share}
 
@@ -294,8 +295,8 @@ ring-sum-upright n samples ringPhi end e p =
 
 -- for every number of samples and all values: what the answered rms was made of
 pub ring-made : (n : ℕ) (samples ringPhi : Row)
-    → MadeOf n (varianceOf n samples (meanOf n samples)) (fitRing n samples ringPhi .fit .rms) (ring n samples ringPhi .answered .source)
-unfolding fitRing
+    → MadeOf n (varianceOf n samples (meanOf n samples)) (recordRing n samples ringPhi .fit .rms) (ring n samples ringPhi .answered .source)
+unfolding recordRing
 ring-made n samples ringPhi =
     let centeredVar = varianceOf n samples (meanOf n samples) in
     ring-each (λ s. MadeOf n centeredVar (s .fit .rms) (s .source)) n samples ringPhi (λ seed h. start-made n samples ringPhi seed centeredVar)
@@ -315,7 +316,7 @@ module _ (n : ℕ) (share : Share n) where
       let low = nth-low n share dev p (max-low v (nth-number n share dev p (upright-number dev u)) root) in
       record { number = low .number; above = upright-above binary32 dev p u; small = low .small }
 
-  pub ring-tiny : (samples ringPhi : Row) → Finite n samples → eq (fitRing n samples ringPhi .fit .rms) nought ≡ true
+  pub ring-tiny : (samples ringPhi : Row) → Finite n samples → eq (recordRing n samples ringPhi .fit .rms) nought ≡ true
       → Tiny n (ringSum n samples ringPhi)
   unfolding ringSum
   ring-tiny samples ringPhi h z =

@@ -11,10 +11,11 @@ use Rattle.floats.specs.Rows.{Row, at, count}
 use Rattle.floats.specs.Library.{max, toRadians}
 use Rattle.geometry.specs.Geometry.{lineSeparation}
 use Rattle.loops.specs.Loops.{iter, tab}
-use Rattle.solver.specs.Solver.{RustFit, Final, sines, cosines, updates, degenerate, fitWithSeed}
-use Rattle.solver.specs.Record as Record
+use Rattle.solver_record.specs.Fit.{RustFit, degenerate}
+use Rattle.solver.specs.Solver.{Final, sines, cosines, updates, fitWithSeed}
+use Rattle.solver.specs.Record.{recordWithSeed}
 use Rattle.solver_errors.specs.declared.Standing.{Standing}
-use Rattle.solver.specs.declared.Params.{Params}
+use Rattle.solver_record.specs.declared.Params.{Params}
 use Rattle.seed.specs.Seed.{secondHarmonic, flat}
 use Rattle.seed.specs.declared.Harmonic.{Harmonic}
 use Rattle.seed.specs.declared.Seed.{Seed}
@@ -78,7 +79,7 @@ pub record Start : Type 0 where
 
 unfoldable pub start : ℕ → Row → Row → Params → Float → Start
 start n samples ringPhi seed centeredVar =
-    let s = Record.fitWithSeed n samples ringPhi seed centeredVar in
+    let s = recordWithSeed n samples ringPhi seed centeredVar in
     let end = updates n samples (sines n ringPhi) (cosines n ringPhi) seed in
     record {
       fit = fitWithSeed n samples ringPhi seed centeredVar;

@@ -13,14 +13,15 @@ use Rattle.floats.specs.Ops.{lit}
 use Rattle.floats.specs.Rows.{Row}
 use Rattle.floats.specs.Library.{toRadians}
 use Rattle.loops.specs.TabLaws.{tab-length, part-same}
-use Rattle.solver.specs.Solver.{sines, cosines, updates, degenerate, degenerateFit}
-use Rattle.solver.specs.Record.{withoutMean, startFrom, refused, fitWithSeed}
-use Rattle.solver.specs.Record as Record
+use Rattle.solver_record.specs.Fit.{degenerate, degenerateFit}
+use Rattle.solver_record.specs.Record.{withoutMean, degenerateRecord, refused}
+use Rattle.solver.specs.Solver.{sines, cosines, updates}
+use Rattle.solver.specs.Record.{startFrom, recordWithSeed}
 use Rattle.solver.specs.Buffers.{Prepared, PassRoom, maxSamples}
 use Rattle.robust_lanes.specs.Lanes.{gridPlaces}
 use Rattle.solver.specs.SolverLaws.{prepared-length, whole-prepared}
-use Rattle.solver.specs.declared.Params.{Params}
-use Rattle.solver.specs.declared.Started.{Started}
+use Rattle.solver_record.specs.declared.Params.{Params}
+use Rattle.solver_record.specs.declared.Started.{Started}
 use Rattle.seed.specs.Seed.{flat, secondHarmonic}
 use Rattle.seed.specs.declared.Seed.{Seed}
 use Rattle.seed.specs.declared.Seed.the-variants.{Found, Nothing}
@@ -33,7 +34,7 @@ use Rattle.robust.specs.declared.Second.{Second}
 use Rattle.robust.specs.declared.Second.the-variants.{Made, Missing}
 use Rattle.robust.specs.declared.RingFit.{RingFit}
 use Rattle.robust.specs.Robust as R
-use Rattle.robust.specs.Record.{ringFitOf, fitRing}
+use Rattle.robust.specs.Record.{ringFitOf, recordRing}
 use Rattle.robust.specs.RecordLaws.{start-is}
 use Rattle.robust.specs.Parts.{Ready, Rows, startedOf, secondOf, firstOf, Alone, Chosen}
 
@@ -57,7 +58,7 @@ degenerate-calm centeredVar = go (not (finite (degenerateFit centeredVar .rms)))
 
 pub refused-calm : {P : Type 0} (s : Started) (centeredVar mean : Float) → s ≡ refused centeredVar mean
     → R.fitIsSuspicious (withoutMean (s .fit)) ≡ true → P
-unfolding Record.degenerateFit
+unfolding degenerateRecord
 refused-calm s centeredVar mean e t =
     absurd (false≢true (sym (degenerate-calm centeredVar) ∙ sym (ap (λ (x : Started). R.fitIsSuspicious (withoutMean (x .fit))) e) ∙ t))
 
@@ -78,13 +79,13 @@ ready-rows {samples} {ringPhi} {sphi} {cphi} r w =
 -- ---- a start, where it is refused and where the sines and cosines are at hand
 module _ (n : ℕ) (samples ringPhi : Row) (seed : Params) (centeredVar : Float) where
   pub start-refused : {b : Bool} {s : Started} → b ≡ degenerate (seed .amp) centeredVar → b ≡ true → s ≡ refused centeredVar (seed .mu)
-      → s ≡ fitWithSeed n samples ringPhi seed centeredVar
-  unfolding fitWithSeed
+      → s ≡ recordWithSeed n samples ringPhi seed centeredVar
+  unfolding recordWithSeed
   start-refused d t e = rw (← d, t) e
 
   pub start-made : (sphi cphi : Row) {b : Bool} {s : Started} → b ≡ degenerate (seed .amp) centeredVar → b ≡ false → length ringPhi ≡ n
-      → Prepared ringPhi sphi cphi → s ≡ startFrom n (updates n samples sphi cphi seed) → s ≡ fitWithSeed n samples ringPhi seed centeredVar
-  unfolding fitWithSeed
+      → Prepared ringPhi sphi cphi → s ≡ startFrom n (updates n samples sphi cphi seed) → s ≡ recordWithSeed n samples ringPhi seed centeredVar
+  unfolding recordWithSeed
   start-made sphi cphi d t l p h = rw (← d, t) (h ∙ whole-prepared n samples ringPhi sphi cphi seed p l)
 
 -- ---- the one seed's start
@@ -93,7 +94,7 @@ module _ (n : ℕ) (samples ringPhi : Row) (centeredVar : Float) (top : Seed) wh
   unfolding R.refineSeedCandidates
   refined-missing e = rw e refl
 
-  pub refined-made : (s : SeedCandidate) (f : Started) → top ≡ Found s → f ≡ fitWithSeed n samples ringPhi (R.seeded s) centeredVar
+  pub refined-made : (s : SeedCandidate) (f : Started) → top ≡ Found s → f ≡ recordWithSeed n samples ringPhi (R.seeded s) centeredVar
       → Made f ≡ secondOf (R.refineSeedCandidates n samples ringPhi centeredVar top)
   unfolding R.refineSeedCandidates
   refined-made s f e h = rw e (ap Made (h ∙ start-is n samples ringPhi (R.seeded s) centeredVar))
@@ -201,15 +202,15 @@ module _ (n : ℕ) (samples ringPhi : Row) (f : First) (r : RingFit) (e : f ≡ 
   first-is : f .primary ≡ startedOf primary
   first-is = ap (λ (x : First). x .primary) e ∙ start-is n samples ringPhi _ centeredVar
 
-  pub ring-alone : R.fitIsSuspicious (withoutMean (f .primary .fit)) ≡ false → Alone (f .primary) r → r ≡ fitRing n samples ringPhi
-  unfolding fitRing R.ring
+  pub ring-alone : R.fitIsSuspicious (withoutMean (f .primary .fit)) ≡ false → Alone (f .primary) r → r ≡ recordRing n samples ringPhi
+  unfolding recordRing R.ring
   ring-alone t a =
       let calm : R.fitIsSuspicious (primary .fit) ≡ false = ap (λ (x : Started). R.fitIsSuspicious (withoutMean (x .fit))) (sym first-is) ∙ t in
       rw calm (a .is primary first-is)
 
   pub ring-chosen : R.fitIsSuspicious (withoutMean (f .primary .fit)) ≡ true
-      → Chosen (f .primary) (secondOf (R.robustGridFit n samples ringPhi (f .mean) (f .«centered_var»))) r → r ≡ fitRing n samples ringPhi
-  unfolding fitRing R.ring
+      → Chosen (f .primary) (secondOf (R.robustGridFit n samples ringPhi (f .mean) (f .«centered_var»))) r → r ≡ recordRing n samples ringPhi
+  unfolding recordRing R.ring
   ring-chosen t c =
       let due : R.fitIsSuspicious (primary .fit) ≡ true = ap (λ (x : Started). R.fitIsSuspicious (withoutMean (x .fit))) (sym first-is) ∙ t in
       let second : First → Second = λ x. secondOf (R.robustGridFit n samples ringPhi (x .mean) (x .«centered_var»)) in

@@ -14,9 +14,10 @@ use Rattle.floats.specs.Library.{toRadians}
 use Rattle.loops.specs.IterLaws.{iter-keeps, range-keeps}
 use Rattle.geometry.specs.Geometry.{validPair}
 use Rattle.solver.specs.Solver.{sines, cosines}
-use Rattle.solver.specs.Record.{withoutMean}
-use Rattle.solver.specs.SoundLaws.{ParamsHeld, Sound, start-sound, start-most}
-use Rattle.solver.specs.declared.Params.{Params}
+use Rattle.solver_record.specs.Record.{withoutMean}
+use Rattle.solver_record.specs.FitLaws.{ParamsHeld, Sound}
+use Rattle.solver.specs.SoundLaws.{start-sound, start-most}
+use Rattle.solver_record.specs.declared.Params.{Params}
 use Rattle.seed.specs.Seed.{robustGridStepDeg, flat, kept, scored, scoreSeedPair, pairSums, insertSeedCandidate, secondHarmonic, harmonic}
 use Rattle.seed.specs.declared.Sums.{Sums}
 use Rattle.seed.specs.declared.Seed.{Seed}
@@ -26,7 +27,7 @@ use Rattle.robust_lanes.specs.Lanes.{inserted}
 use Rattle.robust_grid.specs.Grid.{gridAngle, gridRow, pairAt, pairsFrom, bestOf, bestSeed}
 use Rattle.robust.specs.declared.RingFit.{RingFit}
 use Rattle.robust.specs.Robust as R
-use Rattle.robust.specs.Record.{ringFitOf, fitRing}
+use Rattle.robust.specs.Record.{ringFitOf, recordRing}
 
 -- ---- a seed that f32 holds, or none
 abbrev SeedHeld : Seed → Type 0
@@ -193,6 +194,6 @@ module _ (n : ℕ) (samples ringPhi : Row) where
       go true x y h k = h
       go false x y h k = k
 
-  pub ring-sound : SoundRing (fitRing n samples ringPhi)
-  unfolding fitRing R.start
+  pub ring-sound : SoundRing (recordRing n samples ringPhi)
+  unfolding recordRing R.start
   ring-sound = record { fit = ring-each (λ s. Sound (s .fit)) n samples ringPhi (λ seed h. start-sound n samples ringPhi seed _ h); bill = ring-billed }

@@ -2,17 +2,18 @@
 // robust_grid.
 use seed::Harmonic;
 use seed::Seed;
-use solver::Params;
-use solver::Started;
-use solver::TwoAxisFit;
+use solver_record::Params;
+use solver_record::Started;
+use solver_record::TwoAxisFit;
 use solver_errors::Standing;
 ghost use mathlib.Core.Path.{_≡_};
 ghost use mathlib.Core.Bool.{true, cond};
 ghost use lib.ListN.{length};
-ghost use Rattle.solver.specs.Record.{withoutMean, fitWithSeed};
+ghost use Rattle.solver_record.specs.Record.{withoutMean};
+ghost use Rattle.solver.specs.Record.{recordWithSeed};
 ghost use Rattle.solver.specs.Buffers.{Prepared};
 ghost use Rattle.robust.specs.Robust as R;
-ghost use Rattle.robust.specs.Record.{fitRing};
+ghost use Rattle.robust.specs.Record.{recordRing};
 ghost use Rattle.robust.specs.Parts as P;
 
 const AMP_FLOOR: f32 = 1.0;
@@ -133,10 +134,10 @@ fn started(
     js: &mut [f32],
 ) -> Started
     requires { ⌜ P.Ready (now samples) (now «ring_phi») (now sphi) (now cphi) (now js) ⌝ }
-    ensures { λ r. ⌜ r ≡ fitWithSeed (length (now (samples .entry))) (now (samples .entry)) (now («ring_phi» .entry)) seed «centered_var» ⌝ }
+    ensures { λ r. ⌜ r ≡ recordWithSeed (length (now (samples .entry))) (now (samples .entry)) (now («ring_phi» .entry)) seed «centered_var» ⌝ }
 {
-    if solver::is_degenerate(seed.amp, centered_var) {
-        return solver::refused(centered_var, seed.mu);
+    if solver_record::is_degenerate(seed.amp, centered_var) {
+        return solver_record::refused(centered_var, seed.mu);
     }
     solver::fit_prepared(samples, seed, sphi, cphi, js)
 }
@@ -267,11 +268,11 @@ fn start(
     js: &mut [f32],
 ) -> Started
     requires { ⌜ P.Lent (now samples) (now «ring_phi») (now sphi) (now cphi) (now js) ⌝ }
-    ensures { λ r. ⌜ r ≡ fitWithSeed (length (now (samples .entry))) (now (samples .entry)) (now («ring_phi» .entry)) seed «centered_var» ⌝ }
+    ensures { λ r. ⌜ r ≡ recordWithSeed (length (now (samples .entry))) (now (samples .entry)) (now («ring_phi» .entry)) seed «centered_var» ⌝ }
     ensures { λ r. ⌜ (R.fitIsSuspicious (withoutMean (r .fit)) ≡ true → Prepared (now («ring_phi» .entry)) (now (sphi .exit)) (now (cphi .exit))) ⌝ }
 {
-    if solver::is_degenerate(seed.amp, centered_var) {
-        return solver::refused(centered_var, seed.mu);
+    if solver_record::is_degenerate(seed.amp, centered_var) {
+        return solver_record::refused(centered_var, seed.mu);
     }
     let n = ring_phi.len();
     solver::prepare(ring_phi, &mut js[0..n], sphi, cphi);
@@ -401,7 +402,7 @@ fn with_grid_24(
 // samples, so each number has its own two functions, and all that they call serves both.
 pub fn fit_ring(samples: &[f32], ring_phi: &[f32]) -> RingFit
     requires { ⌜ (length (now samples) ≡ 16) × (length (now «ring_phi») ≡ 16) ⌝ }
-    ensures { λ r. ⌜ r ≡ fitRing (length (now (samples .entry))) (now (samples .entry)) (now («ring_phi» .entry)) ⌝ }
+    ensures { λ r. ⌜ r ≡ recordRing (length (now (samples .entry))) (now (samples .entry)) (now («ring_phi» .entry)) ⌝ }
 {
     let mut sphi = [0.0f32; 16];
     let mut cphi = [0.0f32; 16];
@@ -417,7 +418,7 @@ pub fn fit_ring(samples: &[f32], ring_phi: &[f32]) -> RingFit
 // The fit of 24 samples: ours, without a counterpart in the Rust.
 pub fn fit_ring24(samples: &[f32], ring_phi: &[f32]) -> RingFit
     requires { ⌜ (length (now samples) ≡ 24) × (length (now «ring_phi») ≡ 24) ⌝ }
-    ensures { λ r. ⌜ r ≡ fitRing (length (now (samples .entry))) (now (samples .entry)) (now («ring_phi» .entry)) ⌝ }
+    ensures { λ r. ⌜ r ≡ recordRing (length (now (samples .entry))) (now (samples .entry)) (now («ring_phi» .entry)) ⌝ }
 {
     let mut sphi = [0.0f32; 24];
     let mut cphi = [0.0f32; 24];

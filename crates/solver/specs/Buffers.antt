@@ -10,7 +10,7 @@ use Rattle.elementary.specs.declared.SinCos.{SinCos}
 use Rattle.loops.specs.Loops.{iter, tab}
 use Rattle.solver_elimination.specs.Solve.{Matrix}
 use Rattle.floats.specs.Rows.{Row, at}
-use Rattle.solver.specs.declared.Params.{Params}
+use Rattle.solver_record.specs.declared.Params.{Params}
 use Rattle.solver.specs.declared.Sample.{Sample}
 use Rattle.solver.specs.declared.Sums.{Sums}
 use Rattle.solver.specs.Solver.{sampleAt, Normal, empty, added, sines, cosines, Final}

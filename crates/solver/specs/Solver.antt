@@ -1,26 +1,22 @@
--- The Gauss-Newton fit from a seed as the Rust has it: ring_fit/solver.rs, fit_with_seed and degenerate_fit. Definitions only.
--- The fit record of ours, which keeps the mean, is Record.antt.
+-- The Gauss-Newton fit from a seed as the Rust has it: ring_fit/solver.rs, fit_with_seed. Definitions only.
+-- What it answers where the updates stopped is crates/solver_record/specs/Fit.antt; the start of ours, which keeps the mean, is Record.antt.
 -- `n` is the number of samples throughout, and `ringPhi` has their angles on the ring; `sphi` and `cphi` are the angles' sines and cosines.
-use mathlib.Core.Bool.{Bool, cond, not, _&&_, _||_}
+use mathlib.Core.Bool.{Bool, cond, _&&_}
 use mathlib.Core.List.{[], _∷_}
 use Prim.Native.Nat.{ℕ, zero, suc, _+_}
 use lib.ListN.{getD, set, replicate}
-use lib.Ieee.{Float, binary32, neg, lt}
-use lib.Ieee.Scale.{finite}
-use Rattle.floats.specs.Ops.{_⊕_, _⊖_, _⊗_, _⊘_, lit, nought, one, pi, halfPi}
-use Rattle.floats.specs.Library.{abs, signum, max, sqrt}
+use lib.Ieee.{Float, neg, lt}
+use Rattle.floats.specs.Ops.{_⊕_, _⊖_, _⊗_, lit, nought, one}
+use Rattle.floats.specs.Library.{abs, signum}
 use Rattle.elementary.specs.Elementary.{sinCos, tanh}
 use Rattle.elementary.specs.declared.SinCos.{SinCos}
 use Rattle.loops.specs.Loops.{iter, tab}
 use Rattle.solver_elimination.specs.Solve.{Matrix, solve4x4}
-use Rattle.solver_errors.specs.StdErrors.{axisStdErrors}
-use Rattle.floats.specs.Rows.{Row, at, count}
+use Rattle.floats.specs.Rows.{Row, at}
 use Rattle.solver_elimination.specs.declared.Solved.{Solved}
 use Rattle.solver_elimination.specs.declared.Solved.the-variants.{Values, Failed}
-use Rattle.solver_errors.specs.declared.Errors.{Errors}
-use Rattle.solver_axes.specs.Canonical.{canonicalizeTrackingSwap}
-use Rattle.solver_axes.specs.declared.Axes.{Axes}
-use Rattle.solver.specs.declared.Params.{Params}
+use Rattle.solver_record.specs.Fit.{RustFit, degenerateFit, degenerate, finished}
+use Rattle.solver_record.specs.declared.Params.{Params}
 use Rattle.solver.specs.declared.Sample.{Sample}
 
 -- mod.rs: TANH_BETA, the slope of the model
@@ -37,15 +33,9 @@ gnMaxAngleStep = lit 0x3f00_0000
 abbrev pub gnTol : Float
 gnTol = lit 0x38d1_b717
 
--- solver.rs has these as bare numbers: 1e-4, the bound on the amplitude step; 1e-4 and 1e-6, below which a start is degenerate
+-- solver.rs has this as a bare number: 1e-4, the bound on the amplitude step
 abbrev pub ampTol : Float
 ampTol = lit 0x38d1_b717
-
-abbrev pub minAmpSeed : Float
-minAmpSeed = lit 0x38d1_b717
-
-abbrev pub minCenteredVar : Float
-minCenteredVar = lit 0x3586_37bd
 
 -- ---- one pass: the normal matrix, its right-hand side and the sum of squared residuals
 -- a sample v at the angle of sine s and cosine c: its residual r, and its row 1, q, d1, d2 of the Jacobian
@@ -136,55 +126,6 @@ module _ (n : ℕ) (samples sphi cphi : Row) where
 
   unfoldable pub updates : Params → Final
   updates seed = updatesFrom gnMaxIters 0 seed
-
--- ---- mod.rs: TwoAxisFit, of six fields
-pub record RustFit : Type 0 where
-  pub amp : Float
-  pub theta1 : Float
-  pub theta2 : Float
-  pub «fit_std_error_theta1» : Float
-  pub «fit_std_error_theta2» : Float
-  pub rms : Float
-
--- ---- solver.rs: degenerate_fit
-unfoldable pub degenerateFit : Float → RustFit
-degenerateFit centeredVar =
-    record {
-      amp = nought;
-      theta1 = nought;
-      theta2 = halfPi;
-      «fit_std_error_theta1» = pi;
-      «fit_std_error_theta2» = pi;
-      rms = sqrt binary32 (max centeredVar nought);
-    }
-
--- solver.rs: fit_with_seed refuses such a start
-unfoldable pub degenerate : Float → Float → Bool
-degenerate amp centeredVar = not (finite amp) || (lt (abs amp) minAmpSeed || lt centeredVar minCenteredVar)
-
--- the errors follow their axes where these were exchanged
-unfoldable pub assembled : Axes → Errors → Float → RustFit
-assembled a e rms =
-    record {
-      amp = a .amp;
-      theta1 = a .theta1;
-      theta2 = a .theta2;
-      «fit_std_error_theta1» = cond (a .swapped) (e .error2) (e .error1);
-      «fit_std_error_theta2» = cond (a .swapped) (e .error1) (e .error2);
-      rms = rms;
-    }
-
--- the fit at the final parameters p, with the matrix and the sum of squares of the last pass
-unfoldable pub finished : ℕ → Params → Matrix → Float → RustFit
-finished n p m ssr =
-    let e = axisStdErrors m ssr n in
-    let rms = sqrt binary32 (ssr ⊘ count n) in
-    let a = canonicalizeTrackingSwap (p .theta1) (p .theta2) (p .amp) in
-    assembled a e rms
-
--- its axes, and whether they were exchanged
-abbrev pub axesOf : Params → Axes
-axesOf p = canonicalizeTrackingSwap (p .theta1) (p .theta2) (p .amp)
 
 abbrev pub sines : ℕ → Row → Row
 sines n ringPhi = tab (λ i. sinCos (at ringPhi i) .s) n

@@ -24,13 +24,14 @@ use Rattle.solver_elimination.specs.Solve.{Matrix, solve4x4}
 use Rattle.floats.specs.Rows.{Row, at}
 use Rattle.solver_elimination.specs.declared.Solved.{Solved}
 use Rattle.solver_elimination.specs.declared.Solved.the-variants.{Values}
-use Rattle.solver.specs.declared.Params.{Params}
+use Rattle.solver_record.specs.declared.Params.{Params}
 use Rattle.solver.specs.declared.Sample.{Sample}
 use Rattle.solver.specs.declared.Sums.{Sums}
-use Rattle.solver.specs.declared.Started.{Started}
+use Rattle.solver_record.specs.declared.Started.{Started}
 use Rattle.solver.specs.Solver.{sampleAt, Normal, empty, added, grown, pass, cut, small, moved, stay, to, stepOf}
 use Rattle.solver.specs.Solver.{Final, updatesFrom, updates, sines, cosines}
-use Rattle.solver.specs.Record.{startOf, startFrom}
+use Rattle.solver_record.specs.Record.{startOf}
+use Rattle.solver.specs.Record.{startFrom}
 use Rattle.solver.specs.Buffers.{RingNear, TurnedTo, Sines, Prepared, sampleFrom, PassFilled, summed, noSums, packed, spread, Stopped}
 
 -- ---- the angles

@@ -1,9 +1,8 @@
-// The Gauss-Newton fit from a seed: ring_fit/solver.rs, fit_with_seed and degenerate_fit.
+// The Gauss-Newton fit from a seed: ring_fit/solver.rs, fit_with_seed.
 use elementary::SinCos;
-use solver_axes::Axes;
 use solver_elimination::Solved;
-use solver_errors::Errors;
-use solver_errors::Standing;
+use solver_record::Params;
+use solver_record::Started;
 ghost use mathlib.Core.Path.{_≡_};
 ghost use mathlib.Core.Bool.{true};
 ghost use Prim.Native.Nat.{_*_, _^_, _<_, _≤_};
@@ -20,38 +19,6 @@ const GN_MAX_ITERS: usize = 6;
 const GN_MAX_ANGLE_STEP: f32 = 0.5;
 
 const GN_TOL: f32 = 1e-4;
-
-// A start below either of these has no contrast to fit.
-const MIN_AMP_SEED: f32 = 1e-4;
-
-const MIN_CENTERED_VAR: f32 = 1e-6;
-
-// Result of the parametric two-axis intensity fit: the amplitude, both axes, their standard errors
-// and the residual; and the fitted mean, which the Rust drops.
-pub struct TwoAxisFit {
-    pub amp: f32,
-    pub theta1: f32,
-    pub theta2: f32,
-    pub fit_std_error_theta1: f32,
-    pub fit_std_error_theta2: f32,
-    pub rms: f32,
-    pub mean: f32,
-}
-
-// A start's fit, the standing of its errors, and how many updates it made.
-pub struct Started {
-    pub fit: TwoAxisFit,
-    pub standing: Standing,
-    pub updates: usize,
-}
-
-// The four parameters of the model.
-pub struct Params {
-    pub mu: f32,
-    pub amp: f32,
-    pub theta1: f32,
-    pub theta2: f32,
-}
 
 // A sample's residual, and its row 1, q, d1, d2 of the Jacobian.
 pub struct Sample {
@@ -353,82 +320,6 @@ fn run_updates(
     Run { p, s, count }
 }
 
-pub fn degenerate_fit(centered_var: f32, mean: f32) -> TwoAxisFit
-    ensures { λ r. ⌜ r ≡ R.degenerateFit «centered_var» mean ⌝ }
-{
-    TwoAxisFit {
-        amp: 0.0,
-        theta1: 0.0,
-        theta2: floats::HALF_PI,
-        fit_std_error_theta1: floats::PI,
-        fit_std_error_theta2: floats::PI,
-        rms: roots::sqrt(floats::max(centered_var, 0.0)),
-        mean,
-    }
-}
-
-// A start that is degenerate: no update, the seed's mean, and nothing is known of the errors.
-pub fn refused(centered_var: f32, mean: f32) -> Started
-    ensures { λ r. ⌜ r ≡ R.refused «centered_var» mean ⌝ }
-{
-    let fit = degenerate_fit(centered_var, mean);
-    let standing = solver_errors::unfounded();
-    Started {
-        fit,
-        standing,
-        updates: 0,
-    }
-}
-
-pub fn is_degenerate(amp: f32, centered_var: f32) -> bool
-    ensures { λ r. ⌜ r ≡ S.degenerate amp «centered_var» ⌝ }
-{
-    !floats::is_finite(amp) || floats::abs(amp) < MIN_AMP_SEED || centered_var < MIN_CENTERED_VAR
-}
-
-// The errors follow their axes where these were exchanged.
-fn assembled(a: Axes, e: Errors, rms: f32, mean: f32) -> TwoAxisFit
-    ensures { λ r. ⌜ r ≡ R.withMean (S.assembled a e rms) mean ⌝ }
-{
-    if a.swapped {
-        return TwoAxisFit {
-            amp: a.amp,
-            theta1: a.theta1,
-            theta2: a.theta2,
-            fit_std_error_theta1: e.error2,
-            fit_std_error_theta2: e.error1,
-            rms,
-            mean,
-        };
-    }
-    TwoAxisFit {
-        amp: a.amp,
-        theta1: a.theta1,
-        theta2: a.theta2,
-        fit_std_error_theta1: e.error1,
-        fit_std_error_theta2: e.error2,
-        rms,
-        mean,
-    }
-}
-
-fn finished(p: Params, jtj: &[[f32; 4]; 4], ssr: f32, n: usize, updates: usize) -> Started
-    requires { ⌜ n < 2 ^ 32 ⌝ }
-    ensures { λ r. ⌜ r ≡ R.startOf n p (now (jtj .entry)) ssr updates ⌝ }
-{
-    let e = solver_errors::axis_std_errors(jtj, ssr, n);
-    let errors = e.errors;
-    let standing = e.standing;
-    let rms = roots::sqrt(ssr / floats::count_f32(n));
-    let a = solver_axes::canonicalize_tracking_swap(p.theta1, p.theta2, p.amp);
-    let fit = assembled(a, errors, rms, p.mu);
-    Started {
-        fit,
-        standing,
-        updates,
-    }
-}
-
 // A start that is not degenerate, once the sines and cosines are there. `js` is lent: four places a
 // sample, and of no meaning afterwards.
 pub fn fit_prepared(
@@ -445,7 +336,7 @@ pub fn fit_prepared(
     let mut jtj = [[0.0f32; 4]; 4];
     let run = run_updates(samples, sphi, cphi, seed, js, &mut jtj);
     let s = run.s;
-    finished(run.p, &jtj, s.rr, samples.len(), run.count)
+    solver_record::finished(run.p, &jtj, s.rr, samples.len(), run.count)
 }
 
 // The buffers are lent: as long as the samples, `js` four times that, and of no meaning afterwards.
@@ -459,10 +350,10 @@ pub fn fit_with_seed(
     js: &mut [f32],
 ) -> Started
     requires { ⌜ (length (now «ring_phi») ≡ length (now samples)) × B.PassRoom (now samples) (now sphi) (now cphi) (now js) ⌝ }
-    ensures { λ r. ⌜ r ≡ R.fitWithSeed (length (now (samples .entry))) (now (samples .entry)) (now («ring_phi» .entry)) seed «centered_var» ⌝ }
+    ensures { λ r. ⌜ r ≡ R.recordWithSeed (length (now (samples .entry))) (now (samples .entry)) (now («ring_phi» .entry)) seed «centered_var» ⌝ }
 {
-    if is_degenerate(seed.amp, centered_var) {
-        return refused(centered_var, seed.mu);
+    if solver_record::is_degenerate(seed.amp, centered_var) {
+        return solver_record::refused(centered_var, seed.mu);
     }
     let n = ring_phi.len();
     prepare(ring_phi, &mut js[0..n], sphi, cphi);

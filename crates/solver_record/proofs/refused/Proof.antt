@@ -1,7 +1,7 @@
 -- Two calls, and a constant. Assumes nothing.
 use borrow.Author.Needs.{needs}
-use Rattle.solver.proofs.refused.Statement.{statement}
-use Rattle.solver.proofs.refused.Tie as tie
+use Rattle.solver_record.proofs.refused.Statement.{statement}
+use Rattle.solver_record.proofs.refused.Tie as tie
 
 returns : tie.Need-returns
 returns c = rw (c .unfounded .ensures, c .before .degenerate-fit .ensures)

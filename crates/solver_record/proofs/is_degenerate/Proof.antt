@@ -2,14 +2,14 @@
 use mathlib.Core.Path.{sym, _∙_}
 use mathlib.Core.Bool.{true≢false}
 use mathlib.Core.Logic.{⊎-elim}
-use Rattle.solver.specs.Solver as S
+use Rattle.solver_record.specs.Fit as F
 use borrow.Author.Needs.{needs}
-use Rattle.solver.proofs.is_degenerate.Statement.{statement}
-use Rattle.solver.proofs.is_degenerate.Tie as tie
+use Rattle.solver_record.proofs.is_degenerate.Statement.{statement}
+use Rattle.solver_record.proofs.is_degenerate.Tie as tie
 
 -- one of the first two tests holds
 returns : tie.Need-returns
-unfolding S.degenerate
+unfolding F.degenerate
 returns c =
     let finite = c .before .before .is-finite .ensures in
     let t = c .if2 .taken in
@@ -20,7 +20,7 @@ returns c =
 
 -- neither does
 returns-2 : tie.Need-returns-2
-unfolding S.degenerate
+unfolding F.degenerate
 returns-2 c =
     let finite = c .before .before .is-finite .ensures in
     let f = c .if2 .left in

@@ -1,11 +1,11 @@
 -- Four calls in the definition's order. Assumes nothing.
-use Rattle.solver.specs.Solver as S
+use Rattle.solver_record.specs.Fit as F
 use borrow.Author.Needs.{needs}
-use Rattle.solver.proofs.finished.Statement.{statement}
-use Rattle.solver.proofs.finished.Tie as tie
+use Rattle.solver_record.proofs.finished.Statement.{statement}
+use Rattle.solver_record.proofs.finished.Tie as tie
 
 returns : tie.Need-returns
-unfolding S.finished
+unfolding F.finished
 returns c = let a = c .before in
     let r = a .before in
     let n = r .before in
