@@ -104,11 +104,11 @@ def known(matrix, ssr, n):
 
 
 def start(samples, angles, parameters, variance):
-    """The words of a fit from a seed (mu, amp, theta1, theta2), its updates, and whether its errors are known."""
+    """The words of a fit from a seed (mu, amp, theta1, theta2) and its mean, its updates, and whether its errors are known."""
     n, updates = len(samples), 0
     if abs(parameters[1]) < SMALL or variance < FAINT:
         fit = yield from asked("42" + word(variance))
-        return fit, 0, False
+        return fit + word(parameters[0]), 0, False
     points = yield from sine_and_cosine(angles)
     while True:
         matrix, right, ssr = yield from normal(samples, points, parameters)
@@ -123,11 +123,11 @@ def start(samples, angles, parameters, variance):
         updates += 1
     errors = yield from asked(f"41{matrix}{word(ssr)}{n:08x}")
     [rms] = yield from called("13", [rounded(ssr / n)])
-    _, amp, theta1, theta2 = parameters
+    mu, amp, theta1, theta2 = parameters
     axes = yield from asked("43" + word(theta1) + word(theta2) + word(amp))
     errors = errors[8:] + errors[:8] if axes[24:] == "00000001" else errors
     standing = yield from known(matrix, ssr, n)
-    return axes[16:24] + axes[:16] + errors + word(rms), updates, standing
+    return axes[16:24] + axes[:16] + errors + word(rms) + word(mu), updates, standing
 
 
 def scored(deviations, square, mean, first, second):
@@ -167,7 +167,7 @@ def grid(deviations, angles, mean):
 
 
 def fit(samples, angles):
-    """The answer to function line 60, or 65, and whether the errors are known."""
+    """The words of a ring's record: the fit, its mean, the starts, the updates of each, whether the errors are known."""
     n = len(samples)
     mean = rounded(summed(samples) / n)
     deviations = [rounded(sample - mean) for sample in samples]
@@ -176,14 +176,14 @@ def fit(samples, angles):
     quarter = value(f"{QUARTER_PI:08x}")
     seed = [mean, amp, rounded(theta + quarter), rounded(theta + product(3.0, quarter))]
     answer, first, standing = yield from start(samples, angles, seed, variance)
-    suspicious = yield from asked("61" + answer)
+    suspicious = yield from asked("61" + answer[:48])
     if suspicious == "00000000":
-        return f"{answer}{1:08x}{first:08x}{0:08x}", standing
+        return f"{answer}{1:08x}{first:08x}{0:08x}{standing:08x}"
     seed = yield from grid(deviations, angles, mean)
     other, second, at_second = yield from start(samples, angles, seed, variance)
-    if value(other[40:]) < rounded(value(answer[40:]) - MARGIN):
+    if value(other[40:48]) < rounded(value(answer[40:48]) - MARGIN):
         answer, standing = other, at_second
-    return f"{answer}{2:08x}{first:08x}{second:08x}", standing
+    return f"{answer}{2:08x}{first:08x}{second:08x}{standing:08x}"
 
 
 def side_by_side(works, answer):

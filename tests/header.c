@@ -208,12 +208,16 @@ static void whole(const char *what, unsigned long got, unsigned long want)
 static float ring_samples[25], ring_angles[25];
 
 /* The buffers of a ring, longer by one than need be, and what they hold as long as nothing was written. */
-typedef struct { float fit[7]; uint32_t counts[5]; } ring_out;
-static const ring_out UNTOUCHED = {{7, 7, 7, 7, 7, 7, 7}, {7, 7, 7, 7, 7}};
+typedef struct { float fit[8]; uint32_t counts[5]; } ring_out;
+static const ring_out UNTOUCHED = {{7, 7, 7, 7, 7, 7, 7, 7}, {7, 7, 7, 7, 7}};
 
-/* The ring fit for n samples: in all that follows the two differ in n alone. */
+/* Values that the call writes: six, or seven where it is jb_ring_record. */
+static size_t values;
+
+/* The ring fit for n samples: in all that follows the calls differ in n and in the mean alone. */
 static unsigned long fit_ring(size_t n, size_t samples_len, size_t angles_len, ring_out *out, size_t fit_len, size_t counts_len)
 {
+    if (values == 7) return jb_ring_record(ring_samples, samples_len, ring_angles, angles_len, out->fit, fit_len, out->counts, counts_len);
     if (n == 24) return jb_fit_ring24(ring_samples, samples_len, ring_angles, angles_len, out->fit, fit_len, out->counts, counts_len);
     return jb_fit_ring(ring_samples, samples_len, ring_angles, angles_len, out->fit, fit_len, out->counts, counts_len);
 }
@@ -221,7 +225,7 @@ static unsigned long fit_ring(size_t n, size_t samples_len, size_t angles_len, r
 static void ring_whole(size_t n, const char *what, unsigned long got, unsigned long want)
 {
     char call[80];
-    snprintf(call, sizeof call, "%s %s", n == 24 ? "jb_fit_ring24" : "jb_fit_ring", what);
+    snprintf(call, sizeof call, "%s %s", values == 7 ? "jb_ring_record" : n == 24 ? "jb_fit_ring24" : "jb_fit_ring", what);
     whole(call, got, want);
 }
 
@@ -232,11 +236,11 @@ static void check_ring_lengths(size_t n, ring_out *out)
     int i;
     ring_samples[0] = QUIET;
     for (i = 0; i < 4; i++) {
-        ring_whole(n, "of a wrong number of samples", fit_ring(n, wrong[i], n, out, 7, 5), 65536);
-        ring_whole(n, "of a wrong number of angles", fit_ring(n, n, wrong[i], out, 7, 5), 65536);
+        ring_whole(n, "of a wrong number of samples", fit_ring(n, wrong[i], n, out, 8, 5), 65536);
+        ring_whole(n, "of a wrong number of angles", fit_ring(n, n, wrong[i], out, 8, 5), 65536);
     }
-    ring_whole(n, "into 5 floats", fit_ring(n, n, n, out, 5, 5), 65536);
-    ring_whole(n, "into 3 counts", fit_ring(n, n, n, out, 7, 3), 65536);
+    ring_whole(n, "into a float too few", fit_ring(n, n, n, out, values - 1, 5), 65536);
+    ring_whole(n, "into 3 counts", fit_ring(n, n, n, out, 8, 3), 65536);
     ring_samples[0] = 0.0f;
 }
 
@@ -250,7 +254,7 @@ static void check_ring_places(size_t n, ring_out *out)
         float *spoilt = place < n ? &ring_samples[place] : &ring_angles[place - n];
         ring_angles[n - 1] = QUIET;
         *spoilt = wild[i % 4];
-        ring_whole(n, "of a value that is not finite", fit_ring(n, n, n, out, 7, 5), 196608 + (unsigned long)place);
+        ring_whole(n, "of a value that is not finite", fit_ring(n, n, n, out, 8, 5), 196608 + (unsigned long)place);
         *spoilt = 0.0f;
         ring_angles[n - 1] = 0.0f;
     }
@@ -259,11 +263,11 @@ static void check_ring_places(size_t n, ring_out *out)
 /* The printed examples of docs/RULES.md: n samples of 0 at n angles of 0. */
 static void check_ring_of_zeros(size_t n, ring_out *out)
 {
-    static const uint32_t want[6] = {0, 0, 0x3fc90fdbu, 0x40490fdbu, 0x40490fdbu, 0};
-    int i;
-    ring_whole(n, "of zeros", fit_ring(n, n, n, out, 7, 5), 0);
-    for (i = 0; i < 6; i++) exact("fit of zeros", out->fit[i], want[i]);
-    exact("the float behind the fit", out->fit[6], 0x40e00000u);
+    static const uint32_t want[7] = {0, 0, 0x3fc90fdbu, 0x40490fdbu, 0x40490fdbu, 0, 0};
+    size_t i;
+    ring_whole(n, "of zeros", fit_ring(n, n, n, out, 8, 5), 0);
+    for (i = 0; i < values; i++) exact("fit of zeros", out->fit[i], want[i]);
+    for (i = values; i < 8; i++) exact("a float behind the fit", out->fit[i], 0x40e00000u);
     whole("starts", out->counts[0], 1);
     whole("updates", out->counts[1] + out->counts[2], 0);
     whole("known", out->counts[3], 0);
@@ -275,7 +279,7 @@ static void check_ring_capped(ring_out *out)
 {
     ring_samples[8] = 1.0f;
     ring_angles[7] = 100.0f;
-    ring_whole(16, "of one sample", fit_ring(16, 16, 16, out, 7, 5), 0);
+    ring_whole(16, "of one sample", fit_ring(16, 16, 16, out, 8, 5), 0);
     exact("the first error, capped", out->fit[3], 0x40490fdbu);
     exact("the second error, capped", out->fit[4], 0x40490fdbu);
     whole("known of capped errors", out->counts[3], 1);
@@ -292,27 +296,40 @@ static void check_ring_corner(size_t n, ring_out *out)
         ring_angles[i] = (float)phi;
         ring_samples[i] = (float)(128.0 + 60.0 * tanh(4.0 * sin(phi - axis1)) * tanh(4.0 * sin(phi - axis2)));
     }
-    ring_whole(n, "of a corner", fit_ring(n, n, n, out, 7, 5), 0);
+    ring_whole(n, "of a corner", fit_ring(n, n, n, out, 8, 5), 0);
     near_to("the amplitude of a ring's corner", out->fit[0], 60.0, 0.01);
     near_to("theta1 of a ring's corner", out->fit[1], axis1, 0.0002);
     near_to("theta2 of a ring's corner", out->fit[2], axis2, 0.0002);
     near_to("the residual of a ring's corner", out->fit[5], 0.0, 0.01);
+    if (values == 7) near_to("the mean of a ring's corner", out->fit[6], 128.0, 0.01);
     whole("starts of a ring's corner", out->counts[0], 1);
     whole("known of a ring's corner", out->counts[3], 1);
     memset(ring_samples, 0, sizeof ring_samples);
     memset(ring_angles, 0, sizeof ring_angles);
 }
 
-static void check_fit_ring(size_t n)
+/* Samples of -0 at angles of 0: the mean of a degenerate start is its seed's, here that of the samples, to the bit. */
+static void check_ring_mean(size_t n, ring_out *out)
+{
+    size_t i;
+    for (i = 0; i < n; i++) ring_samples[i] = -0.0f;
+    ring_whole(n, "of samples of -0", fit_ring(n, n, n, out, 8, 5), 0);
+    exact("the mean of samples of -0", out->fit[6], SIGN);
+    memset(ring_samples, 0, sizeof ring_samples);
+}
+
+static void check_fit_ring(size_t n, size_t written)
 {
     ring_out out = UNTOUCHED;
     int i;
+    values = written;
     check_ring_lengths(n, &out);
     check_ring_places(n, &out);
-    for (i = 0; i < 7; i++) exact("fit after a refusal", out.fit[i], 0x40e00000u);
+    for (i = 0; i < 8; i++) exact("fit after a refusal", out.fit[i], 0x40e00000u);
     for (i = 0; i < 5; i++) whole("counts after a refusal", out.counts[i], 7);
     check_ring_of_zeros(n, &out);
     if (n == 16) check_ring_capped(&out);
+    if (written == 7) check_ring_mean(n, &out);
     check_ring_corner(n, &out);
 }
 
@@ -470,8 +487,10 @@ int main(void)
     check_atan2();
     check_sqrt();
     check_narrow();
-    check_fit_ring(16);
-    check_fit_ring(24);
+    check_fit_ring(16, 6);
+    check_fit_ring(24, 6);
+    check_fit_ring(16, 7);
+    check_fit_ring(24, 7);
     check_fit_disk();
     check_ring_line('1', 258, 386);
     check_ring_line('3', 386, 258);

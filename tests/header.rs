@@ -31,6 +31,16 @@ extern "C" {
         counts: *mut u32,
         counts_len: usize,
     ) -> u32;
+    fn jb_ring_record(
+        samples: *const f32,
+        samples_len: usize,
+        angles: *const f32,
+        angles_len: usize,
+        fit: *mut f32,
+        fit_len: usize,
+        counts: *mut u32,
+        counts_len: usize,
+    ) -> u32;
     fn jb_fit_disk(
         val_energy: f32,
         base0: f32,
@@ -242,12 +252,27 @@ fn whole(what: &str, got: u32, want: u32) {
     judge(got == want, || format!("{what} is {got}, it must be {want}"));
 }
 
-/// The ring fit for n samples: in all that follows the two differ in n alone.
-fn fit_ring(n: usize, samples: &[f32], angles: &[f32], fit: &mut [f32], counts: &mut [u32]) -> u32 {
+/// A ring's call: its name, its number of samples, and how many values it writes.
+#[derive(Clone, Copy)]
+struct Call {
+    name: &'static str,
+    n: usize,
+    values: usize,
+}
+
+const RING_CALLS: [Call; 4] = [
+    Call { name: "jb_fit_ring", n: 16, values: 6 },
+    Call { name: "jb_fit_ring24", n: 24, values: 6 },
+    Call { name: "jb_ring_record", n: 16, values: 7 },
+    Call { name: "jb_ring_record", n: 24, values: 7 },
+];
+
+fn fit_ring(call: Call, samples: &[f32], angles: &[f32], fit: &mut [f32], counts: &mut [u32]) -> u32 {
     let (s, a) = ((samples.as_ptr(), samples.len()), (angles.as_ptr(), angles.len()));
     let (f, c) = ((fit.as_mut_ptr(), fit.len()), (counts.as_mut_ptr(), counts.len()));
-    match n {
-        24 => unsafe { jb_fit_ring24(s.0, s.1, a.0, a.1, f.0, f.1, c.0, c.1) },
+    match call.name {
+        "jb_ring_record" => unsafe { jb_ring_record(s.0, s.1, a.0, a.1, f.0, f.1, c.0, c.1) },
+        "jb_fit_ring24" => unsafe { jb_fit_ring24(s.0, s.1, a.0, a.1, f.0, f.1, c.0, c.1) },
         _ => unsafe { jb_fit_ring(s.0, s.1, a.0, a.1, f.0, f.1, c.0, c.1) },
     }
 }
@@ -264,44 +289,49 @@ fn answer_line(line: &[u8], out: &mut [u8]) -> u32 {
 }
 
 /// The printed examples of docs/RULES.md: n samples of 0 at n angles of 0. Before it every refusal, lengths and places.
-fn check_fit_ring(n: usize) {
-    let name = if n == 24 { "jb_fit_ring24" } else { "jb_fit_ring" };
-    let (mut fit, mut counts) = ([7.0f32; 7], [7u32; 5]);
+fn check_fit_ring(call: Call) {
+    let Call { name, n, values: written } = call;
+    let (mut fit, mut counts) = ([7.0f32; 8], [7u32; 5]);
     for i in 0..2 * n {
         let mut values = vec![0.0f32; 2 * n];
         values[2 * n - 1] = f32::NAN; // the first one counts
         values[i] = [f32::NAN, INF, -INF][i % 3];
-        let wild = fit_ring(n, &values[..n], &values[n..], &mut fit, &mut counts);
+        let wild = fit_ring(call, &values[..n], &values[n..], &mut fit, &mut counts);
         whole(&format!("{name} of a value that is not finite"), wild, 196608 + i as u32);
     }
     let (zeros, nans) = (vec![0.0f32; n], [f32::NAN; 25]);
     for wrong in [0, n - 1, 40 - n, n + 1] {
-        whole(&format!("{name} of {wrong} samples"), fit_ring(n, &nans[..wrong], &zeros, &mut fit, &mut counts), 65536);
-        whole(&format!("{name} of {wrong} angles"), fit_ring(n, &zeros, &nans[..wrong], &mut fit, &mut counts), 65536);
+        whole(&format!("{name} of {wrong} samples"), fit_ring(call, &nans[..wrong], &zeros, &mut fit, &mut counts), 65536);
+        whole(&format!("{name} of {wrong} angles"), fit_ring(call, &zeros, &nans[..wrong], &mut fit, &mut counts), 65536);
     }
-    whole(&format!("{name} into 5 floats"), fit_ring(n, &zeros, &zeros, &mut fit[..5], &mut counts), 65536);
-    whole(&format!("{name} into 3 counts"), fit_ring(n, &zeros, &zeros, &mut fit, &mut counts[..3]), 65536);
-    judge(fit == [7.0; 7] && counts == [7; 5], || format!("a refused {name} changed a buffer"));
-    whole(&format!("{name} of zeros"), fit_ring(n, &zeros, &zeros, &mut fit, &mut counts), 0);
-    for (got, want) in fit.iter().zip([0, 0, 0x3fc9_0fdb, 0x4049_0fdb, 0x4049_0fdb, 0, 0x40e0_0000]) {
+    whole(&format!("{name} into a float too few"), fit_ring(call, &zeros, &zeros, &mut fit[..written - 1], &mut counts), 65536);
+    whole(&format!("{name} into 3 counts"), fit_ring(call, &zeros, &zeros, &mut fit, &mut counts[..3]), 65536);
+    judge(fit == [7.0; 8] && counts == [7; 5], || format!("a refused {name} changed a buffer"));
+    whole(&format!("{name} of zeros"), fit_ring(call, &zeros, &zeros, &mut fit, &mut counts), 0);
+    let mean = if written == 7 { 0 } else { 0x40e0_0000 };
+    for (got, want) in fit.iter().zip([0, 0, 0x3fc9_0fdb, 0x4049_0fdb, 0x4049_0fdb, 0, mean, 0x40e0_0000]) {
         exact("fit of zeros", *got, want);
     }
     judge(counts == [1, 0, 0, 0, 7], || format!("the counts of zeros are {counts:?}"));
-    check_a_ring(n, &mut fit, &mut counts);
+    check_a_ring(call, &mut fit, &mut counts);
 }
 
 /// The ring of header.c: a corner with axes at 30 and 120 degrees, as the model has it.
-fn check_a_ring(n: usize, fit: &mut [f32; 7], counts: &mut [u32; 5]) {
+fn check_a_ring(call: Call, fit: &mut [f32; 8], counts: &mut [u32; 5]) {
+    let n = call.n;
     let (axis1, axis2) = (30.0f64.to_radians(), 120.0f64.to_radians());
     let edge = |phi: f64, axis: f64| (4.0 * (phi - axis).sin()).tanh();
     let phis: Vec<f64> = (0..n).map(|i| std::f64::consts::TAU * i as f64 / n as f64).collect();
     let samples: Vec<f32> = phis.iter().map(|&phi| (128.0 + 60.0 * edge(phi, axis1) * edge(phi, axis2)) as f32).collect();
     let angles: Vec<f32> = phis.iter().map(|&phi| phi as f32).collect();
-    whole("a ring fit of a corner", fit_ring(n, &samples, &angles, fit, counts), 0);
+    whole("a ring fit of a corner", fit_ring(call, &samples, &angles, fit, counts), 0);
     near("the amplitude of a ring's corner", fit[0], 60.0, 0.01);
     near("theta1 of a ring's corner", fit[1], axis1, 0.0002);
     near("theta2 of a ring's corner", fit[2], axis2, 0.0002);
     near("the residual of a ring's corner", fit[5], 0.0, 0.01);
+    if call.values == 7 {
+        near("the mean of a ring's corner", fit[6], 128.0, 0.01);
+    }
     judge(counts[0] == 1 && counts[3] == 1 && counts[4] == 7, || format!("the counts of a ring's corner are {counts:?}"));
 }
 
@@ -385,8 +415,7 @@ fn main() {
     check_atan2();
     check_sqrt();
     check_narrow();
-    check_fit_ring(16);
-    check_fit_ring(24);
+    RING_CALLS.into_iter().for_each(check_fit_ring);
     check_fit_disk();
     check_ring_line(b'1', 258, 386);
     check_ring_line(b'3', 386, 258);

@@ -7,6 +7,7 @@
 #include <ucontext.h>
 
 #define RING_BAR 3584
+#define RECORD_BAR 4096
 #define RING24_BAR 5120
 #define BAR 65536
 #define SIZE 131072
@@ -47,6 +48,8 @@ CALL(call_sqrt, result = jb_sqrt(x))
 CALL(call_narrow, result = jb_narrow(wide))
 CALL(call_ring, status = jb_fit_ring(samples, 16, angles, 16, fit, 6, counts, 4))
 CALL(call_ring24, status = jb_fit_ring24(samples, 24, angles, 24, fit, 6, counts, 4))
+CALL(call_record, status = jb_ring_record(samples, 16, angles, 16, fit, 7, counts, 4))
+CALL(call_record24, status = jb_ring_record(samples, 24, angles, 24, fit, 7, counts, 4))
 CALL(call_disk, status = jb_fit_disk(disk[0], disk[1], disk[2], disk + 3, PIXELS, disk + 3 + PIXELS, PIXELS,
                                      disk + 3 + 2 * PIXELS, PIXELS, disk + 3 + 3 * PIXELS, PIXELS,
                                      disk + 3 + 4 * PIXELS, PIXELS, fit, 11, counts, 2))
@@ -174,8 +177,8 @@ static int hold(const char *what, size_t most, size_t bar)
     return most > bar;
 }
 
-/* Rings of n samples, by the function for them and as lines of their type. */
-static void measure_rings(int n, void (*ring)(void), const char *type, size_t *call, size_t *whole)
+/* Rings of n samples, by the function for them, with their mean, and as lines of their type. */
+static void measure_rings(int n, void (*ring)(void), void (*record)(void), const char *type, size_t *call, size_t *with_mean, size_t *whole)
 {
     int starts[3] = {0, 0, 0};
     for (int i = 0; i < RINGS; i++) {
@@ -183,6 +186,8 @@ static void measure_rings(int n, void (*ring)(void), const char *type, size_t *c
         measure(ring, call);
         if (status != 0 || counts[0] < 1 || counts[0] > 2) { printf("FAIL: ring %d of %d is answered %u\n", i, n, status); exit(1); }
         starts[counts[0]]++;
+        measure(record, with_mean);
+        if (status != 0) { printf("FAIL: the record of ring %d of %d is answered %u\n", i, n, status); exit(1); }
         make_line(type, samples, n, angles, n);
         measure(call_line, whole);
         if (status != 0 || line_len != RING_LINE((size_t)n)) { printf("FAIL: line %d of type %s is answered %u\n", i, type, status); exit(1); }
@@ -210,17 +215,17 @@ static void measure_disks(size_t *call, size_t *whole)
 
 int main(void)
 {
-    size_t bare = 0, ring = 0, ring_line = 0, ring24 = 0, ring24_line = 0, disk_fit = 0, disk_line = 0;
+    size_t bare = 0, ring = 0, record = 0, ring_line = 0, ring24 = 0, record24 = 0, ring24_line = 0, disk_fit = 0, disk_line = 0;
     measure(call_nothing, &bare);
     if (bare > 64) { printf("FAIL: a call of nothing uses %zu bytes: the measurement is wrong\n", bare); return 1; }
     measure_numbers();
-    measure_rings(16, call_ring, "01", &ring, &ring_line);
+    measure_rings(16, call_ring, call_record, "01", &ring, &record, &ring_line);
     measure_disks(&disk_fit, &disk_line);
-    measure_rings(24, call_ring24, "03", &ring24, &ring24_line); /* last: the others' draws do not hang on it */
-    printf("stack of a ring fit at most %zu bytes (bar %d), of its line %zu; of 24 samples %zu (bar %d), of its line %zu; "
-           "of a disk fit %zu, of its line %zu (bar %d)\n",
-           ring, RING_BAR, ring_line, ring24, RING24_BAR, ring24_line, disk_fit, disk_line, BAR);
-    return hold("a ring fit", ring, RING_BAR) | hold("a ring's line", ring_line, BAR) |
-           hold("a ring fit of 24 samples", ring24, RING24_BAR) | hold("its line", ring24_line, BAR) |
+    measure_rings(24, call_ring24, call_record24, "03", &ring24, &record24, &ring24_line); /* last: the others' draws do not hang on it */
+    printf("stack of a ring fit at most %zu bytes (bar %d), with its mean %zu (bar %d), of its line %zu; of 24 samples %zu, with the mean %zu "
+           "(bar %d), of its line %zu; of a disk fit %zu, of its line %zu (bar %d)\n",
+           ring, RING_BAR, record, RECORD_BAR, ring_line, ring24, record24, RING24_BAR, ring24_line, disk_fit, disk_line, BAR);
+    return hold("a ring fit", ring, RING_BAR) | hold("a ring fit with its mean", record, RECORD_BAR) | hold("a ring's line", ring_line, BAR) |
+           hold("a ring fit of 24 samples", ring24, RING24_BAR) | hold("one with its mean", record24, RING24_BAR) | hold("its line", ring24_line, BAR) |
            hold("a disk fit", disk_fit, BAR) | hold("a disk's line", disk_line, BAR);
 }

@@ -18,9 +18,9 @@ static float sample_at(float angle)
 
 static void report(const float *samples, const float *angles)
 {
-    float fit[6];
+    float fit[7];
     uint32_t counts[4];
-    uint32_t code = jb_fit_ring(samples, 16, angles, 16, fit, 6, counts, 4);
+    uint32_t code = jb_ring_record(samples, 16, angles, 16, fit, 7, counts, 4);
     if (code != 0) {
         printf("refused: number %u, place %u\n", (unsigned)(code / 65536), (unsigned)(code % 65536));
         return;
@@ -30,7 +30,7 @@ static void report(const float *samples, const float *angles)
         printf(", errors %.2f and %.2f degrees\n", fit[3] * DEGREES, fit[4] * DEGREES);
     else
         printf(", errors not known\n");
-    printf("amplitude %.2f, rms %.3f\n", fit[0], fit[5]);
+    printf("amplitude %.2f about a mean of %.2f, rms %.3f\n", fit[0], fit[6], fit[5]);
     printf("starts %u, updates %u and %u\n", (unsigned)counts[0], (unsigned)counts[1], (unsigned)counts[2]);
 }
 

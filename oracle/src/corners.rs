@@ -6,14 +6,14 @@ use crate::wire::{from_bits, number};
 use std::f64::consts::PI;
 use std::io;
 
-struct Place {
-    name: &'static str,
-    points: usize,
-    which: usize,
+pub struct Place {
+    pub name: &'static str,
+    pub points: usize,
+    pub which: usize,
     head: &'static [u8],
 }
 
-const RINGS: [Place; 3] = [
+pub const RINGS: [Place; 3] = [
     Place { name: "16 points, radius 5", points: 16, which: 0, head: b"8100" },
     Place { name: "24 points, radius 5", points: 24, which: 0, head: b"8300" },
     Place { name: "24 points, radius 7", points: 24, which: 1, head: b"8300" },

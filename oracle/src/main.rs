@@ -9,6 +9,7 @@ mod corners;
 mod functions;
 mod generate;
 mod known;
+mod means;
 mod options;
 mod paths;
 mod wire;
@@ -19,11 +20,13 @@ use std::process::ExitCode;
 
 const USAGE: &str = "usage: oracle frames
        oracle functions
+       oracle records
        oracle generate KIND COUNT SEED [NUMBERS]
        oracle compare --program PATH --lines frames|functions|records --kind KIND --count N --seed S [--numbers LIST] [--types LIST]
        oracle list --lines frames|functions|records --kind KIND --count N --seed S [--numbers LIST] [--types LIST] --out DIR
        oracle paths --lines frames|functions|records --kind KIND --count N --seed S [--numbers LIST] [--types LIST]
        oracle corners --program PATH --count N --seed S
+       oracle means --program PATH --count N --seed S
        oracle bench --kind rings|rings24|disks --count N --seed S [--program PATH]
        oracle once
 KIND is rings, disks, bits, limits, damaged, rings24, bits24, limits24, damaged24, faint, faint24, functions or matrices; NUMBERS and LIST are such as 10-17,20-24
@@ -68,6 +71,7 @@ fn run(words: &[String]) -> Result<bool, String> {
     match command.as_str() {
         "frames" if rest.is_empty() => answer_lines(|line| checked::answer(line).line).map_err(say).map(|()| true),
         "functions" if rest.is_empty() => answer_lines(functions::answer).map_err(say).map(|()| true),
+        "records" if rest.is_empty() => answer_lines(|line| checked::record(line).0).map_err(say).map(|()| true),
         "generate" => generate(rest),
         "compare" => {
             let options = Options::read(rest)?;
@@ -84,10 +88,11 @@ fn run(words: &[String]) -> Result<bool, String> {
             compare::paths(options.lines()?, &options.list()?, &options.served());
             Ok(true)
         }
-        "corners" => {
+        "corners" | "means" => {
             let options = Options::read(rest)?;
             let program = options.need("--program")?;
-            corners::corners(program, options.whole("--count")?, options.whole("--seed")?).map_err(|error| format!("{program}: {error}"))
+            let check = if command == "corners" { corners::corners } else { means::means };
+            check(program, options.whole("--count")?, options.whole("--seed")?).map_err(|error| format!("{program}: {error}"))
         }
         #[cfg(timed)]
         "once" if rest.is_empty() => answer_lines(bench::once).map_err(say).map(|()| true),

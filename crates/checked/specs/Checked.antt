@@ -7,7 +7,7 @@ use lib.Dec.{eqb, ltb}
 use lib.Ieee.{Float, nan}
 use lib.Ieee.Scale.{finite}
 use Rattle.robust.specs.Record.{recordRing}
-use Rattle.robust.specs.declared.RingFit.{RingFit}
+use Rattle.robust_choice.specs.declared.RingFit.{RingFit}
 use Rattle.solver_record.specs.Fit.{RustFit}
 use Rattle.solver_record.specs.Record.{withoutMean}
 use Rattle.solver_record.specs.declared.TwoAxisFit.{TwoAxisFit}

@@ -24,14 +24,15 @@ use Rattle.solver_record.specs.Fit.{axesOf}
 use Rattle.solver_record.specs.Record.{withoutMean}
 use Rattle.solver.specs.Solver.{Final, pass, sines, cosines}
 use Rattle.solver_record.specs.declared.Params.{Params}
-use Rattle.robust.specs.Robust.{Source, ofPass, ofSeed, meanOf, varianceOf, ring, fitRing, ringSum}
+use Rattle.robust_choice.specs.Choice.{Source, ofPass, ofSeed}
+use Rattle.robust.specs.Robust.{meanOf, varianceOf, ring, fitRing, ringSum}
 use Rattle.robust.specs.Record.{recordRing}
 use Rattle.robust.specs.RecordLaws.{ring-rust, ring-dropped, ring-own}
 use Rattle.robust.specs.KnownLaws.{StandsOn, ring-stands}
 use Rattle.robust.specs.SoundLaws.{SoundRing, ring-sound}
 use Rattle.robust.specs.Residual.{MadeOf, half, Share}
 use Rattle.robust.specs.ResidualLaws.{ring-made, ring-tiny, ring-sum-upright, share-16, share-24}
-use Rattle.robust.specs.declared.RingFit.{RingFit}
+use Rattle.robust_choice.specs.declared.RingFit.{RingFit}
 use Rattle.score.specs.Score.{fitStdErrors, errorMatrix, errorSum, fitStanding, widthsPx}
 use Rattle.score.specs.ScoreLaws.{SoundFit, errors-sound, error-sum-upright}
 use Rattle.score.specs.declared.Fit.{Fit}

@@ -1,6 +1,6 @@
 // The checked entries: what a caller gets who may hand over anything. Wrong lengths and values that
 // are not finite are refused by number and place; everything else is fitted.
-use robust::RingFit;
+use robust_choice::RingFit;
 use score::Fit;
 use search::DiskFit;
 use solver_errors::Estimate;

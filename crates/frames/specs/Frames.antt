@@ -9,7 +9,7 @@ use Rattle.hex.specs.Hex.{valueOf, valuesOf, byteText, countText, wordsText, pu
 use Rattle.shapes.specs.Shapes.{shapeOf, samplesOf, answerType}
 use Rattle.shapes.specs.declared.Shape.{Shape}
 use Rattle.shapes.specs.declared.Shape.the-variants as Shapes
-use Rattle.robust.specs.declared.RingFit.{RingFit}
+use Rattle.robust_choice.specs.declared.RingFit.{RingFit}
 use Rattle.data.specs.Data.{DiskData}
 use Rattle.solver_record.specs.Record.{withoutMean}
 use Rattle.checked.specs.Checked.{checkedRing, checkedDisk, flag, fitValues, fitCounts, measuredValues}

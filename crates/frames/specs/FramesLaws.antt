@@ -6,7 +6,7 @@ use native.Mathlib.Omega.{arith}
 use lib.ListN.{length, length-append}
 use Rattle.hex.specs.Hex.{byteText, countText, put}
 use Rattle.hex.specs.HexLaws.{words-length, put-put}
-use Rattle.robust.specs.declared.RingFit.{RingFit}
+use Rattle.robust_choice.specs.declared.RingFit.{RingFit}
 use Rattle.checked.specs.declared.Measured.{Measured}
 use Rattle.frames.specs.Frames.{ringWords, ringText, diskWords, diskText, refusalText}
 

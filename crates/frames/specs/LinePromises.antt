@@ -16,7 +16,7 @@ use Rattle.checked.specs.Checked.{ringNumber, ringPlace, ringValues, ringCounts
 use Rattle.checked.specs.Promises.{RingCase, wrong-length, wrong-value, answered, ring-cases, ring-bill}
 use Rattle.checked.specs.Promises.{DiskCase, wrong-count, wrong-lengths, wrong-disk-value, no-fit, disk-answered, disk-cases, disk-numbers, disk-trials}
 use Rattle.checked.specs.declared.Measured.{Measured}
-use Rattle.robust.specs.declared.RingFit.{RingFit}
+use Rattle.robust_choice.specs.declared.RingFit.{RingFit}
 use Rattle.checked.specs.declared.RingAnswer.{RingAnswer}
 use Rattle.checked.specs.declared.RingAnswer.the-variants as Rings
 use Rattle.checked.specs.declared.DiskAnswer.{DiskAnswer}

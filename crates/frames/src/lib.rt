@@ -2,7 +2,7 @@
 use checked::DiskAnswer;
 use checked::Measured;
 use checked::RingAnswer;
-use robust::RingFit;
+use robust_choice::RingFit;
 use shapes::Shape;
 ghost use mathlib.Core.Path.{_≡_};
 ghost use Prim.Native.Nat.{_+_, _*_, _≤_};

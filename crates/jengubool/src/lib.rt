@@ -3,7 +3,7 @@
 use checked::DiskAnswer;
 use checked::Measured;
 use checked::RingAnswer;
-use robust::RingFit;
+use robust_choice::RingFit;
 use solver_record::TwoAxisFit;
 ghost use mathlib.Core.Path.{_≡_};
 ghost use Prim.Native.Nat.{_≤_};

@@ -14,7 +14,8 @@ use Rattle.solver_record.specs.FitLaws.{ErrorsOf, finished-errors}
 use Rattle.solver.specs.Solver.{Final, sines, cosines, updates, finishedAt, fitWithSeed}
 use Rattle.solver.specs.Record.{startFrom, recordWithSeed}
 use Rattle.solver_record.specs.declared.Params.{Params}
-use Rattle.robust.specs.Robust.{Source, ofPass, ofSeed, Start, start, meanOf, varianceOf, ring}
+use Rattle.robust_choice.specs.Choice.{Source, ofPass, ofSeed, Start}
+use Rattle.robust.specs.Robust.{start, meanOf, varianceOf, ring}
 use Rattle.robust.specs.Record.{recordRing}
 use Rattle.robust.specs.SoundLaws.{ring-each}
 

@@ -1,21 +1,9 @@
--- The answer of a ring: the Rust's fit with the mean that the Rust drops, of the same start; the standing of its errors, and the numbers of starts and
--- updates. Definitions only.
+-- The whole ring fit of ours: robust.rs, fit_ring, with the mean that the Rust drops, the standing of the errors and the counts. Definitions only.
 use Prim.Native.Nat.{ℕ}
-use lib.Ieee.{Float}
 use Rattle.floats.specs.Rows.{Row}
-use Rattle.solver_record.specs.Record.{withMean}
-use Rattle.robust.specs.declared.RingFit.{RingFit}
-use Rattle.robust.specs.Robust.{Source, ofPass, ofSeed, Ring, ring}
-
--- the mean of a start: the final parameters' mu, or the seed's of a degenerate start
-abbrev pub meanFrom : Source → Float
-meanFrom (ofPass end) = end .p .mu
-meanFrom (ofSeed seed) = seed .mu
-
-abbrev pub ringFitOf : Ring → RingFit
-ringFitOf r =
-    let s = r .answered in
-    record { fit = withMean (s .fit) (meanFrom (s .source)); standing = s .standing; starts = r .starts; first = r .first; second = r .second }
+use Rattle.robust_choice.specs.Record.{ringFitOf}
+use Rattle.robust_choice.specs.declared.RingFit.{RingFit}
+use Rattle.robust.specs.Robust.{ring}
 
 unfoldable pub recordRing : ℕ → Row → Row → RingFit
 recordRing n samples ringPhi = ringFitOf (ring n samples ringPhi)

@@ -15,9 +15,11 @@ use Rattle.solver.specs.SoundLaws.{Own, updates-own}
 use Rattle.solver_record.specs.declared.Params.{Params}
 use Rattle.solver_record.specs.declared.Started.{Started}
 use Rattle.solver_record.specs.declared.TwoAxisFit.{TwoAxisFit}
-use Rattle.robust.specs.Robust.{Source, ofPass, ofSeed, start, meanOf, varianceOf, ring, fitRing}
-use Rattle.robust.specs.Record.{meanFrom, recordRing}
-use Rattle.robust.specs.Parts.{startedOf}
+use Rattle.robust_choice.specs.Choice.{Source, ofPass, ofSeed}
+use Rattle.robust_choice.specs.Record.{meanFrom}
+use Rattle.robust_choice.specs.Parts.{startedOf}
+use Rattle.robust.specs.Robust.{start, meanOf, varianceOf, ring, fitRing}
+use Rattle.robust.specs.Record.{recordRing}
 use Rattle.robust.specs.SoundLaws.{ring-each}
 
 -- ---- for every number of samples and all values

@@ -9,7 +9,7 @@ use Rattle.floats.specs.Ops.{_⊘_, lit, nought}
 use Rattle.floats.specs.Rows.{count}
 use Rattle.floats.specs.UnitLaws.{Val}
 use Rattle.floats.specs.Library.{max, sqrt}
-use Rattle.robust.specs.Robust.{Source, ofPass, ofSeed}
+use Rattle.robust_choice.specs.Choice.{Source, ofPass, ofSeed}
 
 -- the root of the mean square of a pass, or of the variance, one below zero taken as 0
 abbrev pub MadeOf : ℕ → Float → Float → Source → Type 0

@@ -34,7 +34,8 @@ use Rattle.solver.specs.Solver.{Normal, empty, added, pass, Step, stay, to, Fin
 use Rattle.solver.specs.Solver.{fitWithSeed}
 use Rattle.solver_record.specs.Fit.{degenerate, degenerateFit, finished, assembled}
 use Rattle.solver_record.specs.declared.Params.{Params}
-use Rattle.robust.specs.Robust.{negativeZero, total, deviations, meanOf, varianceOf, Source, ofPass, ofSeed, start, ring, sumOf, ringSum}
+use Rattle.robust_choice.specs.Choice.{Source, ofPass, ofSeed}
+use Rattle.robust.specs.Robust.{negativeZero, total, deviations, meanOf, varianceOf, start, ring, sumOf, ringSum}
 use Rattle.robust.specs.Record.{recordRing}
 use Rattle.robust.specs.SoundLaws.{ring-each}
 use Rattle.robust.specs.Residual.{MadeOf, half, Tiny, oneUnit, Share}

@@ -1,5 +1,6 @@
 -- The whole ring fit as the Rust has it: ring_fit/robust.rs, and AMP_FLOOR of ring_fit/mod.rs. Definitions only.
--- robust_grid_fit from the rows of the grid to the best seed is crates/robust_grid/specs/Grid.antt.
+-- robust_grid_fit from the rows of the grid to the best seed is crates/robust_grid/specs/Grid.antt, the choice between two starts
+-- crates/robust_choice/specs/Choice.antt.
 -- `n` is the number of samples throughout; `ringPhi` are their angles on the ring. The answer of ours, which keeps the mean, is Record.antt.
 use mathlib.Core.Bool.{Bool, false, cond, not, _&&_, _||_}
 use mathlib.Core.Option.{Option, none, some}
@@ -12,9 +13,8 @@ use Rattle.floats.specs.Library.{max, toRadians}
 use Rattle.geometry.specs.Geometry.{lineSeparation}
 use Rattle.loops.specs.Loops.{iter, tab}
 use Rattle.solver_record.specs.Fit.{RustFit, degenerate}
-use Rattle.solver.specs.Solver.{Final, sines, cosines, updates, fitWithSeed}
+use Rattle.solver.specs.Solver.{sines, cosines, updates, fitWithSeed}
 use Rattle.solver.specs.Record.{recordWithSeed}
-use Rattle.solver_errors.specs.declared.Standing.{Standing}
 use Rattle.solver_record.specs.declared.Params.{Params}
 use Rattle.seed.specs.Seed.{secondHarmonic, flat}
 use Rattle.seed.specs.declared.Harmonic.{Harmonic}
@@ -22,6 +22,7 @@ use Rattle.seed.specs.declared.Seed.{Seed}
 use Rattle.seed.specs.declared.Seed.the-variants.{Found, Nothing}
 use Rattle.seed.specs.declared.SeedCandidate.{SeedCandidate}
 use Rattle.robust_grid.specs.Grid.{bestSeed}
+use Rattle.robust_choice.specs.Choice.{Source, ofPass, ofSeed, Start, Ring, single, chosen}
 
 -- ---- mod.rs: AMP_FLOOR; robust.rs: ROBUST_REL_RMS_TRIGGER, ROBUST_SEP_TRIGGER_MIN_RAD and ROBUST_SEP_TRIGGER_MAX_RAD, 0.12 and 65 and 115 degrees
 abbrev pub ampFloor : Float
@@ -65,18 +66,7 @@ triggered f = outside (lineSeparation (f .theta1) (f .theta2)) || le robustRelRm
 unfoldable pub fitIsSuspicious : RustFit → Bool
 fitIsSuspicious f = cond (not (finite (f .amp)) || (not (finite (f .rms)) || lt (f .amp) ampFloor)) false (triggered f)
 
--- ---- a start: fit_with_seed's fit, the standing of its errors and its number of updates, and what they were made of: where the updates stopped,
--- with the sums of the last pass, or, where the start is degenerate, the seed alone
-pub data Source : Type 0 where
-  ofPass : Final → Source
-  ofSeed : Params → Source
-
-pub record Start : Type 0 where
-  pub fit : RustFit
-  pub standing : Standing
-  pub updates : ℕ
-  pub source : Source
-
+-- ---- a start: fit_with_seed's fit, and what it was made of
 unfoldable pub start : ℕ → Row → Row → Params → Float → Start
 start n samples ringPhi seed centeredVar =
     let s = recordWithSeed n samples ringPhi seed centeredVar in
@@ -110,25 +100,7 @@ robustGridFit n samples ringPhi mean centeredVar =
     cond (lt centeredVar (lit 0x3586_37bd) || flat centeredSs) none
     (refineSeedCandidates n samples ringPhi centeredVar (bestSeed n (sines n ringPhi) (cosines n ringPhi) centered centeredSs mean))
 
--- ---- robust.rs: fit_ring, beside it its number of starts and of updates
--- the start that is answered, the number of starts, and the updates of each
-pub record Ring : Type 0 where
-  pub answered : Start
-  pub starts : ℕ
-  pub first : ℕ
-  pub second : ℕ
-
-abbrev pub single : Start → Ring
-single f = record { answered = f; starts = 1; first = f .updates; second = 0 }
-
--- the second start is answered only where its residual is lower by more than 1e-3
-abbrev pub isLower : RustFit → RustFit → Bool
-isLower candidate primary = lt (candidate .rms) (primary .rms ⊖ lit 0x3a83_126f)
-
-unfoldable pub chosen : Start → Option Start → Ring
-chosen f none = single f
-chosen f (some g) = record { answered = cond (isLower (g .fit) (f .fit)) g f; starts = 2; first = f .updates; second = g .updates }
-
+-- ---- robust.rs: fit_ring
 -- the two axes lie PI/4 on either side of the sector's midpoint; 3 * FRAC_PI_4
 abbrev pub firstSeed : Harmonic → Float → Params
 firstSeed h mean = record { mu = mean; amp = h .mag; theta1 = h .theta ⊕ quarterPi; theta2 = h .theta ⊕ lit 0x4040_0000 ⊗ quarterPi }

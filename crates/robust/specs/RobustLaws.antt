@@ -1,5 +1,5 @@
 -- What the code's own steps come to: constants as they are derived, a refused start that is never suspicious, the starts of a seed and of the grid, and the
--- answers of one or two starts, which need no sums. Assumes nothing.
+-- whole fit. Assumes nothing.
 use mathlib.Core.Path.{_≡_, refl, sym, ap, _∙_, subst}
 use mathlib.Core.Bool.{Bool, true, false, cond, not, _||_, false≢true}
 use mathlib.Core.List.{_++_}
@@ -30,13 +30,15 @@ use Rattle.robust_grid.specs.Grid.{bestOf, bestSeed}
 use Rattle.robust_grid.specs.Places.{Grid, scoreAt}
 use Rattle.robust_grid.specs.PlaceLaws.{grid-best}
 use Rattle.robust.specs.declared.First.{First}
-use Rattle.robust.specs.declared.Second.{Second}
-use Rattle.robust.specs.declared.Second.the-variants.{Made, Missing}
-use Rattle.robust.specs.declared.RingFit.{RingFit}
+use Rattle.robust_choice.specs.declared.Second.{Second}
+use Rattle.robust_choice.specs.declared.Second.the-variants.{Made, Missing}
+use Rattle.robust_choice.specs.declared.RingFit.{RingFit}
 use Rattle.robust.specs.Robust as R
-use Rattle.robust.specs.Record.{ringFitOf, recordRing}
+use Rattle.robust.specs.Record.{recordRing}
 use Rattle.robust.specs.RecordLaws.{start-is}
-use Rattle.robust.specs.Parts.{Ready, Rows, startedOf, secondOf, firstOf, Alone, Chosen}
+use Rattle.robust_choice.specs.Choice.{Start}
+use Rattle.robust_choice.specs.Parts.{startedOf, secondOf, Alone, Chosen}
+use Rattle.robust.specs.Parts.{Ready, Rows, firstOf}
 
 -- ---- the literals of the code
 pub min-rad-is : R.robustSepTriggerMinRad ≡ lit 0x3f91_361e
@@ -123,7 +125,7 @@ module _ (n : ℕ) (samples ringPhi : Row) (mean centeredVar : Float) (centered 
       let t : flat (R.squares n (R.centeredOf n samples mean)) ≡ true = ap flat (sym (sum-is ec es)) ∙ sym eb ∙ et in
       rw t (sym (ap secondOf (either (lt centeredVar (lit 0x3586_37bd)) _)))
     where
-      either : (x : Bool) (o : Option R.Start) → cond (x || true) none o ≡ none
+      either : (x : Bool) (o : Option Start) → cond (x || true) none o ≡ none
       either true o = refl
       either false o = refl
 
@@ -144,49 +146,6 @@ module _ (n : ℕ) (samples ringPhi : Row) (mean centeredVar : Float) (centered 
       let eC : cphi ≡ cosines n ringPhi = p .c ∙ ap (λ (k : ℕ). cosines k ringPhi) el in
       rw (ev, t, ← s, ← ec, ← eS, ← eC, ← best) er
 
--- ---- the answers of one start, and of two
-pub alone-is : (primary : Started)
-    → Alone primary (record { fit = primary .fit; standing = primary .standing; starts = 1; first = primary .updates; second = 0 })
-alone-is primary = record { is = λ f e. rw e }
-
--- the start that is answered, of two
-abbrev pub two : Started → ℕ → ℕ → RingFit
-two answered m n = record { fit = answered .fit; standing = answered .standing; starts = 2; first = m; second = n }
-
-module _ (primary : Started) (s : Second) where
-  pub chosen-alone : (r : RingFit) → s ≡ Missing → Alone primary r → Chosen primary s r
-  chosen-alone r e a = record { is = go e a }
-    where
-      go : s ≡ Missing → Alone primary r → (f : R.Start) (o : Option R.Start) → primary ≡ startedOf f → s ≡ secondOf o
-          → r ≡ ringFitOf (R.chosen f o)
-      go e a f none p q = unfold R.chosen in a .is f p
-      go e a f (some g) p q = absurd (never (sym q ∙ e))
-        where
-          never : Made (startedOf g) ≡ Missing → ⊥
-          never e = let z : _≡_ {A = ℕ} 0 1 = cc in omega arith
-
-  pub chosen-two : (candidate answered : Started) → s ≡ Made candidate
-      → answered ≡ cond (R.isLower (withoutMean (candidate .fit)) (withoutMean (primary .fit))) candidate primary
-      → Chosen primary s (two answered (primary .updates) (candidate .updates))
-  unfolding R.chosen
-  chosen-two candidate answered e h = record { is = go }
-    where
-      pick : (b : Bool) (f g : R.Start) → cond b (startedOf g) (startedOf f) ≡ startedOf (cond b g f)
-      pick true f g = refl
-      pick false f g = refl
-
-      same : (g : R.Start) → Made candidate ≡ Made (startedOf g) → candidate ≡ startedOf g
-      same g e = cc
-
-      go : (f : R.Start) (o : Option R.Start) → primary ≡ startedOf f → s ≡ secondOf o
-          → two answered (primary .updates) (candidate .updates) ≡ ringFitOf (R.chosen f o)
-      go f none p q = absurd (never (sym e ∙ q))
-        where
-          never : Made candidate ≡ Missing → ⊥
-          never e = let z : _≡_ {A = ℕ} 0 1 = cc in omega arith
-      go f (some g) p q =
-          rw (h, p, same g (sym e ∙ q)) (ap (λ (x : Started). two x (f .updates) (g .updates)) (pick (R.isLower (g .fit) (f .fit)) f g))
-
 -- ---- the whole fit: the first start is not suspicious, or is followed by the grid's
 module _ (n : ℕ) (samples ringPhi : Row) (f : First) (r : RingFit) (e : f ≡ firstOf n samples ringPhi) where
   abbrev mean : Float
@@ -195,7 +154,7 @@ module _ (n : ℕ) (samples ringPhi : Row) (f : First) (r : RingFit) (e : f ≡ 
   abbrev centeredVar : Float
   centeredVar = R.varianceOf n samples mean
 
-  abbrev primary : R.Start
+  abbrev primary : Start
   primary = R.start n samples ringPhi (R.firstSeed (secondHarmonic n samples ringPhi mean) mean) centeredVar
 
   -- the code's first start is the definition's

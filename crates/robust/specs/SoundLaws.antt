@@ -25,9 +25,11 @@ use Rattle.seed.specs.declared.Seed.the-variants.{Found, Nothing}
 use Rattle.seed.specs.declared.SeedCandidate.{SeedCandidate}
 use Rattle.robust_lanes.specs.Lanes.{inserted}
 use Rattle.robust_grid.specs.Grid.{gridAngle, gridRow, pairAt, pairsFrom, bestOf, bestSeed}
-use Rattle.robust.specs.declared.RingFit.{RingFit}
+use Rattle.robust_choice.specs.declared.RingFit.{RingFit}
 use Rattle.robust.specs.Robust as R
-use Rattle.robust.specs.Record.{ringFitOf, recordRing}
+use Rattle.robust_choice.specs.Choice.{Start, Ring, single, isLower, chosen}
+use Rattle.robust_choice.specs.Record.{ringFitOf}
+use Rattle.robust.specs.Record.{recordRing}
 
 -- ---- a seed that f32 holds, or none
 abbrev SeedHeld : Seed → Type 0
@@ -91,15 +93,15 @@ seed-held n sphi cphi centered centeredSs mean =
     best-held _ (λ a b. scored-held (count n) centeredSs mean (pairSums n centered (gridRow n sphi cphi a) (gridRow n sphi cphi b)) a b)
 
 -- ---- what every start from a held seed has, the answered start has, and the second too
-module _ (P : R.Start → Type 0) where
-  abbrev Each : Option R.Start → Type 0
+module _ (P : Start → Type 0) where
+  abbrev Each : Option Start → Type 0
   Each none = 0 ≤ 0
   Each (some s) = P s
 
-  chosen-each : (f : R.Start) (o : Option R.Start) → P f → Each o → P (R.chosen f o .answered)
-  unfolding R.chosen
+  chosen-each : (f : Start) (o : Option Start) → P f → Each o → P (chosen f o .answered)
+  unfolding chosen
   chosen-each f none h k = h
-  chosen-each f (some g) h k = go (R.isLower (g .fit) (f .fit))
+  chosen-each f (some g) h k = go (isLower (g .fit) (f .fit))
     where
       go : (b : Bool) → P (cond b g f)
       go true = k
@@ -112,7 +114,7 @@ module _ (P : R.Start → Type 0) where
     abbrev centeredVar : Float
     centeredVar = R.varianceOf n samples mean
 
-    abbrev primary : R.Start
+    abbrev primary : Start
     primary = R.start n samples ringPhi (R.firstSeed (secondHarmonic n samples ringPhi mean) mean) centeredVar
 
     module _ (all : (seed : Params) → ParamsHeld seed → P (R.start n samples ringPhi seed centeredVar)) where
@@ -137,7 +139,7 @@ module _ (P : R.Start → Type 0) where
           let held = seed-held n (sines n ringPhi) (cosines n ringPhi) centered centeredSs mean in
           go (lt centeredVar (lit 0x3586_37bd) || flat centeredSs) _ (refined-each _ held)
         where
-          go : (b : Bool) (o : Option R.Start) → Each o → Each (cond b none o)
+          go : (b : Bool) (o : Option Start) → Each o → Each (cond b none o)
           go true o h = omega arith
           go false o h = h
 
@@ -145,7 +147,7 @@ module _ (P : R.Start → Type 0) where
       unfolding R.ring
       ring-each = go (R.fitIsSuspicious (primary .fit)) _ (chosen-each primary _ primary-each grid-each)
         where
-          go : (b : Bool) (x : R.Ring) → P (x .answered) → P (cond b x (R.single primary) .answered)
+          go : (b : Bool) (x : Ring) → P (x .answered) → P (cond b x (single primary) .answered)
           go true x h = h
           go false x h = primary-each
 
@@ -157,14 +159,14 @@ pub record Billed (r : RingFit) : Type 0 where
   pub second : r .second ≤ 6
   pub alone : r .starts ≡ 1 → r .second ≡ 0
 
-abbrev Few : R.Start → Type 0
+abbrev Few : Start → Type 0
 Few s = s .updates ≤ 6
 
-single-billed : (f : R.Start) → Few f → Billed (ringFitOf (R.single f))
+single-billed : (f : Start) → Few f → Billed (ringFitOf (single f))
 single-billed f h = record { some = omega arith; most = omega arith; first = h; second = omega arith; alone = λ e. refl }
 
-chosen-billed : (f : R.Start) (o : Option R.Start) → Few f → Each Few o → Billed (ringFitOf (R.chosen f o))
-unfolding R.chosen
+chosen-billed : (f : Start) (o : Option Start) → Few f → Each Few o → Billed (ringFitOf (chosen f o))
+unfolding chosen
 chosen-billed f none h k = single-billed f h
 chosen-billed f (some g) h k = record { some = omega arith; most = omega arith; first = h; second = k; alone = λ e. absurd (two e) }
   where
@@ -188,9 +190,9 @@ module _ (n : ℕ) (samples ringPhi : Row) where
       let two = grid-each Few n samples ringPhi few in
       let f = primary Few n samples ringPhi in
       let o = R.robustGridFit n samples ringPhi (mean Few n samples ringPhi) (centeredVar Few n samples ringPhi) in
-      go (R.fitIsSuspicious (f .fit)) (R.chosen f o) (R.single f) (chosen-billed f o one two) (single-billed f one)
+      go (R.fitIsSuspicious (f .fit)) (chosen f o) (single f) (chosen-billed f o one two) (single-billed f one)
     where
-      go : (b : Bool) (x y : R.Ring) → Billed (ringFitOf x) → Billed (ringFitOf y) → Billed (ringFitOf (cond b x y))
+      go : (b : Bool) (x y : Ring) → Billed (ringFitOf x) → Billed (ringFitOf y) → Billed (ringFitOf (cond b x y))
       go true x y h k = h
       go false x y h k = k
 

@@ -1,19 +1,21 @@
 // The whole ring fit: ring_fit/robust.rs, the suspicion gate and the grid search behind it. The grid itself is the crate
 // robust_grid.
+use robust_choice::RingFit;
+use robust_choice::Second;
 use seed::Harmonic;
 use seed::Seed;
 use solver_record::Params;
 use solver_record::Started;
 use solver_record::TwoAxisFit;
-use solver_errors::Standing;
 ghost use mathlib.Core.Path.{_≡_};
-ghost use mathlib.Core.Bool.{true, cond};
+ghost use mathlib.Core.Bool.{true};
 ghost use lib.ListN.{length};
 ghost use Rattle.solver_record.specs.Record.{withoutMean};
 ghost use Rattle.solver.specs.Record.{recordWithSeed};
 ghost use Rattle.solver.specs.Buffers.{Prepared};
 ghost use Rattle.robust.specs.Robust as R;
 ghost use Rattle.robust.specs.Record.{recordRing};
+ghost use Rattle.robust_choice.specs.Parts.{secondOf};
 ghost use Rattle.robust.specs.Parts as P;
 
 const AMP_FLOOR: f32 = 1.0;
@@ -29,21 +31,6 @@ const ROBUST_SEP_TRIGGER_MAX_RAD: f32 = 2.00712872;
 const GRID_16: usize = robust_lanes::GRID_PLACES * 16 + 2;
 
 const GRID_24: usize = robust_lanes::GRID_PLACES * 24 + 2;
-
-// The second start's fit, or that there was none.
-pub enum Second {
-    Made(Started),
-    Missing,
-}
-
-// The fit that is answered with the standing of its errors, the number of starts, and the updates of each.
-pub struct RingFit {
-    pub fit: TwoAxisFit,
-    pub standing: Standing,
-    pub starts: usize,
-    pub first: usize,
-    pub second: usize,
-}
 
 // Rust's `sum` begins at -0.
 fn total(samples: &[f32]) -> f32
@@ -153,7 +140,7 @@ fn refined(
     js: &mut [f32],
 ) -> Second
     requires { ⌜ P.Ready (now samples) (now «ring_phi») (now sphi) (now cphi) (now js) ⌝ }
-    ensures { λ r. ⌜ r ≡ P.secondOf (R.refineSeedCandidates (length (now (samples .entry))) (now (samples .entry)) (now («ring_phi» .entry))
+    ensures { λ r. ⌜ r ≡ secondOf (R.refineSeedCandidates (length (now (samples .entry))) (now (samples .entry)) (now («ring_phi» .entry))
         «centered_var» top) ⌝ }
 {
     let Seed::Found(s) = top else {
@@ -181,7 +168,7 @@ fn grid_fit(
     h: &mut [f32],
 ) -> Second
     requires { ⌜ P.Ready (now samples) (now «ring_phi») (now sphi) (now cphi) (now js) × P.Rows (now samples) (now h) ⌝ }
-    ensures { λ r. ⌜ r ≡ P.secondOf (R.robustGridFit (length (now (samples .entry))) (now (samples .entry)) (now («ring_phi» .entry))
+    ensures { λ r. ⌜ r ≡ secondOf (R.robustGridFit (length (now (samples .entry))) (now (samples .entry)) (now («ring_phi» .entry))
         mean «centered_var») ⌝ }
 {
     if centered_var < 1e-6 {
@@ -209,7 +196,7 @@ pub fn refine_seed_candidates(
     js: &mut [f32],
 ) -> Second
     requires { ⌜ P.Lent (now samples) (now «ring_phi») (now sphi) (now cphi) (now js) ⌝ }
-    ensures { λ r. ⌜ r ≡ P.secondOf (R.refineSeedCandidates (length (now (samples .entry))) (now (samples .entry)) (now («ring_phi» .entry))
+    ensures { λ r. ⌜ r ≡ secondOf (R.refineSeedCandidates (length (now (samples .entry))) (now (samples .entry)) (now («ring_phi» .entry))
         «centered_var» top) ⌝ }
 {
     let n = ring_phi.len();
@@ -229,7 +216,7 @@ pub fn robust_grid_fit(
     h: &mut [f32],
 ) -> Second
     requires { ⌜ P.Lent (now samples) (now «ring_phi») (now sphi) (now cphi) (now js) × P.Rows (now samples) (now h) ⌝ }
-    ensures { λ r. ⌜ r ≡ P.secondOf (R.robustGridFit (length (now (samples .entry))) (now (samples .entry)) (now («ring_phi» .entry))
+    ensures { λ r. ⌜ r ≡ secondOf (R.robustGridFit (length (now (samples .entry))) (now (samples .entry)) (now («ring_phi» .entry))
         mean «centered_var») ⌝ }
 {
     let n = ring_phi.len();
@@ -304,52 +291,6 @@ fn first_start(
     }
 }
 
-// The answer without the grid.
-fn alone(primary: Started) -> RingFit
-    ensures { λ r. ⌜ P.Alone primary r ⌝ }
-{
-    let fit = primary.fit;
-    let standing = primary.standing;
-    RingFit {
-        fit,
-        standing,
-        starts: 1,
-        first: primary.updates,
-        second: 0,
-    }
-}
-
-// Of two starts the second is answered only where its residual is lower by more than 1e-3.
-fn lower(primary: Started, candidate: Started) -> Started
-    ensures { λ r. ⌜ r ≡ cond (R.isLower (withoutMean (candidate .fit)) (withoutMean (primary .fit))) candidate primary ⌝ }
-{
-    let f = primary.fit;
-    let g = candidate.fit;
-    if g.rms < f.rms - 1e-3 {
-        return candidate;
-    }
-    primary
-}
-
-// The answer with a second start.
-fn chosen(primary: Started, s: Second) -> RingFit
-    ensures { λ r. ⌜ P.Chosen primary s r ⌝ }
-{
-    let Second::Made(candidate) = s else {
-        return alone(primary);
-    };
-    let answered = lower(primary, candidate);
-    let fit = answered.fit;
-    let standing = answered.standing;
-    RingFit {
-        fit,
-        standing,
-        starts: 2,
-        first: primary.updates,
-        second: candidate.updates,
-    }
-}
-
 // The answer behind a suspicious first start.
 fn with_grid(
     samples: &[f32],
@@ -364,7 +305,7 @@ fn with_grid(
     ensures { λ r. ⌜ P.WithGrid (now (samples .entry)) (now («ring_phi» .entry)) f r ⌝ }
 {
     let s = grid_fit(samples, ring_phi, f.mean, f.centered_var, sphi, cphi, js, h);
-    chosen(f.primary, s)
+    robust_choice::chosen(f.primary, s)
 }
 
 // The same of 16 samples. The grid's rows are on this call's stack, so they are cleared only where the grid is reached.
@@ -412,7 +353,7 @@ pub fn fit_ring(samples: &[f32], ring_phi: &[f32]) -> RingFit
     if fit_is_suspicious(primary.fit) {
         return with_grid_16(samples, ring_phi, f, &sphi, &cphi, &mut js);
     }
-    alone(primary)
+    robust_choice::alone(primary)
 }
 
 // The fit of 24 samples: ours, without a counterpart in the Rust.
@@ -428,5 +369,5 @@ pub fn fit_ring24(samples: &[f32], ring_phi: &[f32]) -> RingFit
     if fit_is_suspicious(primary.fit) {
         return with_grid_24(samples, ring_phi, f, &sphi, &cphi, &mut js);
     }
-    alone(primary)
+    robust_choice::alone(primary)
 }

@@ -24,7 +24,7 @@ fn report(samples: &[f32], angles: &[f32]) {
         Some([e1, e2]) => println!(", errors {:.2} and {:.2} degrees", e1 * DEGREES, e2 * DEGREES),
         None => println!(", errors not known"),
     }
-    println!("amplitude {:.2}, rms {:.3}", fit.amp, fit.rms);
+    println!("amplitude {:.2} about a mean of {:.2}, rms {:.3}", fit.amp, fit.mean, fit.rms);
     println!("starts {}, updates {} and {}", fit.starts, fit.first_updates, fit.second_updates);
 }
 

@@ -22,7 +22,6 @@
 #![deny(unsafe_op_in_unsafe_fn)]
 
 use core::fmt;
-use raw::Ring;
 
 mod lines;
 mod raw;
@@ -127,7 +126,7 @@ impl core::error::Error for Refusal {}
 
 /// The fit of a ring, of 16 samples or of 24: two axes through the corner, in radians.
 ///
-/// The model is `mu + amp * tanh(4 sin(phi - theta1)) * tanh(4 sin(phi - theta2))` at the angle `phi`.
+/// The model is `mean + amp * tanh(4 sin(phi - theta1)) * tanh(4 sin(phi - theta2))` at the angle `phi`.
 #[derive(Clone, Copy, Debug, PartialEq)]
 pub struct RingFit {
     /// Amplitude: not below 0, or NaN after an overflow. 0 for a ring without contrast.
@@ -142,6 +141,9 @@ pub struct RingFit {
     pub error2: f32,
     /// Root mean square of the residual.
     pub rms: f32,
+    /// Brightness about which the fitted edges lie, the model's `mu`: that of the start that is answered. For a ring without
+    /// contrast its seed's, which is the mean of the samples where there was one start. Infinite or NaN after an overflow.
+    pub mean: f32,
     /// Starts made: 1 or 2.
     pub starts: u32,
     /// Updates of the first start: 0 to 6.
@@ -167,7 +169,7 @@ impl RingFit {
 /// In this order: [`Number::Length`] at place 0 if a slice is not [`RING_SAMPLES`] long; [`Number::NotFinite`] at the
 /// index of the first value that is NaN or infinite, samples before angles. Every other ring is answered.
 pub fn fit_ring(samples: &[f32], angles: &[f32]) -> Result<RingFit, Refusal> {
-    fit_of(Ring::Of16, samples, angles)
+    fit_of(RING_SAMPLES, samples, angles)
 }
 
 /// Fits the two axes to 24 samples at 24 angles (radians): as [`fit_ring`] in every word, with 24 in the place of 16.
@@ -177,20 +179,24 @@ pub fn fit_ring(samples: &[f32], angles: &[f32]) -> Result<RingFit, Refusal> {
 /// In this order: [`Number::Length`] at place 0 if a slice is not [`RING24_SAMPLES`] long; [`Number::NotFinite`] at the
 /// index of the first value that is NaN or infinite, samples before angles. Every other ring is answered.
 pub fn fit_ring24(samples: &[f32], angles: &[f32]) -> Result<RingFit, Refusal> {
-    fit_of(Ring::Of24, samples, angles)
+    fit_of(RING24_SAMPLES, samples, angles)
 }
 
-fn fit_of(ring: Ring, samples: &[f32], angles: &[f32]) -> Result<RingFit, Refusal> {
-    let mut fit = [0.0; 6];
+/// The library's call takes rings of 16 and of 24: the number of samples must be looked at here.
+fn fit_of(n: usize, samples: &[f32], angles: &[f32]) -> Result<RingFit, Refusal> {
+    if samples.len() != n {
+        return Err(Refusal { number: Number::Length, place: 0 });
+    }
+    let mut fit = [0.0; 7];
     let mut counts = [0; 4];
-    match raw::fit_ring(ring, samples, angles, &mut fit, &mut counts) {
+    match raw::ring_record(samples, angles, &mut fit, &mut counts) {
         0 => Ok(ring_fit(fit, counts)),
         code => Err(Refusal::from_code(code)),
     }
 }
 
-fn ring_fit(fit: [f32; 6], counts: [u32; 4]) -> RingFit {
-    let [amp, theta1, theta2, error1, error2, rms] = fit;
+fn ring_fit(fit: [f32; 7], counts: [u32; 4]) -> RingFit {
+    let [amp, theta1, theta2, error1, error2, rms, mean] = fit;
     let [starts, first_updates, second_updates, known] = counts;
     RingFit {
         amp,
@@ -199,6 +205,7 @@ fn ring_fit(fit: [f32; 6], counts: [u32; 4]) -> RingFit {
         error1,
         error2,
         rms,
+        mean,
         starts,
         first_updates,
         second_updates,

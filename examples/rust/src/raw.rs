@@ -14,17 +14,7 @@ mod c {
         pub fn jb_sqrt(x: f32) -> f32;
         pub fn jb_narrow(x: f64) -> f32;
         pub fn jb_answer_line(line: *const u8, line_len: usize, out: *mut u8, out_len: usize) -> u32;
-        pub fn jb_fit_ring(
-            samples: *const f32,
-            samples_len: usize,
-            angles: *const f32,
-            angles_len: usize,
-            fit: *mut f32,
-            fit_len: usize,
-            counts: *mut u32,
-            counts_len: usize,
-        ) -> u32;
-        pub fn jb_fit_ring24(
+        pub fn jb_ring_record(
             samples: *const f32,
             samples_len: usize,
             angles: *const f32,
@@ -96,21 +86,10 @@ pub fn answer_line(line: &[u8], out: &mut [u8]) -> u32 {
     unsafe { c::jb_answer_line(line.as_ptr(), line.len(), out.as_mut_ptr(), out.len()) }
 }
 
-/// The two rings: each has a C function of its own, of one shape for both.
-#[derive(Clone, Copy)]
-pub enum Ring {
-    Of16,
-    Of24,
-}
-
-pub fn fit_ring(ring: Ring, samples: &[f32], angles: &[f32], fit: &mut [f32], counts: &mut [u32]) -> u32 {
-    let call = match ring {
-        Ring::Of16 => c::jb_fit_ring,
-        Ring::Of24 => c::jb_fit_ring24,
-    };
+pub fn ring_record(samples: &[f32], angles: &[f32], fit: &mut [f32], counts: &mut [u32]) -> u32 {
     // SAFETY: pointers and lengths of live slices, the written ones borrowed alone.
     unsafe {
-        call(
+        c::jb_ring_record(
             samples.as_ptr(),
             samples.len(),
             angles.as_ptr(),
@@ -166,12 +145,12 @@ mod tests {
 
     #[test]
     fn short_ring_buffers_are_refused_and_kept() {
-        let (mut fit, mut counts) = ([7.0; 6], [7; 4]);
-        for (ring, n) in [(Ring::Of16, 16), (Ring::Of24, 24)] {
+        let (mut fit, mut counts) = ([7.0; 7], [7; 4]);
+        for n in [16, 24] {
             let zeros = &[0.0; 24][..n];
-            assert_eq!(fit_ring(ring, zeros, zeros, &mut fit[..5], &mut counts), 65536);
-            assert_eq!(fit_ring(ring, zeros, zeros, &mut fit, &mut counts[..3]), 65536);
-            assert_eq!((fit, counts), ([7.0; 6], [7; 4]));
+            assert_eq!(ring_record(zeros, zeros, &mut fit[..6], &mut counts), 65536);
+            assert_eq!(ring_record(zeros, zeros, &mut fit, &mut counts[..3]), 65536);
+            assert_eq!((fit, counts), ([7.0; 7], [7; 4]));
         }
     }
 

@@ -11,8 +11,8 @@ type Fit = fn(&[f32], &[f32]) -> Result<RingFit, Refusal>;
 /// Both rings, and how many samples each has.
 const RINGS: [(usize, Fit); 2] = [(RING_SAMPLES, fit_ring), (RING24_SAMPLES, fit_ring24)];
 
-fn bits(fit: RingFit) -> [u32; 6] {
-    [fit.amp, fit.theta1, fit.theta2, fit.error1, fit.error2, fit.rms].map(f32::to_bits)
+fn bits(fit: RingFit) -> [u32; 7] {
+    [fit.amp, fit.theta1, fit.theta2, fit.error1, fit.error2, fit.rms, fit.mean].map(f32::to_bits)
 }
 
 /// A noisy ring, as bits, and its answer.
@@ -24,7 +24,7 @@ const ANGLES: [u32; 16] = [
     0xbfc90fdb, 0xbf985b6c, 0xbf490fdb, 0xbec2d1bb, 0x00000000, 0x3ec2d1bb, 0x3f490fdb, 0x3f985b6c, //
     0x3fc90fdb, 0x3ff9c449, 0x4016cbe4, 0x4030b5a3, 0x40490fdb, 0xc030b5a3, 0xc016cbe4, 0xbff9c449,
 ];
-const ANSWER: [u32; 6] = [0x404a131e, 0x3fc1c523, 0x405347ee, 0x3bee0dc1, 0x3c11bde0, 0x3dbb2787];
+const ANSWER: [u32; 7] = [0x404a131e, 0x3fc1c523, 0x405347ee, 0x3bee0dc1, 0x3c11bde0, 0x3dbb2787, 0x430088a1];
 
 #[test]
 fn a_known_ring_has_its_bits() {
@@ -43,7 +43,7 @@ fn a_known_ring_of_24_has_its_bits() {
     ];
     let angles: [f32; 24] = core::array::from_fn(|i| (i as f64 * core::f64::consts::PI / 12.0) as f32);
     let fit = fit_ring24(&samples.map(|grey: u8| f32::from(grey)), &angles).unwrap();
-    assert_eq!(bits(fit), [0x4270ada8, 0x3f05e8d1, 0x3fb2ad95, 0x3a6584fc, 0x3a6e61fc, 0x3e68fbf7]);
+    assert_eq!(bits(fit), [0x4270ada8, 0x3f05e8d1, 0x3fb2ad95, 0x3a6584fc, 0x3a6e61fc, 0x3e68fbf7, 0x42ffd0cf]);
     assert_eq!((fit.starts, fit.first_updates, fit.second_updates, fit.errors_known), (2, 5, 3, true));
 }
 
@@ -64,15 +64,15 @@ fn axes_are_found_again() {
         let fit = fit(&samples, &angles).unwrap();
         assert!((fit.theta1.to_degrees() - 35.0).abs() < 0.01, "{fit:?}");
         assert!((fit.theta2.to_degrees() - 120.0).abs() < 0.01, "{fit:?}");
-        assert!((fit.amp - 60.0).abs() < 0.01 && fit.rms < 0.01, "{fit:?}");
+        assert!((fit.amp - 60.0).abs() < 0.01 && (fit.mean - 128.0).abs() < 0.01 && fit.rms < 0.01, "{fit:?}");
     }
 }
 
 #[test]
 fn a_ring_without_contrast_has_no_errors() {
     for (n, fit) in RINGS {
-        let fit = fit(&vec![0.0; n], &vec![0.0; n]).unwrap();
-        assert_eq!((fit.amp, fit.theta1, fit.theta2, fit.rms), (0.0, 0.0, FRAC_PI_2, 0.0));
+        let fit = fit(&vec![-2.5; n], &vec![0.0; n]).unwrap();
+        assert_eq!((fit.amp, fit.theta1, fit.theta2, fit.rms, fit.mean), (0.0, 0.0, FRAC_PI_2, 0.0, -2.5));
         assert_eq!((fit.error1, fit.error2, fit.errors()), (PI, PI, None));
         assert_eq!((fit.starts, fit.first_updates, fit.second_updates), (1, 0, 0));
     }

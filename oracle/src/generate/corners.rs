@@ -14,7 +14,7 @@ const FINE: i32 = 4;
 /// A dark sector lies between the first axis and the second, counted from the first.
 pub struct Corner {
     pub axes: [f64; 2],
-    mean: f64,
+    pub mean: f64,
     amp: f64,
     width: f64,
     noise: f64,

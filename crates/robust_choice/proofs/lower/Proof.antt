@@ -1,6 +1,6 @@
 -- The test of the two residuals. Assumes nothing.
-use Rattle.robust.proofs.lower.Statement.{statement}
-use Rattle.robust.proofs.lower.Tie as tie
+use Rattle.robust_choice.proofs.lower.Statement.{statement}
+use Rattle.robust_choice.proofs.lower.Tie as tie
 
 returns : tie.Need-returns
 returns c = rw (c .if1 .taken)

@@ -1,7 +1,7 @@
 -- One start's fit is the answer. Assumes nothing.
-use Rattle.robust.specs.RobustLaws.{alone-is}
-use Rattle.robust.proofs.alone.Statement.{statement}
-use Rattle.robust.proofs.alone.Tie as tie
+use Rattle.robust_choice.specs.ChoiceLaws.{alone-is}
+use Rattle.robust_choice.proofs.alone.Statement.{statement}
+use Rattle.robust_choice.proofs.alone.Tie as tie
 
 returns : tie.Need-returns
 returns c = alone-is _

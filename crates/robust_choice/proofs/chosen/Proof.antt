@@ -1,8 +1,8 @@
 -- Without a second start the first is answered, with one the lower. Assumes nothing.
-use Rattle.robust.specs.RobustLaws.{chosen-alone, chosen-two}
+use Rattle.robust_choice.specs.ChoiceLaws.{chosen-alone, chosen-two}
 use borrow.Author.Needs.{needs}
-use Rattle.robust.proofs.chosen.Statement.{statement}
-use Rattle.robust.proofs.chosen.Tie as tie
+use Rattle.robust_choice.proofs.chosen.Statement.{statement}
+use Rattle.robust_choice.proofs.chosen.Tie as tie
 
 returns : tie.Need-returns
 returns c = chosen-alone _ _ _ (c .before .enum-told .given .1) (c .alone .ensures)

@@ -1,0 +1,4 @@
+pub mod Choice
+pub mod Record
+pub mod Parts
+pub mod ChoiceLaws
