@@ -99,7 +99,7 @@ uint32_t jb_fit_ring24(const float *samples, size_t samples_len, const float *an
  *   is answered. It is fitted with the axes and the amplitude, and differs from the mean of the samples where the dark
  *   and the bright sectors are unlike. A start without contrast to fit is degenerate (amplitude 0, errors not known)
  *   and carries its seed's mean, which is that of the samples where there was one start. After an overflow the mean
- *   may be infinite or NaN.
+ *   may be infinite or NaN; the rms is then not finite either.
  * Returns 0 for a fit, else number * 65536 + place, and then neither buffer is changed:
  *   65536 (number 1)       `fit` under 7 or `counts` under 4 elements; samples that are neither 16 nor 24; angles that
  *                          are not as many

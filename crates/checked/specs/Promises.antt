@@ -27,11 +27,11 @@ use Rattle.solver_record.specs.declared.Params.{Params}
 use Rattle.robust_choice.specs.Choice.{Source, ofPass, ofSeed}
 use Rattle.robust.specs.Robust.{meanOf, varianceOf, ring, fitRing, ringSum}
 use Rattle.robust.specs.Record.{recordRing}
-use Rattle.robust.specs.RecordLaws.{ring-rust, ring-dropped, ring-own}
+use Rattle.robust.specs.RecordLaws.{ring-rust, ring-dropped, OwnPass, ring-own}
 use Rattle.robust.specs.KnownLaws.{StandsOn, ring-stands}
 use Rattle.robust.specs.SoundLaws.{SoundRing, ring-sound}
 use Rattle.robust.specs.Residual.{MadeOf, half, Share}
-use Rattle.robust.specs.ResidualLaws.{ring-made, ring-tiny, ring-sum-upright, share-16, share-24}
+use Rattle.robust.specs.ResidualLaws.{ring-made, ring-tiny, finite-mean, ring-sum-upright, share-16, share-24}
 use Rattle.robust_choice.specs.declared.RingFit.{RingFit}
 use Rattle.score.specs.Score.{fitStdErrors, errorMatrix, errorSum, fitStanding, widthsPx}
 use Rattle.score.specs.ScoreLaws.{SoundFit, errors-sound, error-sum-upright}
@@ -285,22 +285,30 @@ module _ (n : ℕ) (samples angles : List Float) where
         let o = subst (λ (x : Source). StandsOn n x (withoutMean (theFit .fit)) (theFit .standing)) e (ring-stands n samples angles) .0 in
         let centeredVar = varianceOf n samples (meanOf n samples) in
         let made = subst (λ (x : Source). MadeOf n centeredVar (theFit .fit .rms) x) e (ring-made n samples angles) in
-        rw values-are (o .amp, o .axis1, o .axis2, rw (ring-own n samples angles end e) at made)
+        rw values-are (o .amp, o .axis1, o .axis2, rw (subst (OwnPass n samples angles) e (ring-own n samples angles)) at made)
 
     -- the amplitude is NaN or not below zero
     pub ring-amplitude : T (isNan (value 0) || le nought (value 0))
     ring-amplitude = rw values-are (sound .fit .size)
+
+    -- the samples are the first n of the values
+    samples-finite : (i : ℕ) → i < n → T (finite (getD samples i nan))
+    samples-finite i h =
+        let sized = answered-is-the-fit .sized in
+        of-true (sym (ap finite (List·getD-append samples angles nan i (omega (arith, sized)))) ∙ answered-finite .1 i (omega (arith, answered-finite .0)))
+
+    -- a mean that is not finite does not hide: the rms is then not finite either
+    pub ring-mean-finite : Share n → T (finite (value 5)) → T (finite (recorded 6))
+    unfolding ringRecord
+    ring-mean-finite share t =
+        rw (answered-is-the-fit .answer) (finite-mean n share samples angles samples-finite (rw values-are at t))
 
     -- A residual of 0 is never a non-number in disguise: the sum of squares that the rms was made of is a number, not below 0, and at most half of n
     -- units of 2 ^ -149, the largest whose n-th part rounds to 0 (`Share n`). `ringSum` is the sum of the answered start, and `ring-made` of robust's
     -- ResidualLaws says of every ring that the rms is the root of its n-th part, or, for a start that is refused, of the greater of that and 0.
     pub ring-zero : Share n → eq (value 5) nought ≡ true → SumTiny
     ring-zero share z =
-        let sized = answered-is-the-fit .sized in
-        let each : (i : ℕ) → i < n → T (finite (getD samples i nan)) =
-        λ i h. of-true (sym (ap finite (List·getD-append samples angles nan i (omega (arith, sized)))) ∙
-        answered-finite .1 i (omega (arith, answered-finite .0))) in
-        let t = ring-tiny n share samples angles each (rw values-are at z) in
+        let t = ring-tiny n share samples angles samples-finite (rw values-are at z) in
         (t .number, t .above, t .small)
 
 -- of the two rings: the sum is at most 8 units of 16 samples, and 12 of 24

@@ -6,6 +6,7 @@ pub mod RoundingLaws
 pub mod NonNegLaws
 pub mod RemLaws
 pub mod FiniteLaws
+pub mod PartsLaws
 pub mod PatternLaws
 pub mod RootLaws
 pub mod PositiveLaws

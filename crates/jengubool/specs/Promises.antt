@@ -76,12 +76,16 @@ module _ (fit : List Float) (counts : List ℕ) where
   unfolding diskCall
   disk-code D base0 base1 f c = rw (le-ltb _ _ f, le-ltb _ _ c) (disk-stored-code (checkedDisk D base0 base1))
 
-  -- a record of anything but 16 or 24 samples is refused with 1, whatever the buffers
-  pub record-of-other-lengths : (samples angles : List Float) → (length samples ≡ 16 → ⊥) → (length samples ≡ 24 → ⊥) →
-      ringCall theRecord (ringSize samples) samples angles fit counts .code ≡ 65536
+  -- a record is of 16 samples or of 24, and any other number is refused with 1, whatever the buffers
+  pub record-sizes : (samples angles : List Float) →
+      (length samples ≡ 16 → ringSize samples ≡ 16) × (length samples ≡ 24 → ringSize samples ≡ 24) ×
+      ((length samples ≡ 16 → ⊥) → (length samples ≡ 24 → ⊥) → ringCall theRecord (ringSize samples) samples angles fit counts .code ≡ 65536)
   unfolding ringCall ringStored checkedRing
-  record-of-other-lengths samples angles no16 no24 =
-      rw (ne-eqb (length samples) 24 no24, ne-eqb (length samples) 16 no16) (short (ltb (length fit) 7) (ltb (length counts) 4))
+  record-sizes samples angles = (
+      λ e. rw e refl,
+      λ e. rw e refl,
+      λ no16 no24. rw (ne-eqb (length samples) 24 no24, ne-eqb (length samples) 16 no16) (short (ltb (length fit) 7) (ltb (length counts) 4)),
+  )
     where
       short : (a b : Bool) → cond a (refusal 65536) (cond b (refusal 65536) (refusal 65536)) .code ≡ 65536
       short true b = refl

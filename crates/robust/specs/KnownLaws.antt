@@ -43,4 +43,4 @@ pub ring-stands : (n : ℕ) (samples ringPhi : Row)
 unfolding recordRing
 ring-stands n samples ringPhi =
     ring-each (λ (s : Start). StandsOn n (s .source) (s .fit) (s .standing)) n samples ringPhi
-    (λ seed h. start-stands n samples ringPhi seed (varianceOf n samples (meanOf n samples)))
+    (λ seed h m. start-stands n samples ringPhi seed (varianceOf n samples (meanOf n samples)))

@@ -1,6 +1,6 @@
 -- Demand 2 with the mean kept: without it the answer of a ring is the Rust's, and the mean is the mu that the Rust drops in the start that it answers,
 -- with which the last pass was made. Assumes nothing.
-use mathlib.Core.Path.{_≡_, refl, ap, _∙_, subst}
+use mathlib.Core.Path.{_≡_, refl, ap, _∙_}
 use mathlib.Core.Bool.{Bool, true, false, cond}
 use Prim.Native.Nat.{ℕ, _≤_}
 use native.Mathlib.Omega.{arith}
@@ -34,7 +34,7 @@ module _ (n : ℕ) (samples ringPhi : Row) where
 
 -- ---- the sums that the answer is made of are those of a pass at the parameters whose mu is the mean
 module _ (n : ℕ) (samples ringPhi : Row) where
-  abbrev OwnPass : Source → Type 0
+  abbrev pub OwnPass : Source → Type 0
   OwnPass (ofPass end) = Own n samples (sines n ringPhi) (cosines n ringPhi) end
   OwnPass (ofSeed seed) = 0 ≤ 0
 
@@ -46,10 +46,8 @@ module _ (n : ℕ) (samples ringPhi : Row) where
       go true = omega arith
       go false = updates-own n samples (sines n ringPhi) (cosines n ringPhi) seed
 
-  pub ring-own : (end : Final) → ring n samples ringPhi .answered .source ≡ ofPass end → Own n samples (sines n ringPhi) (cosines n ringPhi) end
-  ring-own end e =
-      subst OwnPass e
-      (ring-each (λ s. OwnPass (s .source)) n samples ringPhi (λ seed h. start-own seed (varianceOf n samples (meanOf n samples))))
+  pub ring-own : OwnPass (ring n samples ringPhi .answered .source)
+  ring-own = ring-each (λ s. OwnPass (s .source)) n samples ringPhi (λ seed h m. start-own seed (varianceOf n samples (meanOf n samples)))
 
 -- ---- the code's start is the definition's, without what that was made of
 picked : (b : Bool) (seed : Params) (end : Final) → cond b (seed .mu) (end .p .mu) ≡ meanFrom (cond b (ofSeed seed) (ofPass end))

@@ -2,7 +2,8 @@
 -- n-th part rounds to 0, or below, only from half of n units down, and a sum of squares is a NaN or not below 0. Of finite samples the deviations are
 -- no NaN: what is added is never below zero, so no infinity meets one of the other sign. Assumes nothing.
 use mathlib.Core.Path.{_≡_, refl, sym, ap, _∙_, subst}
-use mathlib.Core.Bool.{Bool, true, false, cond, not, _&&_, _||_, false≢true}
+use mathlib.Core.Bool.{Bool, true, false, cond, not, _&&_, _||_, true≢false, false≢true}
+use mathlib.Core.Logic.{_⊎_, inl, inr}
 use Prim.Native.Nat.{ℕ, zero, suc, _+_, _-_, _*_, _/_, _^_, _≤_, _<_}
 use native.Mathlib.Nat.{lt-of-lt-of-le, lt-irrefl, mul-pos, mul-le-mul-right, zero-lt-suc, zero-mul}
 use native.Mathlib.Omega.{arith}
@@ -27,17 +28,20 @@ use Rattle.floats.specs.SquareSumLaws.{add-number, sub-number, square-clear, ad
 use Rattle.floats.specs.ProductLaws.{div-val}
 use Rattle.floats.specs.NearestRootLaws.{root-nearest}
 use Rattle.floats.specs.FiniteLaws.{of-true, finite-number}
+use Rattle.floats.specs.PartsLaws.{add-parts, sub-parts, mul-parts, div-part, sqrt-part}
 use Rattle.loops.specs.Loops.{iter}
 use Rattle.loops.specs.IterLaws.{iter-keeps}
-use Rattle.solver.specs.SolverLaws.{run-full, run-stay, run-to}
-use Rattle.solver.specs.Solver.{Normal, empty, added, pass, Step, stay, to, Final, updatesFrom, updates, sines, cosines, finishedAt}
+use Rattle.solver.specs.SoundLaws.{updates-own}
+use Rattle.solver.specs.Solver.{sampleAt, Normal, empty, added, pass, Final, updates, sines, cosines, finishedAt}
 use Rattle.solver.specs.Solver.{fitWithSeed}
 use Rattle.solver_record.specs.Fit.{degenerate, degenerateFit, finished, assembled}
 use Rattle.solver_record.specs.declared.Params.{Params}
 use Rattle.robust_choice.specs.Choice.{Source, ofPass, ofSeed}
 use Rattle.robust.specs.Robust.{negativeZero, total, deviations, meanOf, varianceOf, start, ring, sumOf, ringSum}
 use Rattle.robust.specs.Record.{recordRing}
-use Rattle.robust.specs.SoundLaws.{ring-each}
+use Rattle.robust_choice.specs.Record.{meanFrom}
+use Rattle.robust.specs.SoundLaws.{MeanHeld, ring-each}
+use Rattle.robust.specs.RecordLaws.{OwnPass, ring-own, ring-dropped}
 use Rattle.robust.specs.Residual.{MadeOf, half, Tiny, oneUnit, Share}
 
 -- ---- a root is 0 only of a zero
@@ -234,27 +238,10 @@ pass-good n p vs ss cs =
     iter-keeps (λ (l : Normal). Good (l .ssr)) _ empty n (unfold empty in
     (ofBits-fits binary32 0, nought-level)) (λ i l h. (add-fits binary32 (l .ssr) _, add-level binary32 (l .ssr) _ (h .1)))
 
--- either step that a pass's elimination asks for
-step-cases : {S : Type 0} {w : S} {f : S → Step} (P : Type 0) → ((s : S) → s ≡ w → f s ≡ stay → P) → ((s : S) → s ≡ w → (q : Params) → f s ≡ to q → P) → P
-step-cases {S} {w} {f} P F G = go (f w) refl
-  where
-    go : (t : Step) → f w ≡ t → P
-    go stay e = F w refl e
-    go (to q) e = G w refl q e
-
-module _ (n : ℕ) (vs ss cs : Row) where
-  from-good : (fuel k : ℕ) (p : Params) → k + fuel ≡ 6 → Good (updatesFrom n vs ss cs (6 - k) k p .last .ssr)
-  from-good zero k p e = subst (λ (x : Final). Good (x .last .ssr)) (run-full n vs ss cs k p (pass n p vs ss cs) refl (omega arith)) (pass-good n p vs ss cs)
-  from-good (suc fuel) k p e =
-      let less : k < 6 = omega arith in
-      let next : k + 1 + fuel ≡ 6 = omega arith in
-      step-cases (Good (updatesFrom n vs ss cs (6 - k) k p .last .ssr))
-      (λ s w h. subst (λ (x : Final). Good (x .last .ssr)) (run-stay n vs ss cs k p (pass n p vs ss cs) s refl w less h) (pass-good n p vs ss cs))
-      (λ s w q h. subst (λ (x : Final). Good (x .last .ssr)) (run-to n vs ss cs k p q (pass n p vs ss cs) s refl w less h) (from-good fuel (k + 1) q next))
-
-  updates-good : (p : Params) → Good (updates n vs ss cs p .last .ssr)
-  unfolding updates
-  updates-good p = from-good 6 0 p refl
+-- the last pass of the updates is one
+updates-good : (n : ℕ) (vs ss cs : Row) (p : Params) → Good (updates n vs ss cs p .last .ssr)
+updates-good n vs ss cs p =
+    subst (λ (l : Normal). Good (l .ssr)) (sym (updates-own n vs ss cs p)) (pass-good n (updates n vs ss cs p .p) vs ss cs)
 
 -- ---- how each rms is made
 start-made : (n : ℕ) (samples ringPhi : Row) (seed : Params) (centeredVar : Float)
@@ -286,7 +273,7 @@ start-summed n samples ringPhi seed centeredVar = go (degenerate (seed .amp) cen
 -- of the answered start too, for every number of samples and all values
 ring-summed : (n : ℕ) (samples ringPhi : Row) → Summed (ring n samples ringPhi .answered .source)
 ring-summed n samples ringPhi =
-    ring-each (λ s. Summed (s .source)) n samples ringPhi (λ seed h. start-summed n samples ringPhi seed (varianceOf n samples (meanOf n samples)))
+    ring-each (λ s. Summed (s .source)) n samples ringPhi (λ seed h m. start-summed n samples ringPhi seed (varianceOf n samples (meanOf n samples)))
 
 pub ring-sum-upright : (n : ℕ) (samples ringPhi : Row) (end : Final) → ring n samples ringPhi .answered .source ≡ ofPass end →
     T (finite (end .last .ssr)) → T (fits binary32 (end .last .ssr)) × Upright (end .last .ssr)
@@ -300,7 +287,7 @@ pub ring-made : (n : ℕ) (samples ringPhi : Row)
 unfolding recordRing
 ring-made n samples ringPhi =
     let centeredVar = varianceOf n samples (meanOf n samples) in
-    ring-each (λ s. MadeOf n centeredVar (s .fit .rms) (s .source)) n samples ringPhi (λ seed h. start-made n samples ringPhi seed centeredVar)
+    ring-each (λ s. MadeOf n centeredVar (s .fit .rms) (s .source)) n samples ringPhi (λ seed h m. start-made n samples ringPhi seed centeredVar)
 
 -- ---- n finite samples: an rms of 0
 module _ (n : ℕ) (share : Share n) where
@@ -325,3 +312,62 @@ module _ (n : ℕ) (share : Share n) where
       let upright = deviations-upright n samples mean h (nth-number n share (total n samples) (total-fits n samples) (total-number n samples h)) in
       made-tiny (deviations n samples mean) _ (ring n samples ringPhi .answered .source) (deviations-fit n samples mean) upright
       (ring-summed n samples ringPhi) (ring-made n samples ringPhi) z
+
+-- ---- an rms that is finite has a finite mean
+-- the last sample's residual is in the sum
+pass-mean : (n : ℕ) (p : Params) (vs ss cs : Row) → 0 < n → T (finite (pass n p vs ss cs .ssr)) → T (finite (p .mu))
+unfolding pass added iter sampleAt
+pass-mean zero p vs ss cs h t = absurd (lt-irrefl 0 h)
+pass-mean (suc n) p vs ss cs h t =
+    let r = mul-parts binary32 _ _ (add-parts binary32 _ _ t .1) .0 in
+    add-parts binary32 (p .mu) _ (sub-parts binary32 _ _ r .1) .0
+
+deviations-mean : (n : ℕ) (vs : Row) (mean : Float) → 0 < n → T (finite (deviations n vs mean)) → T (finite mean)
+unfolding deviations iter
+deviations-mean zero vs mean h t = absurd (lt-irrefl 0 h)
+deviations-mean (suc n) vs mean h t = sub-parts binary32 (at vs n) mean (mul-parts binary32 _ _ (add-parts binary32 _ _ t .1) .0) .1
+
+-- the seed of a degenerate start
+abbrev Seeded : Float → Source → Type 0
+Seeded mean (ofPass end) = 0 ≤ 0
+Seeded mean (ofSeed seed) = MeanHeld mean seed
+
+start-seeded : (n : ℕ) (samples ringPhi : Row) (mean : Float) (seed : Params) (centeredVar : Float) → MeanHeld mean seed
+    → Seeded mean (start n samples ringPhi seed centeredVar .source)
+unfolding start
+start-seeded n samples ringPhi mean seed centeredVar m = go (degenerate (seed .amp) centeredVar)
+  where
+    go : (b : Bool) → Seeded mean (cond b (ofSeed seed) (ofPass (updates n samples (sines n ringPhi) (cosines n ringPhi) seed)))
+    go true = m
+    go false = omega arith
+
+module _ (n : ℕ) (share : Share n) where
+  root-finite : (dev : Float) → Upright dev → T (finite (sqrt binary32 (max (dev ⊘ count n) nought))) → T (finite dev)
+  root-finite nan u t = absurd u
+  root-finite (inf true) u t = absurd (true≢false u)
+  root-finite (inf false) u t =
+      let over = inf-over false false (count n) (n * 2 ^ 149) (2 ^ 149) (share .whole) in
+      unfold max before negative sqrt isNan lt eq ofBits in subst (λ (z : Float). T (finite (sqrt binary32 (max z nought)))) over t
+  root-finite (fin s m e) u t = tt
+
+  made-finite : (samples ringPhi : Row) (rms : Float) (s : Source) →
+      let mean = meanOf n samples in
+      let dev = deviations n samples mean in
+      Upright dev → OwnPass n samples ringPhi s → Seeded mean s → MadeOf n (dev ⊘ count n) rms s → T (finite rms) → T (finite (meanFrom s))
+  made-finite samples ringPhi rms (ofPass end) u own held e t =
+      let ssr = div-part binary32 _ (count n) (sqrt-part binary32 _ (subst (λ (x : Float). T (finite x)) e t)) in
+      pass-mean n (end .p) samples (sines n ringPhi) (cosines n ringPhi) (share .some) (subst (λ (l : Normal). T (finite (l .ssr))) own ssr)
+  made-finite samples ringPhi rms (ofSeed seed) u own (inl same) e t =
+      let mean = meanOf n samples in
+      let dev = root-finite (deviations n samples mean) u (subst (λ (x : Float). T (finite x)) e t) in
+      subst (λ (x : Float). T (finite x)) (sym same) (deviations-mean n samples mean (share .some) dev)
+  made-finite samples ringPhi rms (ofSeed seed) u own (inr held) e t = held
+
+  pub finite-mean : (samples ringPhi : Row) → Finite n samples → T (finite (recordRing n samples ringPhi .fit .rms))
+      → T (finite (recordRing n samples ringPhi .fit .mean))
+  finite-mean samples ringPhi h t =
+      let mean = meanOf n samples in
+      let upright = deviations-upright n samples mean h (nth-number n share (total n samples) (total-fits n samples) (total-number n samples h)) in
+      let seeded = ring-each (λ s. Seeded mean (s .source)) n samples ringPhi (λ seed p m. start-seeded n samples ringPhi mean seed _ m) in
+      subst (λ (x : Float). T (finite x)) (sym (ring-dropped n samples ringPhi))
+      (made-finite samples ringPhi _ (ring n samples ringPhi .answered .source) upright (ring-own n samples ringPhi) seeded (ring-made n samples ringPhi) t)

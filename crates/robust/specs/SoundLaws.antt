@@ -2,14 +2,17 @@
 -- one or two starts are made. Assumes nothing.
 use mathlib.Core.Path.{_≡_, refl}
 use mathlib.Core.Bool.{Bool, true, false, cond, _&&_, _||_}
+use mathlib.Core.Logic.{_⊎_, inl, inr}
 use mathlib.Core.Option.{Option, none, some}
 use Prim.Native.Nat.{ℕ, _+_, _/_, _≤_}
 use native.Mathlib.Omega.{arith}
+use lib.Dec.{T}
 use lib.Ieee.{Float, binary32, lt}
 use lib.Ieee.Scale.{finite}
 use lib.Ieee.Fits.{add-fits, mul-fits, div-fits}
 use Rattle.floats.specs.Ops.{_⊖_, _⊗_, _⊘_, lit, quarterPi}
 use Rattle.floats.specs.Rows.{Row, count}
+use Rattle.floats.specs.FiniteLaws.{of-true}
 use Rattle.floats.specs.Library.{toRadians}
 use Rattle.loops.specs.IterLaws.{iter-keeps, range-keeps}
 use Rattle.geometry.specs.Geometry.{validPair}
@@ -31,18 +34,23 @@ use Rattle.robust_choice.specs.Choice.{Start, Ring, single, isLower, chosen}
 use Rattle.robust_choice.specs.Record.{ringFitOf}
 use Rattle.robust.specs.Record.{recordRing}
 
--- ---- a seed that f32 holds, or none
+-- ---- a seed that f32 holds and whose mean is finite, or none
+abbrev Held : SeedCandidate → Type 0
+Held s = ParamsHeld (R.seeded s) × T (finite (s .mu))
+
 abbrev SeedHeld : Seed → Type 0
 SeedHeld Nothing = 0 ≤ 0
-SeedHeld (Found s) = ParamsHeld (R.seeded s)
+SeedHeld (Found s) = Held s
 
 kept-held : (s : SeedCandidate) → ParamsHeld (R.seeded s) → SeedHeld (kept s)
 unfolding kept
-kept-held s h = go (finite (s .rms) && (finite (s .amp) && finite (s .mu)))
+kept-held s h = go (finite (s .rms)) (finite (s .amp)) (finite (s .mu)) refl
   where
-    go : (b : Bool) → SeedHeld (cond b (Found s) Nothing)
-    go true = h
-    go false = omega arith
+    go : (a b c : Bool) → finite (s .mu) ≡ c → SeedHeld (cond (a && (b && c)) (Found s) Nothing)
+    go true true true e = (h, of-true e)
+    go true true false e = omega arith
+    go true false c e = omega arith
+    go false b c e = omega arith
 
 scored-held : (n css mean : Float) (s : Sums) (a b : ℕ) → SeedHeld (scored n css mean s (gridAngle a) (gridAngle b))
 unfolding scored
@@ -56,7 +64,7 @@ scored-held n css mean s a b =
     go true c h = omega arith
     go false c h = h
 
-insert-held : (top : Seed) (c : SeedCandidate) → SeedHeld top → ParamsHeld (R.seeded c) → SeedHeld (insertSeedCandidate top c)
+insert-held : (top : Seed) (c : SeedCandidate) → SeedHeld top → Held c → SeedHeld (insertSeedCandidate top c)
 unfolding insertSeedCandidate
 insert-held Nothing c h g = g
 insert-held (Found s) c h g = go (lt (c .rms) (s .rms))
@@ -92,6 +100,10 @@ unfolding bestSeed scoreSeedPair
 seed-held n sphi cphi centered centeredSs mean =
     best-held _ (λ a b. scored-held (count n) centeredSs mean (pairSums n centered (gridRow n sphi cphi a) (gridRow n sphi cphi b)) a b)
 
+-- a first seed has the mean of the samples, and one of the grid a mean that is finite
+abbrev pub MeanHeld : Float → Params → Type 0
+MeanHeld mean seed = (seed .mu ≡ mean) ⊎ T (finite (seed .mu))
+
 -- ---- what every start from a held seed has, the answered start has, and the second too
 module _ (P : Start → Type 0) where
   abbrev Each : Option Start → Type 0
@@ -117,19 +129,19 @@ module _ (P : Start → Type 0) where
     abbrev primary : Start
     primary = R.start n samples ringPhi (R.firstSeed (secondHarmonic n samples ringPhi mean) mean) centeredVar
 
-    module _ (all : (seed : Params) → ParamsHeld seed → P (R.start n samples ringPhi seed centeredVar)) where
+    module _ (all : (seed : Params) → ParamsHeld seed → MeanHeld mean seed → P (R.start n samples ringPhi seed centeredVar)) where
       primary-each : P primary
       unfolding secondHarmonic harmonic
       primary-each =
           let h = secondHarmonic n samples ringPhi mean in
           let one = add-fits binary32 (h .theta) quarterPi in
           let two = add-fits binary32 (h .theta) (lit 0x4040_0000 ⊗ quarterPi) in
-          all (R.firstSeed h mean) (record { amp = div-fits binary32 _ (count (n / 2)); one = one; two = two })
+          all (R.firstSeed h mean) (record { amp = div-fits binary32 _ (count (n / 2)); one = one; two = two }) (inl refl)
 
       refined-each : (s : Seed) → SeedHeld s → Each (R.refineSeedCandidates n samples ringPhi centeredVar s)
       unfolding R.refineSeedCandidates
       refined-each Nothing h = omega arith
-      refined-each (Found s) h = all (R.seeded s) h
+      refined-each (Found s) h = all (R.seeded s) (h .0) (inr (h .1))
 
       grid-each : Each (R.robustGridFit n samples ringPhi mean centeredVar)
       unfolding R.robustGridFit
@@ -179,9 +191,10 @@ pub record SoundRing (r : RingFit) : Type 0 where
 
 -- for every number of samples and all values, non-numbers included
 module _ (n : ℕ) (samples ringPhi : Row) where
-  few : (seed : Params) → ParamsHeld seed → Few (R.start n samples ringPhi seed (R.varianceOf n samples (R.meanOf n samples)))
+  few : (seed : Params) → ParamsHeld seed → MeanHeld (R.meanOf n samples) seed
+      → Few (R.start n samples ringPhi seed (R.varianceOf n samples (R.meanOf n samples)))
   unfolding R.start
-  few seed h = start-most n samples ringPhi seed _
+  few seed h m = start-most n samples ringPhi seed _
 
   ring-billed : Billed (ringFitOf (R.ring n samples ringPhi))
   unfolding R.ring
@@ -198,4 +211,4 @@ module _ (n : ℕ) (samples ringPhi : Row) where
 
   pub ring-sound : SoundRing (recordRing n samples ringPhi)
   unfolding recordRing R.start
-  ring-sound = record { fit = ring-each (λ s. Sound (s .fit)) n samples ringPhi (λ seed h. start-sound n samples ringPhi seed _ h); bill = ring-billed }
+  ring-sound = record { fit = ring-each (λ s. Sound (s .fit)) n samples ringPhi (λ seed h m. start-sound n samples ringPhi seed _ h); bill = ring-billed }

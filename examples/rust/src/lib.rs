@@ -142,7 +142,8 @@ pub struct RingFit {
     /// Root mean square of the residual.
     pub rms: f32,
     /// Brightness about which the fitted edges lie, the model's `mu`: that of the start that is answered. For a ring without
-    /// contrast its seed's, which is the mean of the samples where there was one start. Infinite or NaN after an overflow.
+    /// contrast its seed's, which is the mean of the samples where there was one start. Infinite or NaN after an overflow; `rms` is then not
+    /// finite either.
     pub mean: f32,
     /// Starts made: 1 or 2.
     pub starts: u32,
