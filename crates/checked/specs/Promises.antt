@@ -51,8 +51,8 @@ use Rattle.checked.specs.declared.DiskAnswer.the-variants as Disks
 use Rattle.checked.specs.declared.RingAnswer.{RingAnswer}
 use Rattle.checked.specs.declared.RingAnswer.the-variants.{Fitted, Refused}
 use Rattle.checked.specs.Checked as C
-use Rattle.checked.specs.Checked.{firstWild, ringInputs, checkedRing, ringNumber, ringPlace, ringValues, ringRecord, ringCounts, diskInputs, checkedDisk, diskNumber}
-use Rattle.checked.specs.Checked.{diskPlace, diskValues, diskCounts}
+use Rattle.checked.specs.Checked.{firstWild, ringInputs, checkedRing, ringNumber, ringPlace, ringValues, ringRecord, ringCounts}
+use Rattle.checked.specs.Checked.{diskInputs, checkedDisk, diskNumber, diskPlace, diskValues, diskCounts}
 use Rattle.checked.specs.CheckedLaws.{IsFirstWild, wild-first, clean-finite}
 use Rattle.floats.specs.FiniteLaws.{of-true}
 

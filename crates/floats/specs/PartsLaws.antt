@@ -1,7 +1,6 @@
 -- What is finite was made of finite parts: no sum, difference, product or root takes a NaN or an infinity back to a finite value, and no share takes one
 -- of what is divided. Assumes nothing.
 use mathlib.Core.Bool.{Bool, true, false, cond, Bool·beq, not}
-use Prim.Native.Nat.{zero, suc}
 use lib.Dec.{T, eqb}
 use lib.Ieee.{Float, nan, inf, fin, Format, unlike, add, sub, mul, div, neg}
 use lib.Ieee.Scale.{finite}

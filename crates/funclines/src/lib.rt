@@ -6,10 +6,10 @@ use robust_choice::RingFit;
 use robust_choice::Second;
 use seed::Seed;
 use seed::SeedCandidate;
+use solver_elimination::Solved;
 use solver_record::Params;
 use solver_record::Started;
 use solver_record::TwoAxisFit;
-use solver_elimination::Solved;
 ghost use Prim.Native.Nat.{_^_, _<_};
 
 // ---- what crosses to C, under the names of tests/funclines.h; `some` is false where there is nothing

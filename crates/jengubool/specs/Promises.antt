@@ -82,9 +82,9 @@ module _ (fit : List Float) (counts : List ℕ) where
       ((length samples ≡ 16 → ⊥) → (length samples ≡ 24 → ⊥) → ringCall theRecord (ringSize samples) samples angles fit counts .code ≡ 65536)
   unfolding ringCall ringStored checkedRing
   record-sizes samples angles = (
-      λ e. rw e refl,
-      λ e. rw e refl,
-      λ no16 no24. rw (ne-eqb (length samples) 24 no24, ne-eqb (length samples) 16 no16) (short (ltb (length fit) 7) (ltb (length counts) 4)),
+    λ e. rw e refl,
+    λ e. rw e refl,
+    λ no16 no24. rw (ne-eqb (length samples) 24 no24, ne-eqb (length samples) 16 no16) (short (ltb (length fit) 7) (ltb (length counts) 4)),
   )
     where
       short : (a b : Bool) → cond a (refusal 65536) (cond b (refusal 65536) (refusal 65536)) .code ≡ 65536
@@ -106,8 +106,9 @@ module _ (fit : List Float) (counts : List ℕ) where
     fitted = checkedRing n samples angles
 
     written : (w : Form) → w .room ≤ length fit → 4 ≤ length counts →
+        let r = recordRing n samples angles in
         ringCall w n samples angles fit counts ≡
-        record { code = 0; fit = putFrom (w .values (recordRing n samples angles .fit)) 0 fit; counts = putFrom (fitCounts (recordRing n samples angles)) 0 counts }
+        record { code = 0; fit = putFrom (w .values (r .fit)) 0 fit; counts = putFrom (fitCounts r) 0 counts }
     unfolding ringCall ringStored
     written w f c =
         let r = recordRing n samples angles in

@@ -5,7 +5,7 @@ use solver_record::Params;
 use solver_record::Started;
 ghost use mathlib.Core.Path.{_≡_};
 ghost use mathlib.Core.Bool.{true};
-ghost use Prim.Native.Nat.{_*_, _^_, _<_, _≤_};
+ghost use Prim.Native.Nat.{_*_, _≤_};
 ghost use lib.ListN.{length};
 ghost use Rattle.solver.specs.Solver as S;
 ghost use Rattle.solver.specs.Record as R;
