@@ -1,10 +1,10 @@
 /* records: jb_ring_record called with the values of each ring frame of standard input, one answer a line, in words of eight
- * hexadecimal digits: of a fit its seven values, the four counts, and what else a caller's buffers must show (below); of a
- * refusal the one word that the call returns. A line that is no frame 01 or 03 of the right length is answered `?`. So
- * `oracle compare --lines records` holds the call to the Rust for rings of 16 and of 24 points, and to its refusals.
+ * hexadecimal digits: of a fit its seven values and the four counts, of a refusal the one word that the call returns. A line
+ * that is no frame 01 or 03 of the right length is answered `?`. So `oracle compare --lines records` holds the call to the Rust
+ * for rings of 16 and of 24 points, and to its refusals.
  *
  * Both buffers are longer than the call asks, and hold a mark: behind what is written, and everywhere after a refusal, it must
- * stand as it was. A mark that is gone is told by a line that no oracle answers. */
+ * stand as it was. Where it does not, the answer begins with words that no oracle writes. */
 #include "jengubool.h"
 #include <stdio.h>
 #include <string.h>
