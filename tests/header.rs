@@ -2,6 +2,26 @@
 //! without the library: exact cases to the bit, other points against Rust's own f64 functions. The first failure ends
 //! the program with a sentence that names the call. No outside crate: rustc alone builds it.
 
+/// The calls of a ring have one shape.
+macro_rules! ring_calls {
+    ($($name:ident),*) => {
+        extern "C" {
+            $(fn $name(
+                samples: *const f32,
+                samples_len: usize,
+                angles: *const f32,
+                angles_len: usize,
+                fit: *mut f32,
+                fit_len: usize,
+                counts: *mut u32,
+                counts_len: usize,
+            ) -> u32;)*
+        }
+    };
+}
+
+ring_calls!(jb_fit_ring, jb_fit_ring24, jb_ring_record);
+
 extern "C" {
     fn jb_sin(x: f32) -> f32;
     fn jb_cos(x: f32) -> f32;
@@ -11,36 +31,6 @@ extern "C" {
     fn jb_sqrt(x: f32) -> f32;
     fn jb_narrow(x: f64) -> f32;
     fn jb_answer_line(line: *const u8, line_len: usize, out: *mut u8, out_len: usize) -> u32;
-    fn jb_fit_ring(
-        samples: *const f32,
-        samples_len: usize,
-        angles: *const f32,
-        angles_len: usize,
-        fit: *mut f32,
-        fit_len: usize,
-        counts: *mut u32,
-        counts_len: usize,
-    ) -> u32;
-    fn jb_fit_ring24(
-        samples: *const f32,
-        samples_len: usize,
-        angles: *const f32,
-        angles_len: usize,
-        fit: *mut f32,
-        fit_len: usize,
-        counts: *mut u32,
-        counts_len: usize,
-    ) -> u32;
-    fn jb_ring_record(
-        samples: *const f32,
-        samples_len: usize,
-        angles: *const f32,
-        angles_len: usize,
-        fit: *mut f32,
-        fit_len: usize,
-        counts: *mut u32,
-        counts_len: usize,
-    ) -> u32;
     fn jb_fit_disk(
         val_energy: f32,
         base0: f32,

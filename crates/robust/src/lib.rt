@@ -275,7 +275,8 @@ fn first_start(
 ) -> First
     requires { ⌜ P.Lent (now samples) (now «ring_phi») (now sphi) (now cphi) (now js) ⌝ }
     ensures { λ r. ⌜ r ≡ P.firstOf (length (now (samples .entry))) (now (samples .entry)) (now («ring_phi» .entry)) ⌝ }
-    ensures { λ r. ⌜ (R.fitIsSuspicious (withoutMean (r .primary .fit)) ≡ true → Prepared (now («ring_phi» .entry)) (now (sphi .exit)) (now (cphi .exit))) ⌝ }
+    ensures { λ r. ⌜ (R.fitIsSuspicious (withoutMean (r .primary .fit)) ≡ true →
+        Prepared (now («ring_phi» .entry)) (now (sphi .exit)) (now (cphi .exit))) ⌝ }
 {
     let n = samples.len();
     let count = floats::count_f32(n);
