@@ -8,7 +8,7 @@ use Rattle.solver.specs.Buffers.{Prepared, maxSamples}
 use Rattle.seed.specs.Seed.{secondHarmonic}
 use Rattle.robust_lanes.specs.Lanes.{gridPlaces}
 use Rattle.robust.specs.declared.First.{First}
-use Rattle.robust_choice.specs.Parts.{secondOf, Chosen}
+use Rattle.robust_choice.specs.Parts.{secondOf, chosenOf}
 use Rattle.robust_choice.specs.declared.RingFit.{RingFit}
 use Rattle.robust.specs.Robust as R
 
@@ -42,4 +42,4 @@ firstOf n samples ringPhi =
 -- r is the answer of the first start f and of the grid's
 abbrev pub WithGrid : Row → Row → First → RingFit → Type 0
 WithGrid samples ringPhi f r =
-    Chosen (f .primary) (secondOf (R.robustGridFit (length samples) samples ringPhi (f .mean) (f .«centered_var»))) r
+    r ≡ chosenOf (f .primary) (secondOf (R.robustGridFit (length samples) samples ringPhi (f .mean) (f .«centered_var»)))

@@ -37,7 +37,8 @@ use Rattle.robust.specs.Robust as R
 use Rattle.robust.specs.Record.{recordRing}
 use Rattle.robust.specs.RecordLaws.{start-is}
 use Rattle.robust_choice.specs.Choice.{Start}
-use Rattle.robust_choice.specs.Parts.{startedOf, secondOf, Alone, Chosen}
+use Rattle.robust_choice.specs.Parts.{startedOf, secondOf, aloneOf, chosenOf}
+use Rattle.robust_choice.specs.ChoiceLaws.{alone-is, chosen-is}
 use Rattle.robust.specs.Parts.{Ready, Rows, firstOf}
 
 -- ---- the literals of the code
@@ -161,16 +162,16 @@ module _ (n : ℕ) (samples ringPhi : Row) (f : First) (r : RingFit) (e : f ≡ 
   first-is : f .primary ≡ startedOf primary
   first-is = ap (λ (x : First). x .primary) e ∙ start-is n samples ringPhi _ centeredVar
 
-  pub ring-alone : R.fitIsSuspicious (withoutMean (f .primary .fit)) ≡ false → Alone (f .primary) r → r ≡ recordRing n samples ringPhi
+  pub ring-alone : R.fitIsSuspicious (withoutMean (f .primary .fit)) ≡ false → r ≡ aloneOf (f .primary) → r ≡ recordRing n samples ringPhi
   unfolding recordRing R.ring
   ring-alone t a =
       let calm : R.fitIsSuspicious (primary .fit) ≡ false = ap (λ (x : Started). R.fitIsSuspicious (withoutMean (x .fit))) (sym first-is) ∙ t in
-      rw calm (a .is primary first-is)
+      rw calm (a ∙ ap aloneOf first-is ∙ alone-is primary)
 
   pub ring-chosen : R.fitIsSuspicious (withoutMean (f .primary .fit)) ≡ true
-      → Chosen (f .primary) (secondOf (R.robustGridFit n samples ringPhi (f .mean) (f .«centered_var»))) r → r ≡ recordRing n samples ringPhi
+      → r ≡ chosenOf (f .primary) (secondOf (R.robustGridFit n samples ringPhi (f .mean) (f .«centered_var»))) → r ≡ recordRing n samples ringPhi
   unfolding recordRing R.ring
   ring-chosen t c =
       let due : R.fitIsSuspicious (primary .fit) ≡ true = ap (λ (x : Started). R.fitIsSuspicious (withoutMean (x .fit))) (sym first-is) ∙ t in
       let second : First → Second = λ x. secondOf (R.robustGridFit n samples ringPhi (x .mean) (x .«centered_var»)) in
-      rw due (c .is primary _ first-is (ap second e))
+      rw due (c ∙ ap (λ (x : Started). chosenOf x (second f)) first-is ∙ ap (λ (x : First). chosenOf (startedOf primary) (second x)) e ∙ chosen-is primary _)

@@ -1,13 +1,13 @@
 -- What the contracts of crates/robust_choice speak of besides the definitions: the code's own starts, which keep no sums. Definitions only.
-use mathlib.Core.Path.{_≡_}
+use mathlib.Core.Bool.{cond}
 use mathlib.Core.Option.{Option, none, some}
-use Rattle.solver_record.specs.Record.{withMean}
+use Rattle.solver_record.specs.Record.{withMean, withoutMean}
 use Rattle.solver_record.specs.declared.Started.{Started}
 use Rattle.robust_choice.specs.declared.Second.{Second}
 use Rattle.robust_choice.specs.declared.Second.the-variants.{Made, Missing}
 use Rattle.robust_choice.specs.declared.RingFit.{RingFit}
 use Rattle.robust_choice.specs.Choice as C
-use Rattle.robust_choice.specs.Record.{meanFrom, ringFitOf}
+use Rattle.robust_choice.specs.Record.{meanFrom}
 
 -- ---- starts with their mean, without what they were made of
 abbrev pub startedOf : C.Start → Started
@@ -17,9 +17,14 @@ abbrev pub secondOf : Option C.Start → Second
 secondOf none = Missing
 secondOf (some s) = Made (startedOf s)
 
--- r is the answer of one start, or of two, whatever their sums
-pub record Alone (primary : Started) (r : RingFit) : Type 0 where
-  pub is : (f : C.Start) → primary ≡ startedOf f → r ≡ ringFitOf (C.single f)
+-- ---- the answer of one start, the lower of two, and the answer with a second start
+abbrev pub aloneOf : Started → RingFit
+aloneOf f = record { fit = f .fit; standing = f .standing; starts = 1; first = f .updates; second = 0 }
 
-pub record Chosen (primary : Started) (second : Second) (r : RingFit) : Type 0 where
-  pub is : (f : C.Start) (o : Option C.Start) → primary ≡ startedOf f → second ≡ secondOf o → r ≡ ringFitOf (C.chosen f o)
+abbrev pub lowerOf : Started → Started → Started
+lowerOf f g = cond (C.isLower (withoutMean (g .fit)) (withoutMean (f .fit))) g f
+
+abbrev pub chosenOf : Started → Second → RingFit
+chosenOf f Missing = aloneOf f
+chosenOf f (Made g) =
+    let a = lowerOf f g in record { fit = a .fit; standing = a .standing; starts = 2; first = f .updates; second = g .updates }

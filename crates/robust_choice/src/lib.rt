@@ -3,9 +3,6 @@ use solver_errors::Standing;
 use solver_record::Started;
 use solver_record::TwoAxisFit;
 ghost use mathlib.Core.Path.{_≡_};
-ghost use mathlib.Core.Bool.{cond};
-ghost use Rattle.solver_record.specs.Record.{withoutMean};
-ghost use Rattle.robust_choice.specs.Choice as C;
 ghost use Rattle.robust_choice.specs.Parts as P;
 
 // The second start's fit, or that there was none.
@@ -25,7 +22,7 @@ pub struct RingFit {
 
 // The answer without the grid.
 pub fn alone(primary: Started) -> RingFit
-    ensures { λ r. ⌜ P.Alone primary r ⌝ }
+    ensures { λ r. ⌜ r ≡ P.aloneOf primary ⌝ }
 {
     let fit = primary.fit;
     let standing = primary.standing;
@@ -40,7 +37,7 @@ pub fn alone(primary: Started) -> RingFit
 
 // Of two starts the second is answered only where its residual is lower by more than 1e-3.
 fn lower(primary: Started, candidate: Started) -> Started
-    ensures { λ r. ⌜ r ≡ cond (C.isLower (withoutMean (candidate .fit)) (withoutMean (primary .fit))) candidate primary ⌝ }
+    ensures { λ r. ⌜ r ≡ P.lowerOf primary candidate ⌝ }
 {
     let f = primary.fit;
     let g = candidate.fit;
@@ -52,7 +49,7 @@ fn lower(primary: Started, candidate: Started) -> Started
 
 // The answer with a second start.
 pub fn chosen(primary: Started, s: Second) -> RingFit
-    ensures { λ r. ⌜ P.Chosen primary s r ⌝ }
+    ensures { λ r. ⌜ r ≡ P.chosenOf primary s ⌝ }
 {
     let Second::Made(candidate) = s else {
         return alone(primary);
