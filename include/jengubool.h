@@ -3,8 +3,8 @@
  *
  * Common to all of them:
  *   - No global state, no heap, no errno: any number of threads may call them. jb_answer_line, jb_fit_ring,
- *     jb_fit_ring24, jb_ring_record and jb_fit_disk read and write the arrays that they are given and no other memory;
- *     the others take and return values alone.
+ *     jb_fit_ring24, jb_ring_record, jb_fit_disk and the jb_tables_ functions read and write the arrays that they are
+ *     given and no other memory; the others take and return values alone.
  *   - They accept every bit pattern and always return.
  *   - They expect the rounding mode that a C program starts with (to nearest, ties to even), and subnormal numbers
  *     switched on (no flush to zero). Floating-point exception flags may be raised.
@@ -107,6 +107,42 @@ uint32_t jb_fit_ring24(const float *samples, size_t samples_len, const float *an
  * The four arrays must not overlap. */
 uint32_t jb_ring_record(const float *samples, size_t samples_len, const float *angles, size_t angles_len,
                         float *fit, size_t fit_len, uint32_t *counts, size_t counts_len);
+
+/* Up to three tables of seed models, for rings that do not move: the fallback grid of a ring fit, worked out beforehand
+ * from the ring's 16 angles. The memory is the caller's, some 55 KB of f32 words that are of no other use to a caller:
+ * static, from malloc, or in a struct of one's own; a thread's stack may be too small. A table never goes away but by
+ * jb_tables_fresh, and no function keeps a pointer. Words of all zeros hold no table. Whatever else the words are, every
+ * call returns, reads and writes nothing outside, and what is promised of an answer holds. Threads may share a jb_tables
+ * while none changes it. */
+#define JB_TABLES_WORDS 14089
+typedef struct jb_tables {
+    float words[JB_TABLES_WORDS];
+} jb_tables;
+
+/* Makes the tables fresh: they hold none. To be called first, unless all words are zero. */
+void jb_tables_fresh(jb_tables *tables);
+
+/* Stores the table of a ring of 16 angles (radians) behind those that are held. Equal angles may be stored twice.
+ * Returns 0 if it is stored, else number * 65536 + place, and then no word of the tables is changed. The first of these
+ * that applies:
+ *   65536 (number 1)       another number of angles than 16
+ *   196608 + place (3)     an angle that is not finite, the first one: place 0 to 15
+ *   393216 (6)             three tables are held
+ * Tables that are held keep every word. The two arrays must not overlap. */
+uint32_t jb_tables_store(jb_tables *tables, const float *angles, size_t angles_len);
+
+/* The ring fit of 16 samples with its mean, as jb_ring_record in every word, but that the seed of a second start comes
+ * from the first table whose angles all lie within 1e-6 of the ring's, where there is one. Such a seed is the best of
+ * the same pairs of axes, scored from the table's sums, which are rounded in another order: where the direct way and
+ * a table differ, it is as a rule in the last bits (docs/DIFFERENCES.md, F18). The fit itself uses the ring's own angles.
+ * Where no table is near, the answer is jb_ring_record's.
+ * Returns 0 for a fit, else number * 65536 + place, and then neither buffer is changed:
+ *   65536 (number 1)       `fit` under 7 or `counts` under 4 elements; a slice of another length than 16
+ *   196608 + place (3)     a value that is not finite, the first one: its place as of jb_fit_ring
+ * The arrays must not overlap. */
+uint32_t jb_tables_fit(const jb_tables *tables, const float *samples, size_t samples_len,
+                       const float *angles, size_t angles_len, float *fit, size_t fit_len,
+                       uint32_t *counts, size_t counts_len);
 
 /* The disk fit of n pixels, 1 to 320, around a corner at (0, 0): element i of the five slices belongs to pixel i.
  * In: xs and ys, the place of a pixel; vals_centered, its brightness less the mean of all; grad_angles, the direction

@@ -1,7 +1,8 @@
 """The ring fit a second time, over any number of points: docs/RULES.md, Ring, with the Rust's order of operations.
 
 oracle/check holds the oracle to it. For 16 points it must answer as the Rust text does, and so its word counts for 24, for
-which there is no Rust.
+which there is no Rust; and with stored tables of seed models, for which the Rust has one fixed ring, as the text does with the
+first table that the angles fit.
 
 Each operator is one `f32` operation: a double's result, rounded once. What has no number of points in it is asked by function
 lines: sine, cosine, tanh, atan2, square root, radians, elimination (40), errors (41), the degenerate fit (42), canonical axes
@@ -145,9 +146,8 @@ def scored(deviations, square, mean, first, second):
     return rounded(mean - product(amp, q_mean)), amp, rounded(ssr / n)
 
 
-def grid(deviations, angles, mean):
-    """The seed of least rms, the earlier on a tie."""
-    square = summed(product(v, v) for v in deviations)
+def grid_of(angles):
+    """The allowed pairs of the grid: both axes and the row of each."""
     points = yield from sine_and_cosine(angles)
     [step] = yield from called("16", [STEP_DEGREES])
     thetas = [rounded(k * step) for k in range(STEPS)]
@@ -158,15 +158,57 @@ def grid(deviations, angles, mean):
     pairs = [(a, b) for a in range(STEPS) for b in range(a + 1, STEPS)]
     allowed = yield ["51" + word(thetas[a]) + word(thetas[b]) for a, b in pairs]
     pairs = [pair for pair, answer in zip(pairs, allowed) if answer == "00000001"]
-    seeds = [(scored(deviations, square, mean, rows[a], rows[b]), thetas[a], thetas[b]) for a, b in pairs]
-    seeds = [seed for seed in seeds if seed[0] is not None]
-    sizes = yield from called("13", [seed[0][2] for seed in seeds])
-    least = sizes.index(min(sizes))
-    (mu, amp, _), theta1, theta2 = seeds[least]
-    return [mu, amp, theta1, theta2]
+    return [(thetas[a], thetas[b], rows[a], rows[b]) for a, b in pairs]
 
 
-def fit(samples, angles):
+def least(seeds):
+    """Of mu, amplitude, mean square and both axes, or nothing: the seed of least rms, the earlier on a tie."""
+    seeds = [(scores, axes) for scores, axes in seeds if scores is not None]
+    sizes = yield from called("13", [scores[2] for scores, _ in seeds])
+    (mu, amp, _), axes = seeds[sizes.index(min(sizes))]
+    return [mu, amp, *axes]
+
+
+def grid(deviations, angles, mean):
+    square = summed(product(v, v) for v in deviations)
+    pairs = yield from grid_of(angles)
+    seeds = [(scored(deviations, square, mean, h1, h2), (theta1, theta2)) for theta1, theta2, h1, h2 in pairs]
+    return (yield from least(seeds))
+
+
+def models_of(angles):
+    """A table: both axes, the mean of the products, the products less it, and their spread."""
+    models = []
+    for theta1, theta2, h1, h2 in (yield from grid_of(angles)):
+        q = [product(a, b) for a, b in zip(h1, h2)]
+        total = summed(q)
+        q_mean = rounded(total / len(q))
+        spread = rounded(summed(product(x, x) for x in q) - product(total, q_mean))
+        if spread > FAINT:
+            models.append(((theta1, theta2), q_mean, [rounded(x - q_mean) for x in q], spread))
+    return models
+
+
+def by_models(deviations, table, mean):
+    """As `grid`, the products being a table's."""
+    square, n, seeds = summed(product(v, v) for v in deviations), len(deviations), []
+    for axes, q_mean, q, spread in (yield from models_of(table)):
+        share = summed(product(v, x) for v, x in zip(deviations, q))
+        amp = rounded(share / spread)
+        ssr = max(rounded(square - rounded(product(share, share) / spread)), 0.0)
+        seeds.append(((rounded(mean - product(amp, q_mean)), amp, rounded(ssr / n)), axes))
+    return (yield from least(seeds))
+
+
+def first_within(angles, tables):
+    """The place of the first table all of whose angles are within 1e-6 of the ring's."""
+    for place, table in enumerate(tables):
+        if all(abs(rounded(got - want)) <= FAINT for got, want in zip(angles, table)):
+            return place
+    return None
+
+
+def fit(samples, angles, tables=()):
     """The words of a ring's record: the fit, its mean, the starts, the updates of each, whether the errors are known."""
     n = len(samples)
     mean = rounded(summed(samples) / n)
@@ -179,7 +221,8 @@ def fit(samples, angles):
     suspicious = yield from asked("61" + answer[:48])
     if suspicious == "00000000":
         return f"{answer}{1:08x}{first:08x}{0:08x}{standing:08x}"
-    seed = yield from grid(deviations, angles, mean)
+    place = first_within(angles, tables)
+    seed = yield from grid(deviations, angles, mean) if place is None else by_models(deviations, tables[place], mean)
     other, second, at_second = yield from start(samples, angles, seed, variance)
     if value(other[40:48]) < rounded(value(answer[40:48]) - MARGIN):
         answer, standing = other, at_second

@@ -4,6 +4,7 @@
  *
  * A new function takes an export, its declaration in funclines.h, its line_NN here and its ROW in the table. */
 #include "funclines.h"
+#include "jengubool.h"
 #include <string.h>
 #include <unistd.h>
 
@@ -121,10 +122,11 @@ static struct pairs pairs(void)
     return p;
 }
 
-/* ---- answering: an answer without a word is `?` */
+/* ---- answering: an answer without a word is `?`, unless it is empty by right */
 
 static uint32_t answer[ANSWER];
 static size_t answered;
+static bool is_empty;
 
 static void put(size_t n) { answer[answered++] = (uint32_t)n; }
 
@@ -408,6 +410,63 @@ static void line_66(void)
     put_counts(r);
 }
 
+/* ---- 67 to 69: tables of seed models, made fresh and stored by the product's own calls */
+
+static jb_tables tables;
+
+/* A fresh state in memory that holds anything: by turns bytes of ff, numbers without order, and what the line before left. */
+static void fresh_tables(void)
+{
+    static uint32_t turn;
+    uint32_t kind = turn++ % 3;
+    if (kind == 0) memset(&tables, 0xff, sizeof tables);
+    if (kind == 1)
+        for (uint32_t k = 0; k < JB_TABLES_WORDS; k++) {
+            uint32_t bits = (k + turn) * 2654435761u;
+            memcpy(&tables.words[k], &bits, sizeof bits);
+        }
+    jb_tables_fresh(&tables);
+}
+
+static bool are_finite(const float *x, size_t n)
+{
+    for (size_t k = 0; k < n; k++)
+        if (!(x[k] - x[k] == 0)) return false;
+    return true;
+}
+
+static void line_67(void)
+{
+    size_t t = number(TABLES);
+    const float *angles = floats(SAMPLES * t), *samples = floats(SAMPLES), *ring_phi = floats(SAMPLES);
+    if (!ends() || !are_finite(angles, SAMPLES * t)) return;
+    fresh_tables();
+    for (size_t k = 0; k < t; k++)
+        if (jb_tables_store(&tables, angles + SAMPLES * k, SAMPLES) != 0) return;
+    put_ring(fl_tables_fit(tables.words, samples, ring_phi));
+    size_t match = fl_tables_match(tables.words, ring_phi);
+    put(match < TABLES);
+    if (match < TABLES) put(match);
+}
+
+static void line_68(void)
+{
+    const float *centered = floats(SAMPLES), *p = floats(5), *q = floats(SAMPLES);
+    float denom = value();
+    if (ends()) put_seed(fl_score_cached_seed_model(centered, p[0], p[1], p[2], p[3], p[4], q, denom));
+}
+
+/* One table more than there is room for. */
+static void line_69(void)
+{
+    size_t t = number(TABLES + 1);
+    const float *angles = floats(SAMPLES * t);
+    if (!ends()) return;
+    fresh_tables();
+    for (size_t k = 0; k < t; k++) put(jb_tables_store(&tables, angles + SAMPLES * k, SAMPLES));
+    is_empty = t == 0;
+}
+
 /* ---- 70 to 77: candidate angles and their pairs */
 
 static void line_70(void)
@@ -567,7 +626,7 @@ static void (*const lines[256])(void) = {
     ROW(30), ROW(31), ROW(32), ROW(33), ROW(34), ROW(35),
     ROW(40), ROW(41), ROW(42), ROW(43), ROW(44), ROW(45), ROW(46),
     ROW(50), ROW(51), ROW(52), ROW(53), ROW(54),
-    ROW(60), ROW(61), ROW(62), ROW(63), ROW(64), ROW(65), ROW(66),
+    ROW(60), ROW(61), ROW(62), ROW(63), ROW(64), ROW(65), ROW(66), ROW(67), ROW(68), ROW(69),
     ROW(70), ROW(71), ROW(72), ROW(73), ROW(74), ROW(75), ROW(76), ROW(77),
     ROW(80), ROW(81), ROW(82), ROW(83),
     ROW(90), ROW(91), ROW(92), ROW(93), ROW(94), ROW(95),
@@ -603,6 +662,7 @@ static void read_word(const char *line, size_t k)
 static void call(const char *line, size_t n)
 {
     answered = at = 0;
+    is_empty = false;
     bad = n < 2 || n > LIMIT || (n - 2) % 8 != 0;
     if (bad) return;
     uint32_t function = digits(line, 2);
@@ -630,7 +690,7 @@ static void write_answer(void)
     if (written + 8 * ANSWER + 2 > sizeof text) flush();
     for (size_t k = 0; k < answered; k++)
         for (int shift = 28; shift >= 0; shift -= 4) text[written++] = "0123456789abcdef"[answer[k] >> shift & 15];
-    if (answered == 0) text[written++] = '?';
+    if (answered == 0 && !is_empty) text[written++] = '?';
     text[written++] = '\n';
 }
 

@@ -1,4 +1,4 @@
-/* What libfunclines.a (10 to 66) and libfunclines_disk.a (70 to 95) export: each function calls the ported function of
+/* What libfunclines.a (10 to 68) and libfunclines_disk.a (70 to 95) export: each function calls the ported function of
  * its name, and asks what that one asks of lengths and counts: tests/funclines.c tests them before it calls. Here
  * `const float x[N]` is Rattle's `&[f32; N]`, and a pointer with a length behind it a slice. */
 #ifndef FUNCLINES_H
@@ -14,6 +14,7 @@
 #define PAIRED_ANGLES 24
 #define PAIRS 276
 #define PIXELS 320
+#define TABLES 3
 
 /* `some` is false where there is nothing. */
 struct two { float values[2]; };
@@ -86,6 +87,12 @@ struct start fl_robust_grid_fit(const float samples[SAMPLES], const float ring_p
 struct start fl_refine_seed_candidates(const float samples[SAMPLES], const float ring_phi[SAMPLES],
                                        float centered_var, struct seed5 top);
 struct ring fl_fit_ring24(const float samples[SAMPLES24], const float ring_phi[SAMPLES24]);
+
+/* 67 and 68; the tables are the words of a jb_tables. A match is the first table's index, or TABLES. */
+struct ring fl_tables_fit(const float *tables, const float samples[SAMPLES], const float ring_phi[SAMPLES]);
+size_t fl_tables_match(const float *tables, const float ring_phi[SAMPLES]);
+struct seed5 fl_score_cached_seed_model(const float centered[SAMPLES], float centered_sum_sq, float mean, float theta1,
+                                        float theta2, float q_mean, const float q_centered[SAMPLES], float denom);
 
 /* 70 to 77 */
 struct set fl_push_unique(struct set set, float angle, float min_sep);

@@ -211,12 +211,17 @@ static float ring_samples[25], ring_angles[25];
 typedef struct { float fit[8]; uint32_t counts[5]; } ring_out;
 static const ring_out UNTOUCHED = {{7, 7, 7, 7, 7, 7, 7, 7}, {7, 7, 7, 7, 7}};
 
-/* Values that the call writes: six, or seven where it is jb_ring_record. */
+/* Values that the call writes: six, or seven where it is jb_ring_record or jb_tables_fit. */
 static size_t values;
 
-/* The ring fit for n samples: in all that follows the calls differ in n and in the mean alone. */
+/* The tables of jb_tables_fit; none where another call is meant. */
+static const jb_tables *ring_tables;
+
+/* The ring fit for n samples: in all that follows the calls differ in n, in the mean and in the tables alone. */
 static unsigned long fit_ring(size_t n, size_t samples_len, size_t angles_len, ring_out *out, size_t fit_len, size_t counts_len)
 {
+    if (ring_tables)
+        return jb_tables_fit(ring_tables, ring_samples, samples_len, ring_angles, angles_len, out->fit, fit_len, out->counts, counts_len);
     if (values == 7) return jb_ring_record(ring_samples, samples_len, ring_angles, angles_len, out->fit, fit_len, out->counts, counts_len);
     if (n == 24) return jb_fit_ring24(ring_samples, samples_len, ring_angles, angles_len, out->fit, fit_len, out->counts, counts_len);
     return jb_fit_ring(ring_samples, samples_len, ring_angles, angles_len, out->fit, fit_len, out->counts, counts_len);
@@ -224,8 +229,9 @@ static unsigned long fit_ring(size_t n, size_t samples_len, size_t angles_len, r
 
 static void ring_whole(size_t n, const char *what, unsigned long got, unsigned long want)
 {
+    const char *name = ring_tables ? "jb_tables_fit" : values == 7 ? "jb_ring_record" : n == 24 ? "jb_fit_ring24" : "jb_fit_ring";
     char call[80];
-    snprintf(call, sizeof call, "%s %s", values == 7 ? "jb_ring_record" : n == 24 ? "jb_fit_ring24" : "jb_fit_ring", what);
+    snprintf(call, sizeof call, "%s %s", name, what);
     whole(call, got, want);
 }
 
@@ -331,6 +337,225 @@ static void check_fit_ring(size_t n, size_t written)
     if (n == 16) check_ring_capped(&out);
     if (written == 7) check_ring_mean(n, &out);
     check_ring_corner(n, &out);
+}
+
+/* Tables between floats that no call may touch, and a copy of the words to hold them against. */
+static struct { float before[16]; jb_tables tables; float behind[16]; } walled;
+static jb_tables kept;
+
+/* The first word says how many tables are held, then come the three, each with its 16 angles in front. A caller need not
+ * know it; here it shows which words a store must keep, and where to put what no store would. */
+#define TABLE_WORDS ((JB_TABLES_WORDS - 1) / 3)
+#define TABLE(k) (1 + (k) * TABLE_WORDS)
+
+static void check_walls(void)
+{
+    int i;
+    for (i = 0; i < 16; i++) exact("a float in front of the tables", walled.before[i], 0x40e00000u);
+    for (i = 0; i < 16; i++) exact("a float behind the tables", walled.behind[i], 0x40e00000u);
+}
+
+/* Memory as a caller may find it: all bits set, which are NaNs. */
+static void make_fresh(void)
+{
+    int i;
+    for (i = 0; i < 16; i++) walled.before[i] = walled.behind[i] = 7.0f;
+    memset(&walled.tables, 0xff, sizeof walled.tables);
+    jb_tables_fresh(&walled.tables);
+    check_walls();
+}
+
+static void words_kept(const char *what, size_t from, size_t to)
+{
+    whole(what, (unsigned long)(memcmp(walled.tables.words + from, kept.words + from, (to - from) * sizeof(float)) != 0), 0);
+}
+
+/* 16 angles in even steps from a first one on. */
+static void ring_from(float first)
+{
+    int i;
+    for (i = 0; i < 16; i++) ring_angles[i] = first + (float)i * 0.39269908f;
+}
+
+static unsigned long store(size_t angles_len) { return jb_tables_store(&walled.tables, ring_angles, angles_len); }
+
+/* A call that is refused, by lengths before values, keeps every word; of values that are not finite the first counts. */
+static void check_refused_stores(void)
+{
+    const size_t wrong[5] = {0, 1, 15, 17, 24};
+    const float wild[4] = {QUIET, OTHER_NAN, INF, -INF};
+    int i;
+    kept = walled.tables;
+    ring_from(0.0f);
+    ring_angles[0] = QUIET;
+    for (i = 0; i < 5; i++) whole("jb_tables_store of a wrong number of angles", store(wrong[i]), 65536);
+    for (i = 0; i < 64; i++) {
+        ring_from(0.0f);
+        ring_angles[15] = QUIET;
+        ring_angles[i / 4] = wild[i % 4];
+        whole("jb_tables_store of an angle that is not finite", store(16), 196608 + (unsigned long)(i / 4));
+    }
+    words_kept("the words after refused stores, compared", 0, JB_TABLES_WORDS);
+    check_walls();
+}
+
+/* Three tables, the third one of the second's angles. Those that are held keep every word; a fourth finds no room. */
+static void check_tables_store(void)
+{
+    size_t k;
+    make_fresh();
+    check_refused_stores();
+    for (k = 0; k < 3; k++) {
+        kept = walled.tables;
+        ring_from(k == 0 ? 0.0f : 0.25f);
+        whole("jb_tables_store of a table", store(16), 0);
+        words_kept("the tables that are held after a store, compared", TABLE(0), TABLE(k));
+        check_refused_stores();
+    }
+    kept = walled.tables;
+    ring_from(0.125f);
+    whole("jb_tables_store of a fourth table", store(16), 393216);
+    words_kept("the words after a fourth store, compared", 0, JB_TABLES_WORDS);
+    check_walls();
+    jb_tables_fresh(&walled.tables);
+    whole("jb_tables_store after jb_tables_fresh", store(16), 0);
+}
+
+/* A corner in whole grey values. Axes that are not square to each other make a second start, and that is what asks a table. */
+static void put_ring_corner(float axis1, float axis2)
+{
+    int i;
+    for (i = 0; i < 16; i++) {
+        float phi = ring_angles[i];
+        ring_samples[i] = (float)(int)(128.5f + 60.0f * jb_tanh(4.0f * jb_sin(phi - axis1)) * jb_tanh(4.0f * jb_sin(phi - axis2)));
+    }
+}
+
+/* What is promised of every ring that is answered. */
+static void check_ring_promises(const ring_out *out)
+{
+    const float *fit = out->fit, pi = float_of(0x40490fdbu);
+    int i;
+    whole("the amplitude not below 0", !(fit[0] < 0.0f), 1);
+    whole("theta1 from 0 to PI", fit[1] >= 0.0f && fit[1] < pi, 1);
+    whole("theta2 from theta1 to 2 PI", fit[2] >= fit[1] && fit[2] < 2.0f * pi, 1);
+    for (i = 3; i < 5; i++) whole("an error from 0 to PI", fit[i] >= 0.0f && fit[i] <= pi, 1);
+    whole("starts of 1 or 2", out->counts[0] == 1 || out->counts[0] == 2, 1);
+    whole("updates of at most 6", out->counts[1] <= 6 && out->counts[2] <= 6, 1);
+    whole("known of 0 or 1", out->counts[3] <= 1, 1);
+    exact("the float behind the fit", fit[7], 0x40e00000u);
+    whole("the count behind the counts", out->counts[4], 7);
+}
+
+/* Both calls on the ring as it is: every word of both buffers. */
+static void same_as_record(void)
+{
+    ring_out direct = UNTOUCHED, out = UNTOUCHED;
+    whole("jb_ring_record", jb_ring_record(ring_samples, 16, ring_angles, 16, direct.fit, 8, direct.counts, 5), 0);
+    whole("jb_tables_fit", jb_tables_fit(&walled.tables, ring_samples, 16, ring_angles, 16, out.fit, 8, out.counts, 5), 0);
+    whole("jb_tables_fit and jb_ring_record, compared", (unsigned long)(memcmp(&out, &direct, sizeof out) != 0), 0);
+    check_ring_promises(&out);
+}
+
+/* No table is near: axes of all separations, one start and two; no contrast; samples whose squares overflow. */
+static void check_no_table_near(void)
+{
+    int i;
+    ring_from(0.5f);
+    for (i = 0; i < 32; i++) {
+        put_ring_corner(0.1f * (float)i, 0.1f * (float)i + 0.3f + 0.08f * (float)(i % 16));
+        same_as_record();
+    }
+    memset(ring_samples, 0, sizeof ring_samples);
+    same_as_record();
+    ring_samples[7] = 3e38f;
+    same_as_record();
+    memset(ring_samples, 0, sizeof ring_samples);
+}
+
+/* A skewed corner by a table that matches. Without its models, all of them 0, the same ring finds no second start: so the
+ * seed was the table's. */
+static void check_table_near(void)
+{
+    ring_out direct = UNTOUCHED, out = UNTOUCHED;
+    int i;
+    make_fresh();
+    ring_from(0.0f);
+    whole("jb_tables_store of a ring's angles", store(16), 0);
+    ring_angles[9] = float_of(bits_of(ring_angles[9]) + 2); /* 4.8e-7 away, which is near */
+    put_ring_corner(0.7f, 1.2f);
+    kept = walled.tables;
+    jb_ring_record(ring_samples, 16, ring_angles, 16, direct.fit, 8, direct.counts, 5);
+    whole("jb_tables_fit by a table", jb_tables_fit(&walled.tables, ring_samples, 16, ring_angles, 16, out.fit, 8, out.counts, 5), 0);
+    words_kept("the words after a fit, compared", 0, JB_TABLES_WORDS);
+    check_ring_promises(&out);
+    whole("starts by a table", out.counts[0], 2);
+    for (i = 0; i < 7; i++) near_to("a value by a table, beside the direct one", out.fit[i], direct.fit[i], 0.001);
+    near_to("theta1 by a table", out.fit[1], 0.7, 0.01);
+    near_to("theta2 by a table", out.fit[2], 1.2, 0.01);
+    memset(walled.tables.words + TABLE(0) + 16, 0, (TABLE_WORDS - 16) * sizeof(float));
+    jb_tables_fit(&walled.tables, ring_samples, 16, ring_angles, 16, out.fit, 8, out.counts, 5);
+    check_ring_promises(&out);
+    whole("starts by a table without models", out.counts[0], 1);
+}
+
+/* Any words: as they come, or with a first word that counts tables or nearly so; and with the ring's angles in front of
+ * each table, so that what lies behind is taken for models. */
+static void check_any_words(void)
+{
+    const float first[9] = {1.0f, 2.0f, 3.0f, QUIET, INF, -INF, -1.0f, 3.5f, -0.0f};
+    int i;
+    size_t k;
+    for (i = 0; i < 80; i++) {
+        ring_out out = UNTOUCHED;
+        unsigned long code;
+        for (k = 0; k < JB_TABLES_WORDS; k++) walled.tables.words[k] = float_of((uint32_t)random_bits());
+        if (i % 10 < 9) walled.tables.words[0] = first[i % 10];
+        ring_from(0.0f);
+        for (k = 0; i % 4 > 0 && k < 3; k++) memcpy(walled.tables.words + TABLE(k), ring_angles, 16 * sizeof(float));
+        put_ring_corner(0.7f, 1.2f + 0.02f * (float)i);
+        kept = walled.tables;
+        whole("jb_tables_fit by any words", jb_tables_fit(&walled.tables, ring_samples, 16, ring_angles, 16, out.fit, 8, out.counts, 5), 0);
+        words_kept("any words after a fit, compared", 0, JB_TABLES_WORDS);
+        check_ring_promises(&out);
+        code = store(16);
+        whole("jb_tables_store into any words is answered or finds no room", code == 0 || code == 393216, 1);
+        if (code != 0) words_kept("any words after a refused store, compared", 0, JB_TABLES_WORDS);
+        check_walls();
+    }
+}
+
+/* The checks of jb_ring_record, by the tables. A ring of 24, which that call takes, is refused. */
+static void check_as_record(void)
+{
+    ring_out out = UNTOUCHED;
+    memset(ring_samples, 0, sizeof ring_samples);
+    memset(ring_angles, 0, sizeof ring_angles);
+    ring_tables = &walled.tables;
+    check_fit_ring(16, 7);
+    ring_whole(24, "of 24 samples", fit_ring(24, 24, 24, &out, 8, 5), 65536);
+    whole("the buffers of a refused ring of 24, compared", (unsigned long)(memcmp(&out, &UNTOUCHED, sizeof out) != 0), 0);
+    ring_tables = NULL;
+}
+
+static void check_tables(void)
+{
+    check_tables_store();
+    make_fresh();
+    check_no_table_near();
+    check_as_record();
+    ring_from(0.0f);
+    whole("jb_tables_store of the corner's angles", store(16), 0);
+    memset(ring_angles, 0, sizeof ring_angles);
+    whole("jb_tables_store of angles of 0", store(16), 0);
+    check_as_record();
+    check_no_table_near();
+    memset(&walled.tables, 0, sizeof walled.tables);
+    check_no_table_near();
+    whole("jb_tables_store into zeros", store(16), 0);
+    check_table_near();
+    check_any_words();
+    check_as_record();
 }
 
 /* A disk of n pixels, all of them 0: a disk without contrast. The arrays hold one pixel more than the fit takes. */
@@ -491,6 +716,7 @@ int main(void)
     check_fit_ring(24, 6);
     check_fit_ring(16, 7);
     check_fit_ring(24, 7);
+    check_tables();
     check_fit_disk();
     check_ring_line('1', 258, 386);
     check_ring_line('3', 386, 258);

@@ -31,6 +31,19 @@ extern "C" {
     fn jb_sqrt(x: f32) -> f32;
     fn jb_narrow(x: f64) -> f32;
     fn jb_answer_line(line: *const u8, line_len: usize, out: *mut u8, out_len: usize) -> u32;
+    fn jb_tables_fresh(tables: *mut Tables);
+    fn jb_tables_store(tables: *mut Tables, angles: *const f32, angles_len: usize) -> u32;
+    fn jb_tables_fit(
+        tables: *const Tables,
+        samples: *const f32,
+        samples_len: usize,
+        angles: *const f32,
+        angles_len: usize,
+        fit: *mut f32,
+        fit_len: usize,
+        counts: *mut u32,
+        counts_len: usize,
+    ) -> u32;
     fn jb_fit_disk(
         val_energy: f32,
         base0: f32,
@@ -50,6 +63,14 @@ extern "C" {
         counts: *mut u32,
         counts_len: usize,
     ) -> u32;
+}
+
+const TABLES_WORDS: usize = 14089;
+
+/// The struct jb_tables of the header.
+#[repr(C)]
+struct Tables {
+    words: [f32; TABLES_WORDS],
 }
 
 const INF: f32 = f32::INFINITY;
@@ -325,6 +346,189 @@ fn check_a_ring(call: Call, fit: &mut [f32; 8], counts: &mut [u32; 5]) {
     judge(counts[0] == 1 && counts[3] == 1 && counts[4] == 7, || format!("the counts of a ring's corner are {counts:?}"));
 }
 
+/// Tables of which every word has the same bits.
+fn filled(pattern: u32) -> Box<Tables> {
+    Box::new(Tables { words: [bits(pattern); TABLES_WORDS] })
+}
+
+fn fresh() -> Box<Tables> {
+    let mut tables = filled(!0);
+    unsafe { jb_tables_fresh(&mut *tables) };
+    tables
+}
+
+fn store(tables: &mut Tables, angles: &[f32]) -> u32 {
+    unsafe { jb_tables_store(tables, angles.as_ptr(), angles.len()) }
+}
+
+fn tables_fit(tables: &Tables, samples: &[f32], angles: &[f32], fit: &mut [f32], counts: &mut [u32]) -> u32 {
+    let (s, a) = ((samples.as_ptr(), samples.len()), (angles.as_ptr(), angles.len()));
+    let (f, c) = ((fit.as_mut_ptr(), fit.len()), (counts.as_mut_ptr(), counts.len()));
+    unsafe { jb_tables_fit(tables, s.0, s.1, a.0, a.1, f.0, f.1, c.0, c.1) }
+}
+
+/// The words by their bits: no NaN is equal to itself.
+fn word_bits(tables: &Tables) -> Vec<u32> {
+    tables.words.iter().map(|word| word.to_bits()).collect()
+}
+
+fn kept(what: &str, before: &[u32], tables: &[f32]) {
+    judge(before.iter().zip(tables).all(|(old, new)| *old == new.to_bits()), || format!("{what} changed a word"));
+}
+
+/// 16 angles in even steps from a first one on.
+fn ring_from(first: f32) -> [f32; 16] {
+    std::array::from_fn(|i| first + i as f32 * std::f32::consts::FRAC_PI_8)
+}
+
+/// A corner in whole grey values. Axes that are not square to each other make a second start, and that is what asks a table.
+fn grey_corner(angles: &[f32; 16], axis1: f32, axis2: f32) -> [f32; 16] {
+    let edge = |phi: f32, axis: f32| unsafe { jb_tanh(4.0 * jb_sin(phi - axis)) };
+    angles.map(|phi| (128.5 + 60.0 * edge(phi, axis1) * edge(phi, axis2)).trunc())
+}
+
+/// Refused stores keep every word. Lengths come before values, and both before a lack of room.
+fn check_refused_stores(tables: &mut Tables) {
+    let before = word_bits(tables);
+    for wrong in [0, 1, 15, 17, 24] {
+        whole("jb_tables_store of a wrong number of angles", store(tables, &[f32::NAN; 24][..wrong]), 65536);
+    }
+    for place in 0..16 {
+        let mut angles = ring_from(0.0);
+        angles[15] = f32::NAN; // the first one counts
+        angles[place] = [f32::NAN, INF, -INF][place % 3];
+        whole("jb_tables_store of an angle that is not finite", store(tables, &angles), 196608 + place as u32);
+    }
+    kept("a refused jb_tables_store", &before, &tables.words);
+}
+
+/// Three tables, which keep their words; a fourth finds no room. The first word says how many are held, then come the three.
+fn check_tables_store() {
+    let mut tables = fresh();
+    for held in 0..3 {
+        check_refused_stores(&mut tables);
+        let before = word_bits(&tables);
+        whole("jb_tables_store of a table", store(&mut tables, &ring_from(0.1 * held as f32)), 0);
+        let end = 1 + held * (TABLES_WORDS - 1) / 3;
+        kept("a later jb_tables_store", &before[1..end], &tables.words[1..end]);
+    }
+    check_refused_stores(&mut tables);
+    let before = word_bits(&tables);
+    whole("jb_tables_store of a fourth table", store(&mut tables, &ring_from(0.0)), 393216);
+    kept("a fourth jb_tables_store", &before, &tables.words);
+    unsafe { jb_tables_fresh(&mut *tables) };
+    whole("jb_tables_store after jb_tables_fresh", store(&mut tables, &ring_from(0.0)), 0);
+}
+
+/// What jb_tables_fit is refused for. It takes no ring of 24.
+fn check_tables_refusals(tables: &Tables) {
+    let (mut fit, mut counts) = ([7.0f32; 8], [7u32; 5]);
+    let (zeros, nans) = ([0.0f32; 16], [f32::NAN; 24]);
+    for wrong in [0, 15, 17, 24] {
+        whole("jb_tables_fit of wrong samples", tables_fit(tables, &nans[..wrong], &zeros, &mut fit, &mut counts), 65536);
+        whole("jb_tables_fit of wrong angles", tables_fit(tables, &zeros, &nans[..wrong], &mut fit, &mut counts), 65536);
+    }
+    whole("jb_tables_fit of 24 samples", tables_fit(tables, &nans, &nans, &mut fit, &mut counts), 65536);
+    whole("jb_tables_fit into 6 floats", tables_fit(tables, &zeros, &zeros, &mut fit[..6], &mut counts), 65536);
+    whole("jb_tables_fit into 3 counts", tables_fit(tables, &zeros, &zeros, &mut fit, &mut counts[..3]), 65536);
+    for place in 0..32 {
+        let mut values = [0.0f32; 32];
+        values[31] = f32::NAN; // the first one counts
+        values[place] = [f32::NAN, INF, -INF][place % 3];
+        let wild = tables_fit(tables, &values[..16], &values[16..], &mut fit, &mut counts);
+        whole("jb_tables_fit of a value that is not finite", wild, 196608 + place as u32);
+    }
+    judge(fit == [7.0; 8] && counts == [7; 5], || "a refused jb_tables_fit changed a buffer".to_string());
+}
+
+/// The ring by both calls: their buffers, by the tables first.
+fn both_ways(tables: &Tables, samples: &[f32; 16], angles: &[f32; 16]) -> [([f32; 8], [u32; 5]); 2] {
+    let ((mut fit, mut counts), (mut direct, mut direct_counts)) = (([7.0f32; 8], [7u32; 5]), ([7.0f32; 8], [7u32; 5]));
+    whole("jb_tables_fit", tables_fit(tables, samples, angles, &mut fit, &mut counts), 0);
+    whole("jb_ring_record", fit_ring(RING_CALLS[2], samples, angles, &mut direct, &mut direct_counts), 0);
+    let pi = std::f32::consts::PI;
+    let [amp, theta1, theta2, error1, error2, _, _, behind] = fit;
+    let axes = (0.0..pi).contains(&theta1) && (theta1..2.0 * pi).contains(&theta2);
+    let errors = (0.0..=pi).contains(&error1) && (0.0..=pi).contains(&error2);
+    let counted = (1..=2).contains(&counts[0]) && counts[1] <= 6 && counts[2] <= 6 && counts[3] <= 1;
+    judge((amp.is_nan() || amp >= 0.0) && axes && errors && counted, || format!("jb_tables_fit answers {fit:?} and {counts:?}"));
+    judge(behind == 7.0 && counts[4] == 7, || "jb_tables_fit wrote behind its answer".to_string());
+    [(fit, counts), (direct, direct_counts)]
+}
+
+/// Where no table is near, every bit of both buffers is jb_ring_record's.
+fn check_no_table_near(tables: &Tables) {
+    let angles = ring_from(0.5);
+    for i in 0..32 {
+        let axis = 0.1 * i as f32;
+        let [(fit, counts), (direct, direct_counts)] =
+            both_ways(tables, &grey_corner(&angles, axis, axis + 0.3 + 0.08 * (i % 16) as f32), &angles);
+        judge(fit.map(f32::to_bits) == direct.map(f32::to_bits) && counts == direct_counts, || {
+            format!("without a table jb_tables_fit answers {fit:?} and {counts:?}, jb_ring_record {direct:?} and {direct_counts:?}")
+        });
+    }
+}
+
+/// A skewed corner by a table of its angles, one of them 4.8e-7 away. Without models the same ring finds no second start:
+/// so the seed was the table's.
+fn check_table_near() {
+    let (mut tables, mut angles) = (fresh(), ring_from(0.0));
+    whole("jb_tables_store of a ring's angles", store(&mut tables, &angles), 0);
+    angles[9] = bits(angles[9].to_bits() + 2);
+    let (samples, before) = (grey_corner(&angles, 0.7, 1.2), word_bits(&tables));
+    let [(fit, counts), (direct, _)] = both_ways(&tables, &samples, &angles);
+    kept("jb_tables_fit", &before, &tables.words);
+    whole("starts by a table", counts[0], 2);
+    for (got, want) in fit.into_iter().zip(direct) {
+        near("a value by a table, beside the direct one", got, want as f64, 0.001);
+    }
+    near("theta1 by a table", fit[1], 0.7, 0.01);
+    near("theta2 by a table", fit[2], 1.2, 0.01);
+    tables.words[17..1 + (TABLES_WORDS - 1) / 3].fill(0.0);
+    whole("starts by a table without models", both_ways(&tables, &samples, &angles)[0].1[0], 1);
+}
+
+/// Any words, also with a first one that counts tables or nearly so, and with the ring's angles in front of each table.
+fn check_any_words() {
+    let (mut tables, angles, mut state) = (filled(0), ring_from(0.0), 0x9e37_79b9_7f4a_7c15u64);
+    let first = [1.0, 2.0, 3.0, f32::NAN, INF, -INF, -1.0, 3.5, -0.0];
+    for i in 0..80 {
+        for word in tables.words.iter_mut() {
+            state = state.wrapping_mul(0x5851_f42d_4c95_7f2d).wrapping_add(1);
+            *word = bits((state >> 32) as u32);
+        }
+        if let Some(&count) = first.get(i % 10) {
+            tables.words[0] = count;
+        }
+        if i % 4 > 0 {
+            (0..3).for_each(|k| tables.words[1 + k * (TABLES_WORDS - 1) / 3..][..16].copy_from_slice(&angles));
+        }
+        let before = word_bits(&tables);
+        both_ways(&tables, &grey_corner(&angles, 0.7, 1.2 + 0.02 * i as f32), &angles);
+        kept("jb_tables_fit by any words", &before, &tables.words);
+        let code = store(&mut tables, &angles);
+        judge(code == 0 || code == 393216, || format!("jb_tables_store into any words is {code}"));
+        if code != 0 {
+            kept("a refused jb_tables_store into any words", &before, &tables.words);
+        }
+    }
+}
+
+fn check_tables() {
+    check_tables_store();
+    let mut tables = fresh();
+    check_tables_refusals(&tables);
+    check_no_table_near(&tables);
+    check_no_table_near(&filled(0));
+    for first in [0.0, 0.1, 0.49] {
+        whole("jb_tables_store of other angles", store(&mut tables, &ring_from(first)), 0);
+    }
+    check_tables_refusals(&tables);
+    check_no_table_near(&tables);
+    check_table_near();
+    check_any_words();
+}
+
 /// A disk without contrast, refused in each way. The example of docs/RULES.md, a pixel of 0, is refused after 96 trials.
 fn check_fit_disk() {
     let (mut fit, mut counts) = ([7.0f32; 12], [7u32; 3]);
@@ -406,6 +610,7 @@ fn main() {
     check_sqrt();
     check_narrow();
     RING_CALLS.into_iter().for_each(check_fit_ring);
+    check_tables();
     check_fit_disk();
     check_ring_line(b'1', 258, 386);
     check_ring_line(b'3', 386, 258);

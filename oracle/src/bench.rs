@@ -6,12 +6,14 @@
 //! adds these up. The table has the median of the repetitions' ratios, the least and the greatest.
 //!
 //! A new row is a line of GROUPS or PROGRAMS. A disk's fit is timed with the errors of its axes, which our call
-//! answers too.
+//! answers too. Rings whose angles a stored table has are timed by `stored`, with the text's own way for its fixed ring.
 
 use crate::checked::{answer, parse, Frame, Outcome};
+use crate::generate::tables::FIXED;
 use crate::generate::{Kind, List};
 use crate::wire::{push_hex, to_bits};
-use shapes::{Disk, Fit6, Fit9, Ring};
+use shapes::{Angles, Disk, Fit6, Fit9, Ring, TABLES};
+use std::cell::RefCell;
 use std::fs::File;
 use std::hint::black_box;
 use std::io;
@@ -37,6 +39,16 @@ extern "C" {
     ) -> u32;
     fn jb_fit_ring24(
         samples: *const f32, samples_len: usize, angles: *const f32, angles_len: usize,
+        fit: *mut f32, fit_len: usize, counts: *mut u32, counts_len: usize,
+    ) -> u32;
+    fn jb_ring_record(
+        samples: *const f32, samples_len: usize, angles: *const f32, angles_len: usize,
+        fit: *mut f32, fit_len: usize, counts: *mut u32, counts_len: usize,
+    ) -> u32;
+    fn jb_tables_fresh(tables: *mut f32);
+    fn jb_tables_store(tables: *mut f32, angles: *const f32, angles_len: usize) -> u32;
+    fn jb_tables_fit(
+        tables: *const f32, samples: *const f32, samples_len: usize, angles: *const f32, angles_len: usize,
         fit: *mut f32, fit_len: usize, counts: *mut u32, counts_len: usize,
     ) -> u32;
     fn jb_fit_disk(
@@ -67,6 +79,38 @@ fn ours_ring(ring: &Ring<16>) -> Fit6 {
 
 fn ours_ring24(ring: &Ring<24>) -> Fit6 {
     ours_by(jb_fit_ring24, ring)
+}
+
+/// The words of a state that holds tables.
+const TABLES_WORDS: usize = 14089;
+
+fn fresh() -> Vec<f32> {
+    let mut tables = vec![f32::NAN; TABLES_WORDS];
+    // SAFETY: the array has the words that are asked for.
+    unsafe { jb_tables_fresh(tables.as_mut_ptr()) };
+    tables
+}
+
+fn store(tables: &mut [f32], angles: &Angles) {
+    // SAFETY: as above, and the angles stand with their length.
+    let refusal = unsafe { jb_tables_store(tables.as_mut_ptr(), angles.as_ptr(), angles.len()) };
+    assert_eq!(refusal, 0, "a table is refused");
+}
+
+/// With its mean, as `jb_ring_record` answers; the direct way where there are no tables.
+fn ours_record(tables: Option<&[f32]>, ring: &Ring<16>) -> Fit6 {
+    let (mut fit, mut counts) = ([0.0; 7], [0; 4]);
+    let (samples, angles) = (ring.samples.as_ptr(), ring.angles.as_ptr());
+    // SAFETY: as above.
+    let refusal = unsafe {
+        match tables {
+            Some(tables) => jb_tables_fit(tables.as_ptr(), samples, 16, angles, 16, fit.as_mut_ptr(), 7, counts.as_mut_ptr(), 4),
+            None => jb_ring_record(samples, 16, angles, 16, fit.as_mut_ptr(), 7, counts.as_mut_ptr(), 4),
+        }
+    };
+    assert_eq!(refusal, 0, "our fit refuses a frame that passed the checks");
+    black_box((counts, fit[6]));
+    std::array::from_fn(|i| fit[i])
 }
 
 /// The nine words of a disk's fit and the errors of its axes.
@@ -223,6 +267,9 @@ pub fn bench(list: &List, program: Option<&str>) -> Result<bool, String> {
         }
         table.fits(group, &frames);
     }
+    if list.kind == Kind::Rings(16) {
+        table.stored(list)?;
+    }
     if let Some(program) = program {
         let lines = Lines::write(list).map_err(|error| format!("the file of lines: {error}"))?;
         for row in PROGRAMS.iter().filter(|row| row.kind == list.kind) {
@@ -247,6 +294,16 @@ fn frames_of(group: &Group, list: &List) -> Vec<Frame> {
     let sized = lines.filter(|line| matches!(pixels_of(line), Some(n) if group.pixels[0] <= n && n <= group.pixels[1]));
     let held = sized.filter(|line| matches!(answer(line).outcome, Outcome::Fit(_, counts, _) if (group.holds)(&counts)));
     held.filter_map(|line| parse(&line).ok()).take(group.frames).collect()
+}
+
+type Fitting = Box<dyn Fn(&Ring<16>) -> Fit6>;
+
+/// The ring of a line, if it has these angles and makes two starts.
+fn two_starts_at(angles: &Angles, line: &[u8]) -> Option<Ring<16>> {
+    match (parse(line).ok()?, answer(line).outcome) {
+        (Frame::Ring(ring), Outcome::Fit(_, counts, _)) if ring.angles == *angles && counts.starts == 2 => Some(ring),
+        _ => None,
+    }
 }
 
 fn pixels_of(line: &[u8]) -> Option<usize> {
@@ -280,8 +337,7 @@ impl Table {
             "{}: {} frames; answers that differ from the text with our five functions: {}, with libm: {}",
             group.name, frames.len(), differing(PLAIN), differing(LIBM),
         ));
-        repetition(group, frames); // warms caches and the clock of the core
-        let times: Vec<_> = (0..REPETITIONS).map(|_| repetition(group, frames)).collect();
+        let times = repetitions(frames, group.block, group.turns, &ENGINES, |engine, frame| engine.fit(frame));
         if group.pixels[0] > 0 {
             let least = |engine: usize| times.iter().map(|of| of[engine]).fold(f64::INFINITY, f64::min) / frames.len() as f64;
             self.costs.push(std::array::from_fn(least));
@@ -289,6 +345,71 @@ impl Table {
         let ratios = |other: usize| times.iter().map(|of| of[0] / of[other]).collect::<Vec<_>>();
         self.row(group.name, "Rust, its own libm", ratios(LIBM), group.bars);
         self.row(group.name, "Rust, our five functions", ratios(PLAIN), Bars { bar: None, aim: None });
+    }
+
+    /// Rings of pixels with two starts beside a table of their angles, and what it costs to store one. The Rust has its models
+    /// built beforehand and its ring's angles at hand, which it otherwise works out at each fit: it is timed at its best.
+    fn stored(&mut self, list: &List) -> Result<(), String> {
+        let angles = FIXED[0].ring(0, 0).angles;
+        let rings: Vec<_> = (0..list.count).filter_map(|index| two_starts_at(&angles, &list.line(index))).take(1000).collect();
+        if rings.is_empty() {
+            return Err("no ring of this list is for the rows of stored tables".to_string());
+        }
+        libm_std::ring::seed::set_ring(&angles);
+        plain_std::ring::seed::set_ring(&angles);
+        let mut tables = fresh();
+        store(&mut tables, &angles);
+        let engines: [Fitting; 4] = [
+            Box::new(move |ring| ours_record(Some(&tables), ring)),
+            Box::new(libm_std::ring::robust::fit_ring),
+            Box::new(plain_std::ring::robust::fit_ring),
+            Box::new(|ring| ours_record(None, ring)),
+        ];
+        self.stored_answers(&rings, &engines);
+        let times = repetitions(&rings, 10, 10, &engines, |fit, ring| {
+            black_box(fit(black_box(ring)));
+        });
+        let ratios = |other: usize| times.iter().map(|of| of[0] / of[other]).collect::<Vec<_>>();
+        let none = Bars { bar: None, aim: None };
+        self.row("ring, by a table", "Rust, its own libm", ratios(LIBM), Bars { bar: Some(0.5), aim: None });
+        self.row("ring, by a table", "Rust, our five functions", ratios(PLAIN), none);
+        self.row("ring, by a table", "ours, the direct way", ratios(3), none);
+        self.storing(&rings, &angles);
+        Ok(())
+    }
+
+    fn stored_answers(&mut self, rings: &[Ring<16>], engines: &[Fitting; 4]) {
+        let words = |ring: &Ring<16>| engines.each_ref().map(|fit| fit(ring).map(to_bits));
+        let all: Vec<_> = rings.iter().map(words).collect();
+        let differing = |other: usize| all.iter().filter(|words| words[0] != words[other]).count();
+        self.right &= differing(PLAIN) == 0;
+        self.notes.push(format!(
+            "ring, by a table: {} frames; answers that differ from the text with its models and our five functions: {}, with libm: {}, \
+             from our direct way: {}",
+            rings.len(), differing(PLAIN), differing(LIBM), differing(3),
+        ));
+    }
+
+    /// As many tables as are held, beside as many direct fits.
+    fn storing(&mut self, rings: &[Ring<16>], angles: &Angles) {
+        let tables = RefCell::new(fresh());
+        let fill = |_: &Ring<16>| {
+            let mut tables = tables.borrow_mut();
+            // SAFETY: as of `fresh`.
+            unsafe { jb_tables_fresh(tables.as_mut_ptr()) };
+            for _ in 0..TABLES {
+                store(&mut tables, black_box(angles));
+            }
+        };
+        let fit = |ring: &Ring<16>| {
+            for _ in 0..TABLES {
+                black_box(ours_record(None, black_box(ring)));
+            }
+        };
+        let engines: [&dyn Fn(&Ring<16>); 2] = [&fill, &fit];
+        let times = repetitions(&rings[..rings.len().min(200)], 10, 4, &engines, |work, ring| work(ring));
+        let ratios = times.iter().map(|of| of[0] / of[1]).collect();
+        self.row("storing a table", "ours, one direct fit", ratios, Bars { bar: None, aim: None });
     }
 
     fn program(&mut self, row: &Program, program: &str, lines: &Lines) -> io::Result<()> {
@@ -343,15 +464,21 @@ impl Table {
     }
 }
 
-/// Seconds of each engine for all frames.
-fn repetition(group: &Group, frames: &[Frame]) -> [f64; ENGINES.len()] {
-    let mut sums = [0.0; ENGINES.len()];
-    for block in frames.chunks(group.block) {
-        let mut least = [f64::INFINITY; ENGINES.len()];
-        for _ in 0..group.turns {
-            for (engine, least) in ENGINES.iter().zip(&mut least) {
+/// Seconds of each engine for all frames, of each repetition.
+fn repetitions<F, E, const N: usize>(frames: &[F], block: usize, turns: usize, engines: &[E; N], fit: impl Fn(&E, &F)) -> Vec<[f64; N]> {
+    let once = || repetition(frames, block, turns, engines, &fit);
+    once(); // warms caches and the clock of the core
+    (0..REPETITIONS).map(|_| once()).collect()
+}
+
+fn repetition<F, E, const N: usize>(frames: &[F], block: usize, turns: usize, engines: &[E; N], fit: impl Fn(&E, &F)) -> [f64; N] {
+    let mut sums = [0.0; N];
+    for block in frames.chunks(block) {
+        let mut least = [f64::INFINITY; N];
+        for _ in 0..turns {
+            for (engine, least) in engines.iter().zip(&mut least) {
                 let start = Instant::now();
-                block.iter().for_each(|frame| engine.fit(frame));
+                block.iter().for_each(|frame| fit(engine, frame));
                 *least = least.min(start.elapsed().as_secs_f64());
             }
         }

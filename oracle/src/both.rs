@@ -1,7 +1,7 @@
 //! Answers that carry counts come from a `counted` copy, after a comparison with its `plain` one.
 
 use crate::wire::to_bits;
-use shapes::{Disk, Fit6, Fit9, Ring, Seed5};
+use shapes::{Angles, Disk, Fit6, Fit9, Ring, Seed5};
 use support::Counts;
 
 /// Stops the program where counting changed a result: then no count can be trusted.
@@ -23,6 +23,50 @@ pub fn fit_ring24(ring: &Ring<24>) -> (Fit6, Counts) {
     let (fit, counts) = support::counted(|| counted24::ring::robust::fit_ring(ring));
     agree("fit_ring for 24 points", Some(&plain24::ring::robust::fit_ring(ring)), Some(&fit));
     (fit, counts)
+}
+
+/// Sets the first table that the text takes the angles for; where there is none, a ring that it takes nothing for.
+fn set_first(tables: &[Angles], angles: &Angles, set: fn(&Angles), is_set: fn(&Angles) -> bool) -> Option<usize> {
+    let found = tables.iter().position(|table| {
+        set(table);
+        is_set(angles)
+    });
+    if found.is_none() {
+        set(&[f32::NAN; 16]);
+    }
+    found
+}
+
+/// The fit, and the table that stood in the place of the text's own ring.
+pub fn fit_with_tables(tables: &[Angles], ring: &Ring<16>) -> (Fit6, Counts, Option<usize>) {
+    use counted_std::ring::seed as counted_seed;
+    use plain_std::ring::seed as plain_seed;
+    let index = set_first(tables, &ring.angles, counted_seed::set_ring, counted_seed::is_set_ring);
+    let same = set_first(tables, &ring.angles, plain_seed::set_ring, plain_seed::is_set_ring);
+    let (fit, counts) = support::counted(|| counted_std::ring::robust::fit_ring(ring));
+    agree("fit_ring with tables", Some(&plain_std::ring::robust::fit_ring(ring)), Some(&fit));
+    if index.is_none() {
+        let (direct, of_direct) = fit_ring(ring);
+        agree("fit_ring without a table", Some(&direct), Some(&fit));
+        let counted = |counts: &Counts| (counts.starts, counts.updates, counts.second_answered);
+        stop_unless(counted(&counts) == counted(&of_direct), "without a table the counts are others", ring);
+    }
+    stop_unless(index == same && (index.is_some() || !counts.cached), "the copies take different tables", ring);
+    (fit, counts, index)
+}
+
+fn stop_unless(good: bool, sentence: &str, ring: &Ring<16>) {
+    if !good {
+        eprintln!("oracle: {sentence}: angles {:?}, samples {:?}", ring.angles, ring.samples);
+        std::process::exit(1);
+    }
+}
+
+pub fn score_cached_seed_model(rows: &[[f32; 16]; 2], scalars: [f32; 6]) -> Option<Seed5> {
+    let seed = plain_std::ring::seed::score_cached_seed_model(rows, scalars);
+    let other = counted_std::ring::seed::score_cached_seed_model(rows, scalars);
+    agree("score_cached_seed_model", seed.as_ref().map(|words| &words[..]), other.as_ref().map(|words| &words[..]));
+    seed
 }
 
 pub fn solve_4x4(matrix: &[[f32; 4]; 4], right: &[f32; 4]) -> (Option<[f32; 4]>, Counts) {

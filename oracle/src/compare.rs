@@ -48,6 +48,7 @@ impl Oracle {
                 told.eliminated.iter().for_each(|counts| self.paths.elimination(counts));
                 told.known.iter().for_each(|known| self.paths.known("", known));
                 told.ring.iter().for_each(|counts| self.paths.record("ring: ", counts));
+                told.stored.iter().for_each(|told| self.paths.stored(told));
                 text
             }
             Lines::Records => {

@@ -2,6 +2,7 @@
 
 use crate::both;
 use crate::known;
+use crate::stored;
 use crate::wire::{words, Answer, Arguments, Told};
 use plain::disk::{candidates, geometry, score, search};
 use plain::given::{Choice, Float, Ranked};
@@ -17,7 +18,7 @@ pub const NUMBERS: [u8; 53] = [
 ];
 
 /// Numbers that came later: lines are made for them only where they are named, so that a list of before stays as it was.
-pub const LATER: [u8; 3] = [46, 65, 66];
+pub const LATER: [u8; 6] = [46, 65, 66, 67, 68, 69];
 
 /// Numbers whose function takes a matrix.
 pub const ELIMINATIONS: [u8; 3] = [40, 41, 46];
@@ -42,6 +43,7 @@ fn answer_words(line: &[u8]) -> Option<Answer> {
         40..=46 => solving(number, a),
         50..=54 => seeding(number, a),
         60..=66 => ring_fit(number, a),
+        67..=69 => stored::answer(number, a),
         70..=77 => candidate_set(number, a),
         80..=83 => scoring(number, a),
         90..=95 => searching(number, a),

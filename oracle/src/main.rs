@@ -12,6 +12,8 @@ mod known;
 mod means;
 mod options;
 mod paths;
+mod stored;
+mod tables;
 mod wire;
 
 use options::Options;
@@ -27,6 +29,7 @@ const USAGE: &str = "usage: oracle frames
        oracle paths --lines frames|functions|records --kind KIND --count N --seed S [--numbers LIST] [--types LIST]
        oracle corners --program PATH --count N --seed S
        oracle means --program PATH --count N --seed S
+       oracle tables --count N --seed S
        oracle bench --kind rings|rings24|disks --count N --seed S [--program PATH]
        oracle once
 KIND is rings, disks, bits, limits, damaged, rings24, bits24, limits24, damaged24, faint, faint24, functions or matrices; NUMBERS and LIST are such as 10-17,20-24
@@ -63,6 +66,13 @@ fn say(error: impl ToString) -> String {
     error.to_string()
 }
 
+/// A check of a program by rendered corners.
+fn rendered(words: &[String], check: fn(&str, u64, u64) -> io::Result<bool>) -> Result<bool, String> {
+    let options = Options::read(words)?;
+    let program = options.need("--program")?;
+    check(program, options.whole("--count")?, options.whole("--seed")?).map_err(|error| format!("{program}: {error}"))
+}
+
 /// True where the command found nothing wrong.
 fn run(words: &[String]) -> Result<bool, String> {
     let Some((command, rest)) = words.split_first() else {
@@ -88,12 +98,9 @@ fn run(words: &[String]) -> Result<bool, String> {
             compare::paths(options.lines()?, &options.list()?, &options.served());
             Ok(true)
         }
-        "corners" | "means" => {
-            let options = Options::read(rest)?;
-            let program = options.need("--program")?;
-            let check = if command == "corners" { corners::corners } else { means::means };
-            check(program, options.whole("--count")?, options.whole("--seed")?).map_err(|error| format!("{program}: {error}"))
-        }
+        "corners" => rendered(rest, corners::corners),
+        "means" => rendered(rest, means::means),
+        "tables" => Options::read(rest).and_then(|options| Ok(tables::tables(options.whole("--count")?, options.whole("--seed")?))),
         #[cfg(timed)]
         "once" if rest.is_empty() => answer_lines(bench::once).map_err(say).map(|()| true),
         #[cfg(timed)]

@@ -2,6 +2,7 @@
 
 use crate::checked::{Kind, Outcome};
 use crate::known::{Known, Why};
+use crate::stored::Told;
 use support::Counts;
 
 #[derive(Default)]
@@ -75,6 +76,50 @@ impl Paths {
         self.add(what, "mean -0", mean.to_bits() == (-0.0f32).to_bits());
         let other = counts.means[1 - start];
         self.add(what, "means of the two starts differ", other.is_some_and(|x| x.to_bits() != mean.to_bits()));
+    }
+
+    /// Of a ring beside tables: which was used, how near the others were, and whether the way through the table was told apart
+    /// from the direct one.
+    pub fn stored(&mut self, told: &Told) {
+        const HELD: [&str; 4] = ["no table", "one table", "two tables", "three tables"];
+        const USED: [&str; 3] = ["the first is used", "the second is used", "the third is used"];
+        let counts = &told.counts;
+        for (k, name) in HELD.into_iter().enumerate() {
+            self.add("tables: ", name, told.tables == k);
+        }
+        for (k, name) in USED.into_iter().enumerate() {
+            self.add("tables: ", name, told.index == Some(k));
+        }
+        self.add("tables: ", "none is used", told.index.is_none());
+        self.add("tables: ", "used, of the ring's own angles", told.equal);
+        self.add("tables: ", "used, of other angles", told.index.is_some() && !told.equal);
+        self.add("tables: ", "two or more within 1e-6", told.within > 1);
+        self.add("tables: ", "two or more within 1e-6, not alike", told.within_differ);
+        self.nearness(told);
+        self.add("tables: ", "a value of the ring is not finite", !told.finite);
+        self.add("tables: ", "used, without a model", told.index.is_some() && told.models == 0);
+        self.add("tables: ", "used, with 1 to 229 models", (1..230).contains(&told.models));
+        self.add("tables: ", "grid, by a table", counts.cached);
+        self.add("tables: ", "grid, the direct way", counts.suspicious && !counts.cached);
+        self.add("tables: ", "grid, by a table, no seed", counts.cached && counts.starts == 1);
+        self.add("tables: ", "second start, by a table", counts.cached && counts.starts == 2);
+        self.add("tables: ", "second start answered, by a table", counts.cached && counts.second_answered);
+        self.add("tables: ", "by a table, another seed than the direct way", counts.cached && told.other_seed);
+        self.add("tables: ", "by a table, another answer than the direct way", counts.cached && told.other_answer);
+        self.ring("ring: ", counts);
+    }
+
+    /// How near to 1e-6 the greatest difference from a table's angles is.
+    fn nearness(&mut self, told: &Told) {
+        let limit = 1e-6f32.to_bits();
+        let at = |bits: u32| told.differences.iter().any(|of| of.0.to_bits() == bits);
+        self.add("tables: ", "greatest difference 1e-6", at(limit));
+        self.add("tables: ", "greatest difference the f32 below 1e-6", at(limit - 1));
+        self.add("tables: ", "greatest difference the f32 above 1e-6", at(limit + 1));
+        let between = |low: f32, high: f32| told.differences.iter().any(|of| low < of.0 && of.0 <= high);
+        self.add("tables: ", "greatest difference from 9e-7 to 1e-6", between(9e-7, 1e-6));
+        self.add("tables: ", "greatest difference beyond 1e-6, to 1.5e-6", between(1e-6, 1.5e-6));
+        self.add("tables: ", "one angle alone is not within 1e-6", told.differences.iter().any(|of| of.1 == 1));
     }
 
     fn disk(&mut self, counts: &Counts) {

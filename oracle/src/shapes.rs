@@ -5,6 +5,8 @@ pub const PIXELS: usize = 320;
 pub const ANGLES: usize = 64;
 pub const PAIRED_ANGLES: usize = 24;
 pub const PAIRS: usize = 276;
+/// Tables of seed models that are held side by side.
+pub const TABLES: usize = 3;
 
 /// Ring fit: amp, theta1, theta2, both errors, rms.
 pub type Fit6 = [f32; 6];
@@ -13,6 +15,8 @@ pub type Seed5 = [f32; 5];
 /// Disk fit: theta1, theta2, width, amp, rms, rel_rms, corr, edge_score, objective.
 pub type Fit9 = [f32; 9];
 pub type Pair = Option<(usize, usize)>;
+/// The angles of a ring of 16 points.
+pub type Angles = [f32; 16];
 
 /// Of 16 points, or of 24.
 #[derive(Clone)]

@@ -57,6 +57,10 @@ pub struct Counts {
     pub errors: [Option<Given>; 2],
     /// The mu of the first and the second start.
     pub means: [Option<f32>; 2],
+    /// Whether seed models were asked in the place of the grid.
+    pub cached: bool,
+    /// The axes of the seed of the second start.
+    pub seed: Option<[f32; 2]>,
 }
 
 impl Counts {
@@ -100,10 +104,15 @@ pub extern "C" fn oracle_mean(mu: f32) {
     });
 }
 
+#[no_mangle]
+pub extern "C" fn oracle_seed(theta1: f32, theta2: f32) {
+    COUNTS.with(|counts| counts.borrow_mut().seed = Some([theta1, theta2]));
+}
+
 fn note(counts: &mut Counts, event: u32) {
     // An update or a degenerate answer belongs to the start under way; there are never more than two.
     let start = (counts.starts as usize).wrapping_sub(1);
-    if event >= 14 {
+    if (14..=31).contains(&event) {
         counts.way = counts.way.wrapping_mul(37).wrapping_add(u64::from(event));
     }
     match event {
@@ -127,6 +136,7 @@ fn note(counts: &mut Counts, event: u32) {
         20..=23 => counts.skipped += 1,
         24..=27 => counts.stopped[0][event as usize - 24] += 1,
         28..=31 => counts.stopped[1][event as usize - 28] += 1,
+        32 => counts.cached = true,
         other => unreachable!("event {other}"),
     }
 }

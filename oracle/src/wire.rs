@@ -1,6 +1,7 @@
 //! Hexadecimal words: reading the arguments of a line, writing those of an answer.
 
 use crate::known::Known;
+use crate::stored;
 use shapes::{Disk, Fit9, Pair, Pool, Ring, Scored, Set, ANGLES, PAIRS, PIXELS};
 use support::Counts;
 
@@ -174,12 +175,13 @@ impl Arguments {
 }
 
 /// Beside the words: of an elimination what it did, of errors that say so whether they are known, of a ring with its mean the way
-/// that it went.
+/// that it went, of one beside tables which of them it used.
 #[derive(Default)]
 pub struct Told {
     pub eliminated: Option<Counts>,
     pub known: Option<Known>,
     pub ring: Option<Counts>,
+    pub stored: Option<stored::Told>,
 }
 
 #[derive(Default)]
@@ -203,6 +205,11 @@ impl Answer {
     pub fn mean(mut self, counts: Counts) -> Self {
         self.told.ring = Some(counts);
         self.float(counts.mean())
+    }
+
+    pub fn stored(mut self, told: stored::Told) -> Self {
+        self.told.stored = Some(told);
+        self
     }
 
     pub fn number(mut self, number: usize) -> Self {

@@ -6,6 +6,7 @@ use lib.ListN.{length, getD}
 use lib.Dec.{eqb, ltb}
 use lib.Ieee.{Float, nan}
 use lib.Ieee.Scale.{finite}
+use Rattle.seed_models.specs.Models.{Table}
 use Rattle.robust.specs.Record.{recordRing}
 use Rattle.robust_choice.specs.declared.RingFit.{RingFit}
 use Rattle.solver_record.specs.Fit.{RustFit}
@@ -33,23 +34,24 @@ wildFrom l (suc left) i = cond (finite (getD l i nan)) (wildFrom l left (i + 1))
 unfoldable pub firstWild : List Float → Wild
 firstWild l = wildFrom l (length l) 0
 
--- ---- the ring of n samples: 1 for a length that is not n, then 3 for the first value that is not finite
+-- ---- the ring of n samples: 1 for a length that is not n, then 3 for the first value that is not finite. `tables` are the tables of seed models that are
+-- held; the entries that know of none give []
 -- the values in the order of their places: the samples, then the angles
 abbrev pub ringInputs : List Float → List Float → List Float
 ringInputs samples angles = samples ++ angles
 
-unfoldable pub ringLooked : ℕ → List Float → List Float → Wild → RingAnswer
-ringLooked n samples angles Clean = Fitted (recordRing n samples angles)
-ringLooked n samples angles (At i) = Refused 3 i
+unfoldable pub ringLooked : List Table → ℕ → List Float → List Float → Wild → RingAnswer
+ringLooked tables n samples angles Clean = Fitted (recordRing tables n samples angles)
+ringLooked tables n samples angles (At i) = Refused 3 i
 
 -- the two slices are as long as the ring has samples
 abbrev pub ringSized : ℕ → List Float → List Float → Bool
 ringSized n samples angles = eqb (length samples) n && eqb (length angles) n
 
-unfoldable pub checkedRing : ℕ → List Float → List Float → RingAnswer
-checkedRing n samples angles =
+unfoldable pub checkedRing : List Table → ℕ → List Float → List Float → RingAnswer
+checkedRing tables n samples angles =
     cond (ringSized n samples angles)
-    (ringLooked n samples angles (firstWild (ringInputs samples angles)))
+    (ringLooked tables n samples angles (firstWild (ringInputs samples angles)))
     (Refused 1 0)
 
 -- ---- number, place and values of each case (docs/RULES.md, Refusals)

@@ -18,6 +18,7 @@ use Rattle.checked.specs.declared.Wild.{Wild}
 use Rattle.checked.specs.declared.Wild.the-variants.{At, Clean}
 use Rattle.checked.specs.declared.DiskAnswer.the-variants as Disks
 use Rattle.checked.specs.declared.RingAnswer.the-variants.{Refused}
+use Rattle.seed_models.specs.Models.{Table}
 use Rattle.checked.specs.Checked.{wildFrom, firstWild, ringInputs, ringSized, ringLooked, checkedRing}
 use Rattle.checked.specs.Parts.{stillFine, allFinite, Below, shiftedBy, loneAt}
 
@@ -151,13 +152,13 @@ pub ring-places : (n : ℕ) (a b : List Float) → length a ≡ n → shiftedBy 
 ring-places n a b e = sym (unmoved _ ∙ moved-step 0 n a b (omega (arith, e)))
 
 -- the three ways of a ring of n samples: a length is another, a value is not finite, or all of them are
-module _ (n : ℕ) (samples angles : List Float) where
-  pub ring-unsized : ringSized n samples angles ≡ false → Refused 1 0 ≡ checkedRing n samples angles
+module _ (tables : List Table) (n : ℕ) (samples angles : List Float) where
+  pub ring-unsized : ringSized n samples angles ≡ false → Refused 1 0 ≡ checkedRing tables n samples angles
   unfolding checkedRing
   ring-unsized e = rw e
 
   pub ring-looked : (w : Wild) → length samples ≡ n → eqb (length angles) n ≡ true → w ≡ firstWild (ringInputs samples angles)
-      → ringLooked n samples angles w ≡ checkedRing n samples angles
+      → ringLooked tables n samples angles w ≡ checkedRing tables n samples angles
   unfolding checkedRing
   ring-looked w s a f = rw (eq-eqb _ _ s, a, ← f)
 

@@ -8,6 +8,7 @@ use lib.ListN.{length, getD}
 use lib.Ieee.{Float, nan}
 use lib.Ieee.Scale.{finite}
 use Rattle.loops.specs.Loops.{iter}
+use Rattle.seed_models.specs.Models.{Table}
 use Rattle.robust.specs.Record.{recordRing}
 use Rattle.checked.specs.declared.Refusal.{Refusal}
 use Rattle.checked.specs.declared.Refusal.the-variants.{By, Nothing}
@@ -39,6 +40,6 @@ loneAt x place next = cond (finite x) next (At place)
 
 -- a ring of n samples that is refused is answered so; of any other both lengths are n, and its fit is the answer
 abbrev pub RingRefusal : ℕ → List Float → List Float → Refusal → Type 0
-RingRefusal n samples angles (By number place) = Refused number place ≡ checkedRing n samples angles
+RingRefusal n samples angles (By number place) = (tables : List Table) → Refused number place ≡ checkedRing tables n samples angles
 RingRefusal n samples angles Nothing =
-    (length samples ≡ n) × (length angles ≡ n) × (Fitted (recordRing n samples angles) ≡ checkedRing n samples angles)
+    (length samples ≡ n) × (length angles ≡ n) × ((tables : List Table) → Fitted (recordRing tables n samples angles) ≡ checkedRing tables n samples angles)

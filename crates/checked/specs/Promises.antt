@@ -24,6 +24,8 @@ use Rattle.solver_record.specs.Fit.{axesOf}
 use Rattle.solver_record.specs.Record.{withoutMean}
 use Rattle.solver.specs.Solver.{Final, pass, sines, cosines}
 use Rattle.solver_record.specs.declared.Params.{Params}
+use Rattle.seed_models.specs.Models.{Table}
+use Rattle.seed_models.specs.HeldLaws.{TablesHeld}
 use Rattle.robust_choice.specs.Choice.{Source, ofPass, ofSeed}
 use Rattle.robust.specs.Robust.{meanOf, varianceOf, ring, fitRing, ringSum}
 use Rattle.robust.specs.Record.{recordRing}
@@ -68,19 +70,19 @@ abbrev pub AllFinite : List Float → Type 0
 AllFinite l = (i : ℕ) → i < length l → finite (getD l i nan) ≡ true
 
 -- ---- the ring of n samples: 16 and 24 are the rings that have an entry
-module _ (n : ℕ) (samples angles : List Float) where
+module _ (tables : List Table) (held : TablesHeld tables) (n : ℕ) (samples angles : List Float) where
   abbrev inputs : List Float
   inputs = ringInputs samples angles
 
   abbrev answer : RingAnswer
-  answer = checkedRing n samples angles
+  answer = checkedRing tables n samples angles
 
   -- exactly when each answer is given: 1 for a length that is not n; 3, with both lengths n, for a value that is not finite, at the first such
   -- place; a fit where all 2 n values are finite
   pub data RingCase (a : RingAnswer) : Type 0 where
     wrong-length : C.ringSized n samples angles ≡ false → a ≡ Refused 1 0 → RingCase a
     wrong-value : (p : ℕ) → (C.ringSized n samples angles ≡ true) × (p < 2 * n) → IsFirstWild inputs p → a ≡ Refused 3 p → RingCase a
-    answered : length samples ≡ n → length inputs ≡ 2 * n → AllFinite inputs → a ≡ Fitted (recordRing n samples angles) → RingCase a
+    answered : length samples ≡ n → length inputs ≡ 2 * n → AllFinite inputs → a ≡ Fitted (recordRing tables n samples angles) → RingCase a
 
   pub ring-cases : RingCase answer
   unfolding checkedRing C.ringLooked
@@ -93,7 +95,7 @@ module _ (n : ℕ) (samples angles : List Float) where
       total p q = length-append samples angles ∙ omega (arith, sized samples p, sized angles q)
 
       go : (x y : Bool) → eqb (length samples) n ≡ x → eqb (length angles) n ≡ y → (w : Wild) → firstWild inputs ≡ w →
-          RingCase (cond (x && y) (C.ringLooked n samples angles w) (Refused 1 0))
+          RingCase (cond (x && y) (C.ringLooked tables n samples angles w) (Refused 1 0))
       go true true p q Clean e = answered (sized samples p) (total p q) (clean-finite inputs e) refl
       go true true p q (At i) e = let f = wild-first inputs i e in wrong-value i (rw (p, q) refl, omega (arith, f .inside, total p q)) f refl
       go true false p q w e = wrong-length (rw (p, q) refl) refl
@@ -137,11 +139,11 @@ module _ (n : ℕ) (samples angles : List Float) where
 
   -- what a residual of 0 says
   abbrev pub SumTiny : Type 0
-  SumTiny = let sum = ringSum n samples angles in T (not (isNan sum)) × T (le nought sum) × T (le sum (half n))
+  SumTiny = let sum = ringSum tables n samples angles in T (not (isNan sum)) × T (le nought sum) × T (le sum (half n))
 
   -- what the answered start was made of: where its updates stopped, with the sums of the last pass, or, where it was degenerate, its seed
   abbrev source : Source
-  source = ring n samples angles .answered .source
+  source = ring tables n samples angles .answered .source
 
   -- what is asked of a ring whose errors are known: the answered start was not degenerate, there are more than four samples, both eliminations of its
   -- last pass's matrix succeed, and the residual sum and the two entries on the diagonal are finite
@@ -155,7 +157,7 @@ module _ (n : ℕ) (samples angles : List Float) where
     pub sized : length samples ≡ n
     pub length : length inputs ≡ 2 * n
     pub finite : AllFinite inputs
-    pub answer : checkedRing n samples angles ≡ Fitted (recordRing n samples angles)
+    pub answer : checkedRing tables n samples angles ≡ Fitted (recordRing tables n samples angles)
 
   module _ (zero-number : ringNumber answer ≡ 0) where
     pub answered-is-the-fit : RingFitted
@@ -171,7 +173,7 @@ module _ (n : ℕ) (samples angles : List Float) where
         go (answered s l c e) = record { sized = s; length = l; finite = c; answer = e }
 
     abbrev theFit : RingFit
-    theFit = recordRing n samples angles
+    theFit = recordRing tables n samples angles
 
     values-are : ringValues answer ≡ C.fitValues (withoutMean (theFit .fit))
     unfolding ringValues
@@ -193,8 +195,8 @@ module _ (n : ℕ) (samples angles : List Float) where
     answered-finite = (answered-is-the-fit .length, answered-is-the-fit .finite)
 
     -- demand 2: the six values are those of the definition that follows the Rust, and the counts those of its steps
-    pub answered-values : (ringValues answer ≡ C.fitValues (fitRing n samples angles)) × (ringCounts answer ≡ C.fitCounts theFit)
-    answered-values = (values-are ∙ ap C.fitValues (ring-rust n samples angles), counts-are)
+    pub answered-values : (ringValues answer ≡ C.fitValues (fitRing tables n samples angles)) × (ringCounts answer ≡ C.fitCounts theFit)
+    answered-values = (values-are ∙ ap C.fitValues (ring-rust tables n samples angles), counts-are)
 
     -- the record has these six values and the mean, the mu that the Rust drops: that of the final parameters of the answered start, or, where that start
     -- is degenerate, of its seed
@@ -206,11 +208,11 @@ module _ (n : ℕ) (samples angles : List Float) where
         ((end : Final) → source ≡ ofPass end → recorded 6 ≡ end .p .mu) × ((seed : Params) → source ≡ ofSeed seed → recorded 6 ≡ seed .mu)
     unfolding ringRecord ringValues
     ring-mean =
-        let m = ring-dropped n samples angles in
+        let m = ring-dropped tables n samples angles in
         rw (answered-is-the-fit .answer) (refl, λ end e. rw e at m, λ seed e. rw e at m)
 
     sound : SoundRing theFit
-    sound = ring-sound n samples angles
+    sound = ring-sound tables held n samples angles
 
     -- demand 3, the bill: one or two starts, each of at most six updates; a second start's updates are 0 where there is none
     pub ring-bill : (1 ≤ counted 0) × (counted 0 ≤ 2) × (counted 1 ≤ 6) × (counted 2 ≤ 6) × (counted 0 ≡ 1 → counted 2 ≡ 0)
@@ -226,7 +228,7 @@ module _ (n : ℕ) (samples angles : List Float) where
 
     -- known is 1 exactly if that holds
     pub ring-known : (counted 3 ≡ 1 → RingKnown) × (RingKnown → counted 3 ≡ 1)
-    ring-known = rw counts-are (λ e. only source refl (ring-stands n samples angles) (is-one _ e), λ k. ap C.flag (if k))
+    ring-known = rw counts-are (λ e. only source refl (ring-stands tables held n samples angles) (is-one _ e), λ k. ap C.flag (if k))
       where
         only : (s : Source) → source ≡ s → StandsOn n s (withoutMean (theFit .fit)) (theFit .standing) → theFit .standing .known ≡ true → RingKnown
         only (ofSeed seed) p w e = absurd (false≢true (sym (ap (λ (x : Standing). x .known) (w .2)) ∙ e))
@@ -235,7 +237,8 @@ module _ (n : ℕ) (samples angles : List Float) where
 
         if : RingKnown → theFit .standing .known ≡ true
         if k =
-            let w = subst (λ (s : Source). StandsOn n s (withoutMean (theFit .fit)) (theFit .standing)) (k .fitted) (ring-stands n samples angles) in
+            let w = subst (λ (s : Source). StandsOn n s (withoutMean (theFit .fit)) (theFit .standing)) (k .fitted)
+            (ring-stands tables held n samples angles) in
             ap (λ (x : Standing). x .known) (w .1) ∙ known-if (k .end .last .m) (k .end .last .ssr) n (k .errors)
 
     -- The error words do not depend on it: they are the Rust's errors of that matrix and that sum, exchanged where the axes are, and of a degenerate
@@ -254,7 +257,7 @@ module _ (n : ℕ) (samples angles : List Float) where
         )
       where
         of : (s : Source) → source ≡ s → StandsOn n s (withoutMean (theFit .fit)) (theFit .standing)
-        of s p = subst (λ (x : Source). StandsOn n x (withoutMean (theFit .fit)) (theFit .standing)) p (ring-stands n samples angles)
+        of s p = subst (λ (x : Source). StandsOn n x (withoutMean (theFit .fit)) (theFit .standing)) p (ring-stands tables held n samples angles)
 
     -- Where they are known, each is an estimate, of the variance and of its own entry, capped at PI: one that is PI was PI or more.
     pub ring-estimated : n ≤ 2 ^ 24 → (k : RingKnown) →
@@ -265,7 +268,7 @@ module _ (n : ℕ) (samples angles : List Float) where
         Estimated v (cond w c3 c2) (value 3) × Estimated v (cond w c2 c3) (value 4)
     ring-estimated few k =
         let end = k .end in
-        let sum = ring-sum-upright n samples angles end (k .fitted) (k .errors .sum) in
+        let sum = ring-sum-upright tables held n samples angles end (k .fitted) (k .errors .sum) in
         let words = ring-error-words .1 end (k .fitted) in
         let e = ordered (axesOf (end .p) .swapped) (known-estimated (end .last .m) (end .last .ssr) n (sum .0) (sum .1) few (k .errors)) in
         (rw (words .2) (e .0), rw (words .3) (e .1))
@@ -282,10 +285,10 @@ module _ (n : ℕ) (samples angles : List Float) where
         (value 0 ≡ a .amp) × (value 1 ≡ a .theta1) × (value 2 ≡ a .theta2) ×
         (value 5 ≡ sqrt binary32 (pass n (end .p) samples (sines n angles) (cosines n angles) .ssr ⊘ count n))
     ring-residual end e =
-        let o = subst (λ (x : Source). StandsOn n x (withoutMean (theFit .fit)) (theFit .standing)) e (ring-stands n samples angles) .0 in
+        let o = subst (λ (x : Source). StandsOn n x (withoutMean (theFit .fit)) (theFit .standing)) e (ring-stands tables held n samples angles) .0 in
         let centeredVar = varianceOf n samples (meanOf n samples) in
-        let made = subst (λ (x : Source). MadeOf n centeredVar (theFit .fit .rms) x) e (ring-made n samples angles) in
-        rw values-are (o .amp, o .axis1, o .axis2, rw (subst (OwnPass n samples angles) e (ring-own n samples angles)) at made)
+        let made = subst (λ (x : Source). MadeOf n centeredVar (theFit .fit .rms) x) e (ring-made tables held n samples angles) in
+        rw values-are (o .amp, o .axis1, o .axis2, rw (subst (OwnPass n samples angles) e (ring-own n samples angles tables held)) at made)
 
     -- the amplitude is NaN or not below zero
     pub ring-amplitude : T (isNan (value 0) || le nought (value 0))
@@ -301,23 +304,25 @@ module _ (n : ℕ) (samples angles : List Float) where
     pub ring-mean-finite : Share n → T (finite (value 5)) → T (finite (recorded 6))
     unfolding ringRecord
     ring-mean-finite share t =
-        rw (answered-is-the-fit .answer) (finite-mean n share samples angles samples-finite (rw values-are at t))
+        rw (answered-is-the-fit .answer) (finite-mean n share tables held samples angles samples-finite (rw values-are at t))
 
     -- A residual of 0 is never a non-number in disguise: the sum of squares that the rms was made of is a number, not below 0, and at most half of n
     -- units of 2 ^ -149, the largest whose n-th part rounds to 0 (`Share n`). `ringSum` is the sum of the answered start, and `ring-made` of robust's
     -- ResidualLaws says of every ring that the rms is the root of its n-th part, or, for a start that is refused, of the greater of that and 0.
     pub ring-zero : Share n → eq (value 5) nought ≡ true → SumTiny
     ring-zero share z =
-        let t = ring-tiny n share samples angles samples-finite (rw values-are at z) in
+        let t = ring-tiny n share tables held samples angles samples-finite (rw values-are at z) in
         (t .number, t .above, t .small)
 
 -- of the two rings: the sum is at most 8 units of 16 samples, and 12 of 24
-module _ (samples angles : List Float) where
-  pub ring-16-zero : (z : ringNumber (checkedRing 16 samples angles) ≡ 0) → eq (value 16 samples angles z 5) nought ≡ true → SumTiny 16 samples angles
-  ring-16-zero z = ring-zero 16 samples angles z share-16
+module _ (tables : List Table) (held : TablesHeld tables) (samples angles : List Float) where
+  pub ring-16-zero : (z : ringNumber (checkedRing tables 16 samples angles) ≡ 0) → eq (value tables held 16 samples angles z 5) nought ≡ true
+      → SumTiny tables held 16 samples angles
+  ring-16-zero z = ring-zero tables held 16 samples angles z share-16
 
-  pub ring-24-zero : (z : ringNumber (checkedRing 24 samples angles) ≡ 0) → eq (value 24 samples angles z 5) nought ≡ true → SumTiny 24 samples angles
-  ring-24-zero z = ring-zero 24 samples angles z share-24
+  pub ring-24-zero : (z : ringNumber (checkedRing tables 24 samples angles) ≡ 0) → eq (value tables held 24 samples angles z 5) nought ≡ true
+      → SumTiny tables held 24 samples angles
+  ring-24-zero z = ring-zero tables held 24 samples angles z share-24
 
 -- ---- the disk
 module _ (D : DiskData) (base0 base1 : Float) where
@@ -543,9 +548,9 @@ pub disk-leaders : (D : DiskData) (base0 base1 : Float) → leadersKept D base0 
 disk-leaders D base0 base1 = leaders-are D base0 base1
 
 -- any two answers that a contract permits are equal, of each entry
-pub ring-answers-equal : (n : ℕ) (samples angles : List Float) (a b : RingAnswer)
-    → a ≡ checkedRing n samples angles → b ≡ checkedRing n samples angles → a ≡ b
-ring-answers-equal n samples angles a b e g = e ∙ sym g
+pub ring-answers-equal : (tables : List Table) (n : ℕ) (samples angles : List Float) (a b : RingAnswer)
+    → a ≡ checkedRing tables n samples angles → b ≡ checkedRing tables n samples angles → a ≡ b
+ring-answers-equal tables n samples angles a b e g = e ∙ sym g
 
 pub disk-answers-equal : (D : DiskData) (base0 base1 : Float) (a b : DiskAnswer) → a ≡ checkedDisk D base0 base1 → b ≡ checkedDisk D base0 base1 → a ≡ b
 disk-answers-equal D base0 base1 a b e g = e ∙ sym g

@@ -5,11 +5,13 @@ use score::Fit;
 use search::DiskFit;
 use solver_errors::Estimate;
 ghost use mathlib.Core.Path.{_≡_};
+ghost use mathlib.Core.List.{[]};
 ghost use Prim.Native.Nat.{_<_, _≤_};
 ghost use lib.ListN.{length};
 ghost use lib.Ieee.{Float};
 ghost use Rattle.solver.specs.Buffers.{maxSamples};
 ghost use Rattle.data.specs.Data.{lentDisk, OfPixels, DiskSized, maxTanhPixels};
+ghost use Rattle.seed_models.specs.Words.{tablesIn};
 ghost use Rattle.checked.specs.Checked as C;
 ghost use Rattle.checked.specs.Parts as P;
 
@@ -122,7 +124,7 @@ fn ring_refusal(n: usize, samples: &[f32], angles: &[f32]) -> Refusal
 
 // The ring entry: any two slices.
 pub fn fit_ring(samples: &[f32], angles: &[f32]) -> RingAnswer
-    ensures { λ r. ⌜ r ≡ C.checkedRing 16 (now (samples .entry)) (now (angles .entry)) ⌝ }
+    ensures { λ r. ⌜ r ≡ C.checkedRing [] 16 (now (samples .entry)) (now (angles .entry)) ⌝ }
 {
     match ring_refusal(16, samples, angles) {
         Refusal::By(number, place) => RingAnswer::Refused(number, place),
@@ -132,11 +134,25 @@ pub fn fit_ring(samples: &[f32], angles: &[f32]) -> RingAnswer
 
 // The same of 24 samples.
 pub fn fit_ring24(samples: &[f32], angles: &[f32]) -> RingAnswer
-    ensures { λ r. ⌜ r ≡ C.checkedRing 24 (now (samples .entry)) (now (angles .entry)) ⌝ }
+    ensures { λ r. ⌜ r ≡ C.checkedRing [] 24 (now (samples .entry)) (now (angles .entry)) ⌝ }
 {
     match ring_refusal(24, samples, angles) {
         Refusal::By(number, place) => RingAnswer::Refused(number, place),
         Refusal::Nothing => RingAnswer::Fitted(robust::fit_ring24(samples, angles)),
+    }
+}
+
+// A ring with the tables that the words hold, whatever they are.
+pub fn fit_ring_with(
+    words: &[f32; seed_models::STATE_SIZE],
+    samples: &[f32],
+    angles: &[f32],
+) -> RingAnswer
+    ensures { λ r. ⌜ r ≡ C.checkedRing (tablesIn (now (words .entry))) 16 (now (samples .entry)) (now (angles .entry)) ⌝ }
+{
+    match ring_refusal(16, samples, angles) {
+        Refusal::By(number, place) => RingAnswer::Refused(number, place),
+        Refusal::Nothing => RingAnswer::Fitted(robust::fit_ring_with(words, samples, angles)),
     }
 }
 

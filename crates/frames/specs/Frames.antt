@@ -33,7 +33,7 @@ ringAnswered kind (Rings.Refused number place) = Refused kind number place
 
 -- a ring's line has a word for each sample behind the type, and then one for each angle
 abbrev pub ringOfLine : List ℕ → ℕ → RingAnswer
-ringOfLine l n = checkedRing n (valuesOf l 2 n) (valuesOf l (2 + 8 * n) n)
+ringOfLine l n = checkedRing [] n (valuesOf l 2 n) (valuesOf l (2 + 8 * n) n)
 
 abbrev pub ringAnswer : List ℕ → ℕ → Answer
 ringAnswer l kind = ringAnswered (answerType kind) (ringOfLine l (samplesOf kind))

@@ -13,6 +13,7 @@ use Rattle.shapes.specs.declared.Shape.{Shape}
 use Rattle.shapes.specs.declared.Shape.the-variants as Shapes
 use Rattle.checked.specs.Checked as C
 use Rattle.checked.specs.Checked.{ringNumber, ringPlace, ringValues, ringCounts, checkedDisk, diskNumber, diskPlace, diskValues, diskCounts}
+use Rattle.seed_models.specs.HeldLaws.{no-tables}
 use Rattle.checked.specs.Promises.{RingCase, wrong-length, wrong-value, answered, ring-cases, ring-bill}
 use Rattle.checked.specs.Promises.{DiskCase, wrong-count, wrong-lengths, wrong-disk-value, no-fit, disk-answered, disk-cases, disk-numbers, disk-trials}
 use Rattle.checked.specs.declared.Measured.{Measured}
@@ -78,7 +79,7 @@ module _ (line : List ℕ) where
   ring-text kind r e z =
       let n = samplesOf kind in
       let c : ringCounts (ringAt kind) ≡ C.fitCounts r = rw e in
-      let b = rw c at (ring-bill n (valuesOf line 2 n) (valuesOf line (2 + 8 * n) n) z) in
+      let b = rw c at (ring-bill [] no-tables n (valuesOf line 2 n) (valuesOf line (2 + 8 * n) n) z) in
       let starts = byte (r .starts) (omega (arith, b .1)) in
       let first = byte (r .first) (omega (arith, b .2)) in
       let second = byte (r .second) (omega (arith, b .3)) in
@@ -96,10 +97,10 @@ module _ (line : List ℕ) where
 
   -- the cases of a ring's values
   abbrev AtRing : ℕ → Type 0
-  AtRing kind = let n = samplesOf kind in RingCase n (valuesOf line 2 n) (valuesOf line (2 + 8 * n) n) (ringAt kind)
+  AtRing kind = let n = samplesOf kind in RingCase [] no-tables n (valuesOf line 2 n) (valuesOf line (2 + 8 * n) n) (ringAt kind)
 
   at-ring : (kind : ℕ) → AtRing kind
-  at-ring kind = let n = samplesOf kind in ring-cases n (valuesOf line 2 n) (valuesOf line (2 + 8 * n) n)
+  at-ring kind = let n = samplesOf kind in ring-cases [] no-tables n (valuesOf line 2 n) (valuesOf line (2 + 8 * n) n)
 
   ring-line : (kind : ℕ) → shapeOf line ≡ Shapes.Ring kind → AtRing kind → LineCase (ringAnswered (answerType kind) (ringAt kind))
   unfolding ringNumber ringPlace

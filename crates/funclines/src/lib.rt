@@ -6,6 +6,7 @@ use robust_choice::RingFit;
 use robust_choice::Second;
 use seed::Seed;
 use seed::SeedCandidate;
+use seed_models::Matched;
 use solver_elimination::Solved;
 use solver_record::Params;
 use solver_record::Started;
@@ -362,7 +363,32 @@ pub extern "C" fn fl_insert_seed_candidate(top: Seed5, candidate: &[f32; 5]) -> 
     seed_of(seed::insert_seed_candidate(top_of(top), candidate_of(*candidate)))
 }
 
-// ---- 60 to 66: the whole ring; 60 and 66 are one export
+// ---- 68: a seed model's score
+
+#[no_mangle]
+pub extern "C" fn fl_score_cached_seed_model(
+    centered: &[f32; 16],
+    centered_sum_sq: f32,
+    mean: f32,
+    theta1: f32,
+    theta2: f32,
+    q_mean: f32,
+    q_centered: &[f32; 16],
+    denom: f32,
+) -> Seed5 {
+    seed_of(seed_models::score_cached_seed_model(
+        centered,
+        centered_sum_sq,
+        mean,
+        theta1,
+        theta2,
+        q_mean,
+        q_centered,
+        denom,
+    ))
+}
+
+// ---- 60 to 67: the whole ring; 60 and 66 are one export, and 67's tables are made and stored by the library's own calls
 
 fn ring_of(r: RingFit) -> Ring {
     let f = r.fit;
@@ -382,6 +408,27 @@ pub extern "C" fn fl_fit_ring(samples: &[f32; 16], ring_phi: &[f32; 16]) -> Ring
 #[no_mangle]
 pub extern "C" fn fl_fit_ring24(samples: &[f32; 24], ring_phi: &[f32; 24]) -> Ring {
     ring_of(robust::fit_ring24(samples, ring_phi))
+}
+
+#[no_mangle]
+pub extern "C" fn fl_tables_fit(
+    tables: &[f32; seed_models::STATE_SIZE],
+    samples: &[f32; 16],
+    ring_phi: &[f32; 16],
+) -> Ring {
+    ring_of(robust::fit_ring_with(tables, samples, ring_phi))
+}
+
+// The number of the first table whose angles are near, or 3.
+#[no_mangle]
+pub extern "C" fn fl_tables_match(
+    tables: &[f32; seed_models::STATE_SIZE],
+    ring_phi: &[f32; 16],
+) -> usize {
+    match seed_models::first_table(tables, ring_phi) {
+        Matched::At(t) => t,
+        Matched::Missing => seed_models::MOST_TABLES,
+    }
 }
 
 #[no_mangle]

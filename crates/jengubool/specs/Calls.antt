@@ -7,6 +7,7 @@ use lib.Dec.{eqb, ltb}
 use lib.Ieee.{Float}
 use Rattle.solver_record.specs.Record.{withoutMean}
 use Rattle.solver_record.specs.declared.TwoAxisFit.{TwoAxisFit}
+use Rattle.seed_models.specs.Models.{Table}
 use Rattle.checked.specs.Checked.{checkedRing, checkedDisk, fitValues, recordValues, fitCounts, measuredValues, measuredCounts}
 use Rattle.checked.specs.declared.DiskAnswer.{DiskAnswer}
 use Rattle.checked.specs.declared.DiskAnswer.the-variants as Disks
@@ -45,12 +46,12 @@ unfoldable pub ringStored : Form → RingAnswer → List Float → List ℕ → 
 ringStored w (Fitted r) fit counts = record { code = 0; fit = putFrom (w .values (r .fit)) 0 fit; counts = putFrom (map wide (fitCounts r)) 0 counts }
 ringStored w (Refused number place) fit counts = record { code = number * 65536 + place; fit = fit; counts = counts }
 
--- the call for a ring of n samples; a buffer that is too short gives number 1
-unfoldable pub ringCall : Form → ℕ → List Float → List Float → List Float → List ℕ → Stored
-ringCall w n samples angles fit counts =
+-- the call for a ring of n samples, with the tables that are held; a buffer that is too short gives number 1
+unfoldable pub ringCall : Form → List Table → ℕ → List Float → List Float → List Float → List ℕ → Stored
+ringCall w tables n samples angles fit counts =
     cond (ltb (length fit) (w .room)) (record { code = 65536; fit = fit; counts = counts })
     (cond (ltb (length counts) 4) (record { code = 65536; fit = fit; counts = counts })
-    (ringStored w (checkedRing n samples angles) fit counts))
+    (ringStored w (checkedRing tables n samples angles) fit counts))
 
 -- the record's call serves both rings: 24 samples are a ring of 24, and any other number is taken as a ring of 16
 abbrev pub ringSize : List Float → ℕ

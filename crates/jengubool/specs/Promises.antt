@@ -2,7 +2,7 @@
 -- buffers as they came. Assumes nothing.
 use mathlib.Core.Path.{_≡_, refl}
 use mathlib.Core.Bool.{Bool, true, false, cond}
-use mathlib.Core.List.{List}
+use mathlib.Core.List.{List, []}
 use Prim.Native.Nat.{ℕ, _+_, _*_, _≤_}
 use native.Mathlib.Omega.{arith}
 use borrow.Author.Tests.{le-ltb, ne-eqb}
@@ -12,6 +12,8 @@ use lib.Ieee.{Float}
 use Rattle.data.specs.Data.{DiskData}
 use Rattle.checked.specs.Checked.{checkedRing, checkedDisk, ringNumber, ringPlace, ringValues, ringRecord, ringCounts, diskNumber}
 use Rattle.checked.specs.Checked.{diskPlace, diskValues, diskCounts, flag, fitCounts}
+use Rattle.seed_models.specs.Models.{Table}
+use Rattle.seed_models.specs.HeldLaws.{TablesHeld}
 use Rattle.robust.specs.Record.{recordRing}
 use Rattle.score.specs.Score.{fitStanding}
 use Rattle.checked.specs.Promises.{answered-is-the-fit, answered-values, ring-bill, disk-answered-is-the-fit, disk-answered-values, disk-trials}
@@ -39,10 +41,11 @@ module _ (fit : List Float) (counts : List ℕ) where
   short-keeps false false r f h = f h
 
   -- a call that returns anything but 0 leaves every byte of the fit and of the counts
-  pub refused-keeps : (w : Form) (n : ℕ) (samples angles : List Float) →
-      let s = ringCall w n samples angles fit counts in (s .code ≡ 0 → ⊥) → s ≡ refusal (s .code)
+  pub refused-keeps : (w : Form) (tables : List Table) (n : ℕ) (samples angles : List Float) →
+      let s = ringCall w tables n samples angles fit counts in (s .code ≡ 0 → ⊥) → s ≡ refusal (s .code)
   unfolding ringCall
-  refused-keeps w n samples angles = short-keeps (ltb (length fit) (w .room)) (ltb (length counts) 4) _ (stored-keeps w (checkedRing n samples angles))
+  refused-keeps w tables n samples angles =
+      short-keeps (ltb (length fit) (w .room)) (ltb (length counts) 4) _ (stored-keeps w (checkedRing tables n samples angles))
 
   disk-stored-keeps : (a : DiskAnswer) → (diskStored a fit counts .code ≡ 0 → ⊥) → diskStored a fit counts ≡ refusal (diskStored a fit counts .code)
   unfolding diskStored
@@ -66,10 +69,10 @@ module _ (fit : List Float) (counts : List ℕ) where
   disk-stored-code (Disks.Refused number place) = refl
 
   -- with buffers that are long enough the code is the answer's number and place
-  pub ring-code : (w : Form) (n : ℕ) (samples angles : List Float) → w .room ≤ length fit → 4 ≤ length counts →
-      ringCall w n samples angles fit counts .code ≡ ringNumber (checkedRing n samples angles) * 65536 + ringPlace (checkedRing n samples angles)
+  pub ring-code : (w : Form) (tables : List Table) (n : ℕ) (samples angles : List Float) → w .room ≤ length fit → 4 ≤ length counts →
+      let a = checkedRing tables n samples angles in ringCall w tables n samples angles fit counts .code ≡ ringNumber a * 65536 + ringPlace a
   unfolding ringCall
-  ring-code w n samples angles f c = rw (le-ltb _ _ f, le-ltb _ _ c) (ring-stored-code w (checkedRing n samples angles))
+  ring-code w tables n samples angles f c = rw (le-ltb _ _ f, le-ltb _ _ c) (ring-stored-code w (checkedRing tables n samples angles))
 
   pub disk-code : (D : DiskData) (base0 base1 : Float) → 11 ≤ length fit → 2 ≤ length counts →
       diskCall D base0 base1 fit counts .code ≡ diskNumber (checkedDisk D base0 base1) * 65536 + diskPlace (checkedDisk D base0 base1)
@@ -79,7 +82,7 @@ module _ (fit : List Float) (counts : List ℕ) where
   -- a record is of 16 samples or of 24, and any other number is refused with 1, whatever the buffers
   pub record-sizes : (samples angles : List Float) →
       (length samples ≡ 16 → ringSize samples ≡ 16) × (length samples ≡ 24 → ringSize samples ≡ 24) ×
-      ((length samples ≡ 16 → ⊥) → (length samples ≡ 24 → ⊥) → ringCall theRecord (ringSize samples) samples angles fit counts .code ≡ 65536)
+      ((length samples ≡ 16 → ⊥) → (length samples ≡ 24 → ⊥) → ringCall theRecord [] (ringSize samples) samples angles fit counts .code ≡ 65536)
   unfolding ringCall ringStored checkedRing
   record-sizes samples angles = (
     λ e. rw e refl,
@@ -101,19 +104,20 @@ module _ (fit : List Float) (counts : List ℕ) where
   flagged false = omega arith
 
   -- with number 0 the values and the true counts stand in front, and all behind them is as it was
-  module _ (n : ℕ) (samples angles : List Float) (zero-number : ringNumber (checkedRing n samples angles) ≡ 0) where
+  module _ (tables : List Table) (held : TablesHeld tables) (n : ℕ) (samples angles : List Float)
+      (zero-number : ringNumber (checkedRing tables n samples angles) ≡ 0) where
     abbrev fitted : RingAnswer
-    fitted = checkedRing n samples angles
+    fitted = checkedRing tables n samples angles
 
     written : (w : Form) → w .room ≤ length fit → 4 ≤ length counts →
-        let r = recordRing n samples angles in
-        ringCall w n samples angles fit counts ≡
+        let r = recordRing tables n samples angles in
+        ringCall w tables n samples angles fit counts ≡
         record { code = 0; fit = putFrom (w .values (r .fit)) 0 fit; counts = putFrom (fitCounts r) 0 counts }
     unfolding ringCall ringStored
     written w f c =
-        let r = recordRing n samples angles in
-        let v = answered-values n samples angles zero-number in
-        let b = rw (v .1) at (ring-bill n samples angles zero-number) in
+        let r = recordRing tables n samples angles in
+        let v = answered-values tables held n samples angles zero-number in
+        let b = rw (v .1) at (ring-bill tables held n samples angles zero-number) in
         let k = r .standing .known in
         let known : flag k ≤ 1000 = omega (arith, flagged k) in
         let starts : r .starts ≤ 1000 = omega (arith, b .1) in
@@ -122,7 +126,7 @@ module _ (fit : List Float) (counts : List ℕ) where
         rw (
           le-ltb _ _ f,
           le-ltb _ _ c,
-          answered-is-the-fit n samples angles zero-number .answer,
+          answered-is-the-fit tables held n samples angles zero-number .answer,
           small (r .starts) starts,
           small (r .first) first,
           small (r .second) second,
@@ -131,17 +135,17 @@ module _ (fit : List Float) (counts : List ℕ) where
 
     -- the six values
     pub ring-written : 6 ≤ length fit → 4 ≤ length counts →
-        ringCall theSix n samples angles fit counts ≡
+        ringCall theSix tables n samples angles fit counts ≡
         record { code = 0; fit = putFrom (ringValues fitted) 0 fit; counts = putFrom (ringCounts fitted) 0 counts }
     unfolding ringValues ringCounts
-    ring-written f c = rw (answered-is-the-fit n samples angles zero-number .answer) (written theSix f c)
+    ring-written f c = rw (answered-is-the-fit tables held n samples angles zero-number .answer) (written theSix f c)
 
     -- the record: the six and the mean
     pub record-written : 7 ≤ length fit → 4 ≤ length counts →
-        ringCall theRecord n samples angles fit counts ≡
+        ringCall theRecord tables n samples angles fit counts ≡
         record { code = 0; fit = putFrom (ringRecord fitted) 0 fit; counts = putFrom (ringCounts fitted) 0 counts }
     unfolding ringRecord ringCounts
-    record-written f c = rw (answered-is-the-fit n samples angles zero-number .answer) (written theRecord f c)
+    record-written f c = rw (answered-is-the-fit tables held n samples angles zero-number .answer) (written theRecord f c)
 
   module _ (D : DiskData) (base0 base1 : Float) (zero-number : diskNumber (checkedDisk D base0 base1) ≡ 0) where
     -- the same of a disk: eleven values, the trials and known

@@ -2,17 +2,20 @@
 // include/jengubool.h declares them, with what each promises.
 use checked::DiskAnswer;
 use checked::Measured;
+use checked::Refusal;
 use checked::RingAnswer;
 use robust_choice::RingFit;
 use solver_record::TwoAxisFit;
 ghost use mathlib.Core.Path.{_≡_};
 ghost use Prim.Native.Nat.{_≤_};
-ghost use mathlib.Core.List.{map};
+ghost use mathlib.Core.List.{[], map};
 ghost use lib.ListN.{length};
 ghost use lib.Ieee.{binary32};
 ghost use Rattle.data.specs.Data.{lentDisk};
 ghost use Rattle.solver_record.specs.Record.{withoutMean};
 ghost use Rattle.checked.specs.Checked.{fitValues, recordValues, fitCounts, measuredValues, measuredCounts, flag};
+ghost use Rattle.checked_tables.specs.Tables.{refusalCode, tableRefusal, wordsWith};
+ghost use Rattle.seed_models.specs.Words as W;
 ghost use Rattle.frames.specs.Frames as F;
 ghost use Rattle.jengubool.specs.Calls as J;
 ghost use Rattle.floats.specs.Library as L;
@@ -133,7 +136,7 @@ pub extern "C" fn jb_fit_ring(
     counts: &mut [u32],
 ) -> u32
     ensures { λ r. ⌜ _≡_ {A = J.Stored} (record { code = r; fit = now (fit .exit); counts = now (counts .exit) })
-        (J.ringCall J.theSix 16 (now (samples .entry)) (now (angles .entry)) (now (fit .entry)) (now (counts .entry))) ⌝ }
+        (J.ringCall J.theSix [] 16 (now (samples .entry)) (now (angles .entry)) (now (fit .entry)) (now (counts .entry))) ⌝ }
 {
     if fit.len() < 6 {
         return 65536;
@@ -153,7 +156,7 @@ pub extern "C" fn jb_fit_ring24(
     counts: &mut [u32],
 ) -> u32
     ensures { λ r. ⌜ _≡_ {A = J.Stored} (record { code = r; fit = now (fit .exit); counts = now (counts .exit) })
-        (J.ringCall J.theSix 24 (now (samples .entry)) (now (angles .entry)) (now (fit .entry)) (now (counts .entry))) ⌝ }
+        (J.ringCall J.theSix [] 24 (now (samples .entry)) (now (angles .entry)) (now (fit .entry)) (now (counts .entry))) ⌝ }
 {
     if fit.len() < 6 {
         return 65536;
@@ -197,7 +200,7 @@ pub extern "C" fn jb_ring_record(
     counts: &mut [u32],
 ) -> u32
     ensures { λ r. ⌜ _≡_ {A = J.Stored} (record { code = r; fit = now (fit .exit); counts = now (counts .exit) })
-        (J.ringCall J.theRecord (J.ringSize (now (samples .entry))) (now (samples .entry)) (now (angles .entry))
+        (J.ringCall J.theRecord [] (J.ringSize (now (samples .entry))) (now (samples .entry)) (now (angles .entry))
         (now (fit .entry)) (now (counts .entry))) ⌝ }
 {
     if fit.len() < 7 {
@@ -210,6 +213,57 @@ pub extern "C" fn jb_ring_record(
         return record_stored(checked::fit_ring24(samples, angles), fit, counts);
     }
     record_stored(checked::fit_ring(samples, angles), fit, counts)
+}
+
+// Words that hold no table, whatever they held.
+#[no_mangle]
+pub extern "C" fn jb_tables_fresh(tables: &mut [f32; seed_models::STATE_SIZE])
+    ensures { λ _. ⌜ now (tables .exit) ≡ W.freshIn (now (tables .entry)) ⌝ }
+{
+    checked_tables::fresh_tables(tables);
+}
+
+fn refusal_code(r: Refusal) -> u32
+    ensures { λ x. ⌜ x ≡ refusalCode r ⌝ }
+{
+    match r {
+        Refusal::By(number, place) => (number as u32) * 65536 + place as u32,
+        Refusal::Nothing => 0,
+    }
+}
+
+// The table of any angles, behind those that are held.
+#[no_mangle]
+pub extern "C" fn jb_tables_store(
+    tables: &mut [f32; seed_models::STATE_SIZE],
+    angles: &[f32],
+) -> u32
+    ensures { λ r. ⌜ (r ≡ refusalCode (tableRefusal (now (tables .entry)) (now (angles .entry))))
+        × (now (tables .exit) ≡ wordsWith (now (tables .entry)) (now (angles .entry))) ⌝ }
+{
+    refusal_code(checked_tables::store_table(tables, angles))
+}
+
+// The ring's answer with its mean, with the tables that are held: any four slices of 16 samples.
+#[no_mangle]
+pub extern "C" fn jb_tables_fit(
+    tables: &[f32; seed_models::STATE_SIZE],
+    samples: &[f32],
+    angles: &[f32],
+    fit: &mut [f32],
+    counts: &mut [u32],
+) -> u32
+    ensures { λ r. ⌜ _≡_ {A = J.Stored} (record { code = r; fit = now (fit .exit); counts = now (counts .exit) })
+        (J.ringCall J.theRecord (W.tablesIn (now (tables .entry))) 16 (now (samples .entry)) (now (angles .entry))
+        (now (fit .entry)) (now (counts .entry))) ⌝ }
+{
+    if fit.len() < 7 {
+        return 65536;
+    }
+    if counts.len() < 4 {
+        return 65536;
+    }
+    record_stored(checked::fit_ring_with(tables, samples, angles), fit, counts)
 }
 
 // The eleven values of a disk's fit.

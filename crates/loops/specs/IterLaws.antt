@@ -1,5 +1,5 @@
 -- One law for where a loop starts and one for a turn more, in the shape `k + 1` that the code's counter has; and what an early exit leaves. Assumes nothing.
-use mathlib.Core.Path.{_≡_, refl, ap, sym, subst, _∙_}
+use mathlib.Core.Path.{_≡_, refl, ap, _∙_}
 use mathlib.Core.Bool.{Bool, true, false, cond}
 use Prim.Native.Nat.{ℕ, zero, suc, _+_, _-_, _≤_, _<_}
 use native.Mathlib.Numerals.{add-one}
@@ -83,29 +83,12 @@ module _ {ℓ} {S : Type ℓ} where
   pub range-keeps : (P : S → Type 0) (f : ℕ → S → S) (s : S) (a b : ℕ) → P s → ((i : ℕ) (x : S) → P x → P (f i x)) → P (range f s a b)
   range-keeps P f s a b p h = range-keeps-below P f s a b p (λ i x l q. h i x q)
 
-  -- a loop in two parts; turns at the end that change nothing; a first turn that changes nothing
-  pub range-join : (f : ℕ → S → S) (s : S) (a b c : ℕ) → a ≤ b → b ≤ c → range f (range f s a b) b c ≡ range f s a c
-  range-join f s a b c h k = let z : b + (c - b) ≡ c = omega arith in subst (λ (n : ℕ). range f (range f s a b) b n ≡ range f s a n) z (go (c - b))
-    where
-      go : (d : ℕ) → range f (range f s a b) b (b + d) ≡ range f s a (b + d)
-      go zero = let z : b + 0 ≡ b = omega arith in rw (z, range-start)
-      go (suc d) =
-          let z : b + suc d ≡ (b + d) + 1 = omega arith in
-          rw (z, range-next f (range f s a b) b (b + d) (omega arith), range-next f s a (b + d) (omega arith)) (ap (f (b + d)) (go d))
-
-  pub range-idle : (f : ℕ → S → S) (s : S) (a b c : ℕ) → a ≤ b → b ≤ c → ((i : ℕ) → b ≤ i → i < c → (x : S) → f i x ≡ x) → range f s a c ≡ range f s a b
-  range-idle f s a b c h k idle = let z : b + (c - b) ≡ c = omega arith in subst (λ (n : ℕ). range f s a n ≡ range f s a b) z (go (c - b) (omega arith))
-    where
-      go : (d : ℕ) → b + d ≤ c → range f s a (b + d) ≡ range f s a b
-      go zero l = let z : b + 0 ≡ b = omega arith in rw z
-      go (suc d) l =
-          let z : b + suc d ≡ (b + d) + 1 = omega arith in
-          rw (z, range-next f s a (b + d) (omega arith)) (idle (b + d) (omega arith) (omega arith) (range f s a (b + d)) ∙ go d (omega arith))
-
-  pub range-first : (f : ℕ → S → S) (s : S) (a c : ℕ) → a < c → f a s ≡ s → range f s a c ≡ range f s (a + 1) c
-  range-first f s a c l e =
-      let one : range f s a (a + 1) ≡ s = range-next f s a a (omega arith) ∙ ap (f a) (range-start f s a) ∙ e in
-      sym (range-join f s a (a + 1) c (omega arith) (omega arith)) ∙ ap (λ (x : S). range f x (a + 1) c) one
+  -- turns at the end that change nothing
+  pub iter-idle : (f : ℕ → S → S) (s : S) (n d : ℕ) → ((i : ℕ) → n ≤ i → (x : S) → f i x ≡ x) → iter f s (n + d) ≡ iter f s n
+  iter-idle f s n zero h = let z : n + 0 ≡ n = omega arith in rw z
+  iter-idle f s n (suc d) h =
+      let z : n + suc d ≡ (n + d) + 1 = omega arith in
+      rw (z, iter-next) (h (n + d) (omega arith) (iter f s (n + d)) ∙ iter-idle f s n d h)
 
   -- turns that agree where they are made
   pub range-same : (f g : ℕ → S → S) (s : S) (a c : ℕ) → ((i : ℕ) → a ≤ i → i < c → (x : S) → f i x ≡ g i x) → range f s a c ≡ range g s a c

@@ -2,9 +2,11 @@
 use mathlib.Core.Path.{_≡_, refl, sym, ap, _∙_, subst}
 use mathlib.Core.Logic.{inl, inr}
 use mathlib.Core.List.{List, [], _∷_, _++_, append-assoc}
-use Prim.Native.Nat.{ℕ, zero, suc, _+_, _-_, _≤_, _<_}
+use Prim.Native.Nat.{ℕ, zero, suc, _+_, _-_, _*_, _≤_, _<_}
 use native.Mathlib.Omega.{arith}
-use native.Mathlib.Nat.{eq-or-lt-of-le, le-of-suc-le-suc}
+use native.Mathlib.Nat.{eq-or-lt-of-le, le-of-suc-le-suc, zero-mul, suc-mul, mul-le-mul-right}
+use native.Mathlib.Numerals.{add-one}
+use mathlib.Core.Logic.{_⊎_}
 use lib.ListN.{List·getD-append, length, getD, take, drop, set, length-set, length-append, length-take, length-drop, take-append-drop}
 use lib.Seq.{drop-cons, set-at, take-at, take-length, drop-at, drop-length, take-append-le, drop-append-le, drop-append-add, drop-drop, getD-at}
 use lib.Seq.{length-take-le, ext-getD}
@@ -62,6 +64,47 @@ module _ {A : Type 0} where
 
   pub part-length : (l ys : List A) (b n : ℕ) → b + n ≤ length l → length ys ≡ n → length (take b l ++ (ys ++ drop n (drop b l))) ≡ length l
   part-length l ys b n h e = simp (length-append, length-take, length-drop, e) (omega arith)
+
+  -- a list of parts of k elements each, behind x: its length, a part of it, and a buffer in which one part more is written
+  module _ (f : ℕ → List A) (x : List A) (k : ℕ) (all : (i : ℕ) → length (f i) ≡ k) where
+    abbrev pub parts : ℕ → List A
+    parts n = iter (λ i l. l ++ f i) x n
+
+    abbrev size : ℕ → ℕ
+    size n = length x + n * k
+
+    size-more : (n : ℕ) → size (n + 1) ≡ size n + k
+    size-more n = let z : (n + 1) * k ≡ n * k + k = rw add-one (suc-mul n k) in omega (arith, z)
+
+    pub parts-length : (n : ℕ) → length (parts n) ≡ size n
+    unfolding iter
+    parts-length zero = omega (arith, zero-mul k)
+    parts-length (suc n) = length-append (parts n) (f n) ∙ omega (arith, parts-length n, all n, suc-mul n k)
+
+    pub part-of : (n j : ℕ) → j < n → take k (drop (size j) (parts n)) ≡ f j
+    unfolding iter
+    part-of zero j l = absurd (none l)
+      where
+        none : j < 0 → ⊥
+        none l = omega arith
+    part-of (suc n) j l = go (part-of n j) (eq-or-lt-of-le (le-of-suc-le-suc l))
+      where
+        whole : take k (f n) ≡ f n
+        whole = ap (λ (i : ℕ). take i (f n)) (sym (all n)) ∙ take-length (f n)
+
+        go : (j < n → take k (drop (size j) (parts n)) ≡ f j) → (j ≡ n) ⊎ (j < n) → take k (drop (size j) (parts n ++ f n)) ≡ f j
+        go before (inl e) = rw e (ap (take k) (drop-at (parts n) (f n) (size n) (parts-length n)) ∙ whole)
+        go before (inr h) =
+            let more : j + 1 ≤ n = omega arith in
+            let room : size j + k ≤ length (parts n) = omega (arith, parts-length n, size-more j, mul-le-mul-right k more) in
+            part-before (parts n) (f n) (size j) k room ∙ before h
+
+    pub parts-more : (l₀ l r : List A) (n : ℕ) → l ≡ parts n ++ drop (size n) l₀ → r ≡ f n
+        → take (size n) l ++ (r ++ drop k (drop (size n) l)) ≡ parts (n + 1) ++ drop (size (n + 1)) l₀
+    parts-more l₀ l r n e g =
+        let front : take (size n) l ≡ parts n = ap (take (size n)) e ∙ take-at (parts n) (drop (size n) l₀) (size n) (parts-length n) in
+        let behind : drop (size n) l ≡ drop (size n) l₀ = ap (drop (size n)) e ∙ drop-at (parts n) (drop (size n) l₀) (size n) (parts-length n) in
+        rw (front, behind, g, iter-next, drop-drop k (size n) l₀, size-more n) (sym (append-assoc (parts n) (f n) (drop (size n + k) l₀)))
 
   -- what stands at a place
   pub tab-at : (f : ℕ → A) (d : A) (n i : ℕ) → i < n → getD (tab f n) i d ≡ f i

@@ -2,6 +2,7 @@
 -- order of the axes; or, where it is degenerate, PI and not known. For a choice between two starts takes the whole start. Assumes nothing.
 use mathlib.Core.Path.{_≡_, refl}
 use mathlib.Core.Bool.{Bool, true, false, cond}
+use mathlib.Core.List.{List}
 use Prim.Native.Nat.{ℕ}
 use lib.Ieee.{Float}
 use Rattle.floats.specs.Ops.{pi}
@@ -14,6 +15,8 @@ use Rattle.solver_record.specs.FitLaws.{ErrorsOf, finished-errors}
 use Rattle.solver.specs.Solver.{Final, sines, cosines, updates, finishedAt, fitWithSeed}
 use Rattle.solver.specs.Record.{startFrom, recordWithSeed}
 use Rattle.solver_record.specs.declared.Params.{Params}
+use Rattle.seed_models.specs.Models.{Table}
+use Rattle.seed_models.specs.HeldLaws.{TablesHeld}
 use Rattle.robust_choice.specs.Choice.{Source, ofPass, ofSeed, Start}
 use Rattle.robust.specs.Robust.{start, meanOf, varianceOf, ring}
 use Rattle.robust.specs.Record.{recordRing}
@@ -38,9 +41,9 @@ start-stands n samples ringPhi seed centeredVar = go (degenerate (seed .amp) cen
     go false = (finished-errors n (end .p) (end .last .m) (end .last .ssr), refl)
 
 -- for every number of samples and all values
-pub ring-stands : (n : ℕ) (samples ringPhi : Row)
-    → let r = recordRing n samples ringPhi in StandsOn n (ring n samples ringPhi .answered .source) (withoutMean (r .fit)) (r .standing)
+pub ring-stands : (tables : List Table) → TablesHeld tables → (n : ℕ) (samples ringPhi : Row)
+    → let r = recordRing tables n samples ringPhi in StandsOn n (ring tables n samples ringPhi .answered .source) (withoutMean (r .fit)) (r .standing)
 unfolding recordRing
-ring-stands n samples ringPhi =
-    ring-each (λ (s : Start). StandsOn n (s .source) (s .fit) (s .standing)) n samples ringPhi
+ring-stands tables held n samples ringPhi =
+    ring-each (λ (s : Start). StandsOn n (s .source) (s .fit) (s .standing)) tables held n samples ringPhi
     (λ seed h m. start-stands n samples ringPhi seed (varianceOf n samples (meanOf n samples)))

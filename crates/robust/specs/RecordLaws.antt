@@ -2,6 +2,7 @@
 -- with which the last pass was made. Assumes nothing.
 use mathlib.Core.Path.{_≡_, refl, ap, _∙_}
 use mathlib.Core.Bool.{Bool, true, false, cond}
+use mathlib.Core.List.{List}
 use Prim.Native.Nat.{ℕ, _≤_}
 use native.Mathlib.Omega.{arith}
 use lib.Ieee.{Float}
@@ -15,6 +16,8 @@ use Rattle.solver.specs.SoundLaws.{Own, updates-own}
 use Rattle.solver_record.specs.declared.Params.{Params}
 use Rattle.solver_record.specs.declared.Started.{Started}
 use Rattle.solver_record.specs.declared.TwoAxisFit.{TwoAxisFit}
+use Rattle.seed_models.specs.Models.{Table}
+use Rattle.seed_models.specs.HeldLaws.{TablesHeld}
 use Rattle.robust_choice.specs.Choice.{Source, ofPass, ofSeed}
 use Rattle.robust_choice.specs.Record.{meanFrom}
 use Rattle.robust_choice.specs.Parts.{startedOf}
@@ -23,12 +26,12 @@ use Rattle.robust.specs.Record.{recordRing}
 use Rattle.robust.specs.SoundLaws.{ring-each}
 
 -- ---- for every number of samples and all values
-module _ (n : ℕ) (samples ringPhi : Row) where
-  pub ring-rust : withoutMean (recordRing n samples ringPhi .fit) ≡ fitRing n samples ringPhi
+module _ (tables : List Table) (n : ℕ) (samples ringPhi : Row) where
+  pub ring-rust : withoutMean (recordRing tables n samples ringPhi .fit) ≡ fitRing tables n samples ringPhi
   unfolding recordRing fitRing
   ring-rust = refl
 
-  pub ring-dropped : recordRing n samples ringPhi .fit .mean ≡ meanFrom (ring n samples ringPhi .answered .source)
+  pub ring-dropped : recordRing tables n samples ringPhi .fit .mean ≡ meanFrom (ring tables n samples ringPhi .answered .source)
   unfolding recordRing
   ring-dropped = refl
 
@@ -46,8 +49,9 @@ module _ (n : ℕ) (samples ringPhi : Row) where
       go true = omega arith
       go false = updates-own n samples (sines n ringPhi) (cosines n ringPhi) seed
 
-  pub ring-own : OwnPass (ring n samples ringPhi .answered .source)
-  ring-own = ring-each (λ s. OwnPass (s .source)) n samples ringPhi (λ seed h m. start-own seed (varianceOf n samples (meanOf n samples)))
+  pub ring-own : (tables : List Table) → TablesHeld tables → OwnPass (ring tables n samples ringPhi .answered .source)
+  ring-own tables held =
+      ring-each (λ s. OwnPass (s .source)) tables held n samples ringPhi (λ seed h m. start-own seed (varianceOf n samples (meanOf n samples)))
 
 -- ---- the code's start is the definition's, without what that was made of
 picked : (b : Bool) (seed : Params) (end : Final) → cond b (seed .mu) (end .p .mu) ≡ meanFrom (cond b (ofSeed seed) (ofPass end))

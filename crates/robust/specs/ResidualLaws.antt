@@ -3,6 +3,7 @@
 -- no NaN: what is added is never below zero, so no infinity meets one of the other sign. Assumes nothing.
 use mathlib.Core.Path.{_≡_, refl, sym, ap, _∙_, subst}
 use mathlib.Core.Bool.{Bool, true, false, cond, not, _&&_, _||_, true≢false, false≢true}
+use mathlib.Core.List.{List}
 use mathlib.Core.Logic.{inl, inr}
 use Prim.Native.Nat.{ℕ, zero, suc, _+_, _*_, _/_, _^_, _≤_, _<_}
 use native.Mathlib.Nat.{lt-of-lt-of-le, lt-irrefl, mul-pos, mul-le-mul-right, zero-lt-suc, zero-mul}
@@ -36,6 +37,8 @@ use Rattle.solver.specs.Solver.{sampleAt, Normal, empty, added, pass, Final, up
 use Rattle.solver.specs.Solver.{fitWithSeed}
 use Rattle.solver_record.specs.Fit.{degenerate, degenerateFit, finished, assembled}
 use Rattle.solver_record.specs.declared.Params.{Params}
+use Rattle.seed_models.specs.Models.{Table}
+use Rattle.seed_models.specs.HeldLaws.{TablesHeld}
 use Rattle.robust_choice.specs.Choice.{Source, ofPass, ofSeed}
 use Rattle.robust.specs.Robust.{negativeZero, total, deviations, meanOf, varianceOf, start, ring, sumOf, ringSum}
 use Rattle.robust.specs.Record.{recordRing}
@@ -270,24 +273,26 @@ start-summed n samples ringPhi seed centeredVar = go (degenerate (seed .amp) cen
     go true = omega arith
     go false = updates-good n samples (sines n ringPhi) (cosines n ringPhi) seed
 
--- of the answered start too, for every number of samples and all values
-ring-summed : (n : ℕ) (samples ringPhi : Row) → Summed (ring n samples ringPhi .answered .source)
-ring-summed n samples ringPhi =
-    ring-each (λ s. Summed (s .source)) n samples ringPhi (λ seed h m. start-summed n samples ringPhi seed (varianceOf n samples (meanOf n samples)))
+module _ (tables : List Table) (held : TablesHeld tables) where
+  -- of the answered start too, for every number of samples and all values
+  ring-summed : (n : ℕ) (samples ringPhi : Row) → Summed (ring tables n samples ringPhi .answered .source)
+  ring-summed n samples ringPhi =
+      ring-each (λ s. Summed (s .source)) tables held n samples ringPhi
+      (λ seed h m. start-summed n samples ringPhi seed (varianceOf n samples (meanOf n samples)))
 
-pub ring-sum-upright : (n : ℕ) (samples ringPhi : Row) (end : Final) → ring n samples ringPhi .answered .source ≡ ofPass end →
-    T (finite (end .last .ssr)) → T (fits binary32 (end .last .ssr)) × Upright (end .last .ssr)
-ring-sum-upright n samples ringPhi end e p =
-    let ssr = end .last .ssr in
-    let good = subst Summed e (ring-summed n samples ringPhi) in (good .0, level-upright ssr (finite-number ssr p) (good .1))
+  pub ring-sum-upright : (n : ℕ) (samples ringPhi : Row) (end : Final) → ring tables n samples ringPhi .answered .source ≡ ofPass end →
+      T (finite (end .last .ssr)) → T (fits binary32 (end .last .ssr)) × Upright (end .last .ssr)
+  ring-sum-upright n samples ringPhi end e p =
+      let ssr = end .last .ssr in
+      let good = subst Summed e (ring-summed n samples ringPhi) in (good .0, level-upright ssr (finite-number ssr p) (good .1))
 
--- for every number of samples and all values: what the answered rms was made of
-pub ring-made : (n : ℕ) (samples ringPhi : Row)
-    → MadeOf n (varianceOf n samples (meanOf n samples)) (recordRing n samples ringPhi .fit .rms) (ring n samples ringPhi .answered .source)
-unfolding recordRing
-ring-made n samples ringPhi =
-    let centeredVar = varianceOf n samples (meanOf n samples) in
-    ring-each (λ s. MadeOf n centeredVar (s .fit .rms) (s .source)) n samples ringPhi (λ seed h m. start-made n samples ringPhi seed centeredVar)
+  -- for every number of samples and all values: what the answered rms was made of
+  pub ring-made : (n : ℕ) (samples ringPhi : Row)
+      → MadeOf n (varianceOf n samples (meanOf n samples)) (recordRing tables n samples ringPhi .fit .rms) (ring tables n samples ringPhi .answered .source)
+  unfolding recordRing
+  ring-made n samples ringPhi =
+      let centeredVar = varianceOf n samples (meanOf n samples) in
+      ring-each (λ s. MadeOf n centeredVar (s .fit .rms) (s .source)) tables held n samples ringPhi (λ seed h m. start-made n samples ringPhi seed centeredVar)
 
 -- ---- n finite samples: an rms of 0
 module _ (n : ℕ) (share : Share n) where
@@ -304,14 +309,15 @@ module _ (n : ℕ) (share : Share n) where
       let low = nth-low n share dev p (max-low v (nth-number n share dev p (upright-number dev u)) root) in
       record { number = low .number; above = upright-above binary32 dev p u; small = low .small }
 
-  pub ring-tiny : (samples ringPhi : Row) → Finite n samples → eq (recordRing n samples ringPhi .fit .rms) nought ≡ true
-      → Tiny n (ringSum n samples ringPhi)
+  pub ring-tiny : (tables : List Table) → TablesHeld tables → (samples ringPhi : Row) → Finite n samples →
+      eq (recordRing tables n samples ringPhi .fit .rms) nought ≡ true
+      → Tiny n (ringSum tables n samples ringPhi)
   unfolding ringSum
-  ring-tiny samples ringPhi h z =
+  ring-tiny tables held samples ringPhi h z =
       let mean = meanOf n samples in
       let upright = deviations-upright n samples mean h (nth-number n share (total n samples) (total-fits n samples) (total-number n samples h)) in
-      made-tiny (deviations n samples mean) _ (ring n samples ringPhi .answered .source) (deviations-fit n samples mean) upright
-      (ring-summed n samples ringPhi) (ring-made n samples ringPhi) z
+      made-tiny (deviations n samples mean) _ (ring tables n samples ringPhi .answered .source) (deviations-fit n samples mean) upright
+      (ring-summed tables held n samples ringPhi) (ring-made tables held n samples ringPhi) z
 
 -- ---- an rms that is finite has a finite mean
 -- the last sample's residual is in the sum
@@ -363,11 +369,12 @@ module _ (n : ℕ) (share : Share n) where
       subst (λ (x : Float). T (finite x)) (sym same) (deviations-mean n samples mean (share .some) dev)
   made-finite samples ringPhi rms (ofSeed seed) u own (inr held) e t = held
 
-  pub finite-mean : (samples ringPhi : Row) → Finite n samples → T (finite (recordRing n samples ringPhi .fit .rms))
-      → T (finite (recordRing n samples ringPhi .fit .mean))
-  finite-mean samples ringPhi h t =
+  pub finite-mean : (tables : List Table) → TablesHeld tables → (samples ringPhi : Row) → Finite n samples →
+      let f = recordRing tables n samples ringPhi .fit in T (finite (f .rms)) → T (finite (f .mean))
+  finite-mean tables held samples ringPhi h t =
       let mean = meanOf n samples in
       let upright = deviations-upright n samples mean h (nth-number n share (total n samples) (total-fits n samples) (total-number n samples h)) in
-      let seeded = ring-each (λ s. Seeded mean (s .source)) n samples ringPhi (λ seed p m. start-seeded n samples ringPhi mean seed _ m) in
-      subst (λ (x : Float). T (finite x)) (sym (ring-dropped n samples ringPhi))
-      (made-finite samples ringPhi _ (ring n samples ringPhi .answered .source) upright (ring-own n samples ringPhi) seeded (ring-made n samples ringPhi) t)
+      let seeded = ring-each (λ s. Seeded mean (s .source)) tables held n samples ringPhi (λ seed p m. start-seeded n samples ringPhi mean seed _ m) in
+      let own = ring-own n samples ringPhi tables held in
+      subst (λ (x : Float). T (finite x)) (sym (ring-dropped tables n samples ringPhi))
+      (made-finite samples ringPhi _ (ring tables n samples ringPhi .answered .source) upright own seeded (ring-made tables held n samples ringPhi) t)

@@ -3,11 +3,12 @@
 use mathlib.Core.Path.{_≡_, refl}
 use mathlib.Core.Bool.{Bool, true, false, cond, _&&_, _||_}
 use mathlib.Core.Logic.{_⊎_, inl, inr}
+use mathlib.Core.List.{List, [], _∷_}
 use mathlib.Core.Option.{Option, none, some}
 use Prim.Native.Nat.{ℕ, _+_, _/_, _≤_}
 use native.Mathlib.Omega.{arith}
 use lib.Dec.{T}
-use lib.Ieee.{Float, binary32, lt}
+use lib.Ieee.{Float, binary32, lt, fits}
 use lib.Ieee.Scale.{finite}
 use lib.Ieee.Fits.{add-fits, mul-fits, div-fits}
 use Rattle.floats.specs.Ops.{_⊖_, _⊗_, _⊘_, lit, quarterPi}
@@ -21,13 +22,17 @@ use Rattle.solver_record.specs.Record.{withoutMean}
 use Rattle.solver_record.specs.FitLaws.{ParamsHeld, Sound}
 use Rattle.solver.specs.SoundLaws.{start-sound, start-most}
 use Rattle.solver_record.specs.declared.Params.{Params}
-use Rattle.seed.specs.Seed.{robustGridStepDeg, flat, kept, scored, scoreSeedPair, pairSums, insertSeedCandidate, secondHarmonic, harmonic}
+use Rattle.seed.specs.Seed.{robustGridStepDeg, flat, kept, seedFrom, scoredFrom, scored, scoreSeedPair, pairSums, insertSeedCandidate, secondHarmonic, harmonic}
 use Rattle.seed.specs.declared.Sums.{Sums}
 use Rattle.seed.specs.declared.Seed.{Seed}
 use Rattle.seed.specs.declared.Seed.the-variants.{Found, Nothing}
 use Rattle.seed.specs.declared.SeedCandidate.{SeedCandidate}
 use Rattle.robust_lanes.specs.Lanes.{inserted}
-use Rattle.robust_grid.specs.Grid.{gridAngle, gridRow, pairAt, pairsFrom, bestOf, bestSeed}
+use Rattle.robust_grid.specs.Grid.{gridAngle, gridRow, pairAt, pairsFrom, allPairs, tries, bestOf, bestSeed}
+use Rattle.seed_models.specs.Models.{SeedModel, Table, tableAt, firstTable, scoreCachedSeedModel, bestFrom, bestCached}
+use Rattle.seed_models.specs.HeldLaws.{All, AnglesHeld, TablesHeld, table-held}
+use Rattle.seed_models.specs.declared.Matched.{Matched}
+use Rattle.seed_models.specs.declared.Matched.the-variants.{At, Missing}
 use Rattle.robust_choice.specs.declared.RingFit.{RingFit}
 use Rattle.robust.specs.Robust as R
 use Rattle.robust_choice.specs.Choice.{Start, Ring, single, isLower, chosen}
@@ -52,17 +57,22 @@ kept-held s h = go (finite (s .rms)) (finite (s .amp)) (finite (s .mu)) refl
     go true false c e = omega arith
     go false b c e = omega arith
 
+from-held : (n css mean num qMean denom theta1 theta2 : Float) → T (fits binary32 theta1) → T (fits binary32 theta2)
+    → SeedHeld (seedFrom n css mean num qMean denom theta1 theta2)
+unfolding seedFrom
+from-held n css mean num qMean denom theta1 theta2 one two = kept-held _ (record { amp = div-fits binary32 num denom; one = one; two = two })
+
 scored-held : (n css mean : Float) (s : Sums) (a b : ℕ) → SeedHeld (scored n css mean s (gridAngle a) (gridAngle b))
-unfolding scored
+unfolding scored scoredFrom
 scored-held n css mean s a b =
-    let denom = s .«q2_sum» ⊖ s .«q_sum» ⊗ (s .«q_sum» ⊘ n) in
+    let qMean = s .«q_sum» ⊘ n in
+    let denom = s .«q2_sum» ⊖ s .«q_sum» ⊗ qMean in
     let step = toRadians robustGridStepDeg in
-    go (flat denom) _
-    (kept-held _ (record { amp = div-fits binary32 (s .num) denom; one = mul-fits binary32 (count a) step; two = mul-fits binary32 (count b) step }))
+    go (flat denom) _ (from-held n css mean (s .num) qMean denom _ _ (mul-fits binary32 (count a) step) (mul-fits binary32 (count b) step))
   where
-    go : (f : Bool) (c : SeedCandidate) → SeedHeld (kept c) → SeedHeld (cond f Nothing (kept c))
-    go true c h = omega arith
-    go false c h = h
+    go : (f : Bool) (x : Seed) → SeedHeld x → SeedHeld (cond f Nothing x)
+    go true x h = omega arith
+    go false x h = h
 
 insert-held : (top : Seed) (c : SeedCandidate) → SeedHeld top → Held c → SeedHeld (insertSeedCandidate top c)
 unfolding insertSeedCandidate
@@ -79,7 +89,7 @@ inserted-held top Nothing h g = h
 inserted-held top (Found c) h g = insert-held top c h g
 
 module _ (score : ℕ → ℕ → Seed) (sound : (a b : ℕ) → SeedHeld (score a b)) where
-  pair-held : (a b : ℕ) (top : Seed) → SeedHeld top → SeedHeld (pairAt score a b top)
+  pair-held : (a b : ℕ) (top : Seed) → SeedHeld top → SeedHeld (pairAt (tries score) a b top)
   unfolding pairAt
   pair-held a b top h = go (validPair (gridAngle a) (gridAngle b))
     where
@@ -87,18 +97,33 @@ module _ (score : ℕ → ℕ → Seed) (sound : (a b : ℕ) → SeedHeld (score
       go true = inserted-held top (score a b) h (sound a b)
       go false = h
 
-  pairs-held : (a : ℕ) (top : Seed) → SeedHeld top → SeedHeld (pairsFrom score a top)
+  pairs-held : (a : ℕ) (top : Seed) → SeedHeld top → SeedHeld (pairsFrom (tries score) a top)
   unfolding pairsFrom
-  pairs-held a top h = range-keeps SeedHeld (pairAt score a) top (a + 1) 23 h (λ b x g. pair-held a b x g)
+  pairs-held a top h = range-keeps SeedHeld (pairAt (tries score) a) top (a + 1) 23 h (λ b x g. pair-held a b x g)
 
   best-held : SeedHeld (bestOf score)
-  unfolding bestOf
-  best-held = iter-keeps SeedHeld (pairsFrom score) Nothing 23 (omega arith) (λ a x g. pairs-held a x g)
+  unfolding bestOf allPairs
+  best-held = iter-keeps SeedHeld (pairsFrom (tries score)) Nothing 23 (omega arith) (λ a x g. pairs-held a x g)
 
 seed-held : (n : ℕ) (sphi cphi centered : Row) (centeredSs mean : Float) → SeedHeld (bestSeed n sphi cphi centered centeredSs mean)
 unfolding bestSeed scoreSeedPair
 seed-held n sphi cphi centered centeredSs mean =
     best-held _ (λ a b. scored-held (count n) centeredSs mean (pairSums n centered (gridRow n sphi cphi a) (gridRow n sphi cphi b)) a b)
+
+-- the same of a table's models
+cached-held : (score : SeedModel → Seed) (top : Seed) (models : List SeedModel) → ((m : SeedModel) → AnglesHeld m → SeedHeld (score m))
+    → SeedHeld top → All AnglesHeld models → SeedHeld (bestFrom score top models)
+unfolding bestFrom
+cached-held score top [] sound h all = h
+cached-held score top (m ∷ models) sound h all =
+    cached-held score (inserted top (score m)) models sound (inserted-held top (score m) h (sound m (all .0))) (all .1)
+
+grid-held : (tables : List Table) (w : Matched) (n : ℕ) (ringPhi : Row) (mean : Float) (centered : Row) (centeredSs : Float) → TablesHeld tables
+    → SeedHeld (R.gridSeed tables w n ringPhi mean centered centeredSs)
+unfolding R.gridSeed bestCached scoreCachedSeedModel
+grid-held tables Missing n ringPhi mean centered centeredSs h = seed-held n (sines n ringPhi) (cosines n ringPhi) centered centeredSs mean
+grid-held tables (At t) n ringPhi mean centered centeredSs h =
+    cached-held _ Nothing (tableAt tables t .models) (λ m a. from-held _ _ _ _ _ _ _ _ (a .0) (a .1)) (omega arith) (table-held tables t h)
 
 -- a first seed has the mean of the samples, and one of the grid a mean that is finite
 abbrev pub MeanHeld : Float → Params → Type 0
@@ -119,7 +144,7 @@ module _ (P : Start → Type 0) where
       go true = k
       go false = h
 
-  module _ (n : ℕ) (samples ringPhi : Row) where
+  module _ (tables : List Table) (held : TablesHeld tables) (n : ℕ) (samples ringPhi : Row) where
     abbrev mean : Float
     mean = R.meanOf n samples
 
@@ -143,19 +168,19 @@ module _ (P : Start → Type 0) where
       refined-each Nothing h = omega arith
       refined-each (Found s) h = all (R.seeded s) (h .0) (inr (h .1))
 
-      grid-each : Each (R.robustGridFit n samples ringPhi mean centeredVar)
-      unfolding R.robustGridFit
+      grid-each : Each (R.robustGridFit tables n samples ringPhi mean centeredVar)
+      unfolding R.robustGridFit R.gridFitBy
       grid-each =
           let centered = R.centeredOf n samples mean in
           let centeredSs = R.squares n centered in
-          let held = seed-held n (sines n ringPhi) (cosines n ringPhi) centered centeredSs mean in
-          go (lt centeredVar (lit 0x3586_37bd) || flat centeredSs) _ (refined-each _ held)
+          let seed = grid-held tables (firstTable n tables ringPhi) n ringPhi mean centered centeredSs held in
+          go (lt centeredVar (lit 0x3586_37bd) || flat centeredSs) _ (refined-each _ seed)
         where
           go : (b : Bool) (o : Option Start) → Each o → Each (cond b none o)
           go true o h = omega arith
           go false o h = h
 
-      pub ring-each : P (R.ring n samples ringPhi .answered)
+      pub ring-each : P (R.ring tables n samples ringPhi .answered)
       unfolding R.ring
       ring-each = go (R.fitIsSuspicious (primary .fit)) _ (chosen-each primary _ primary-each grid-each)
         where
@@ -190,25 +215,26 @@ pub record SoundRing (r : RingFit) : Type 0 where
   pub bill : Billed r
 
 -- for every number of samples and all values, non-numbers included
-module _ (n : ℕ) (samples ringPhi : Row) where
+module _ (tables : List Table) (held : TablesHeld tables) (n : ℕ) (samples ringPhi : Row) where
   few : (seed : Params) → ParamsHeld seed → MeanHeld (R.meanOf n samples) seed
       → Few (R.start n samples ringPhi seed (R.varianceOf n samples (R.meanOf n samples)))
   unfolding R.start
   few seed h m = start-most n samples ringPhi seed _
 
-  ring-billed : Billed (ringFitOf (R.ring n samples ringPhi))
+  ring-billed : Billed (ringFitOf (R.ring tables n samples ringPhi))
   unfolding R.ring
   ring-billed =
-      let one = primary-each Few n samples ringPhi few in
-      let two = grid-each Few n samples ringPhi few in
-      let f = primary Few n samples ringPhi in
-      let o = R.robustGridFit n samples ringPhi (mean Few n samples ringPhi) (centeredVar Few n samples ringPhi) in
+      let one = primary-each Few tables held n samples ringPhi few in
+      let two = grid-each Few tables held n samples ringPhi few in
+      let f = primary Few tables held n samples ringPhi in
+      let o = R.robustGridFit tables n samples ringPhi (mean Few tables held n samples ringPhi) (centeredVar Few tables held n samples ringPhi) in
       go (R.fitIsSuspicious (f .fit)) (chosen f o) (single f) (chosen-billed f o one two) (single-billed f one)
     where
       go : (b : Bool) (x y : Ring) → Billed (ringFitOf x) → Billed (ringFitOf y) → Billed (ringFitOf (cond b x y))
       go true x y h k = h
       go false x y h k = k
 
-  pub ring-sound : SoundRing (recordRing n samples ringPhi)
+  pub ring-sound : SoundRing (recordRing tables n samples ringPhi)
   unfolding recordRing R.start
-  ring-sound = record { fit = ring-each (λ s. Sound (s .fit)) n samples ringPhi (λ seed h m. start-sound n samples ringPhi seed _ h); bill = ring-billed }
+  ring-sound =
+      record { fit = ring-each (λ s. Sound (s .fit)) tables held n samples ringPhi (λ seed h m. start-sound n samples ringPhi seed _ h); bill = ring-billed }

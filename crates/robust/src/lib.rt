@@ -4,11 +4,14 @@ use robust_choice::RingFit;
 use robust_choice::Second;
 use seed::Harmonic;
 use seed::Seed;
+use seed_models::Matched;
 use solver_record::Params;
 use solver_record::Started;
 use solver_record::TwoAxisFit;
 ghost use mathlib.Core.Path.{_≡_};
 ghost use mathlib.Core.Bool.{true};
+ghost use mathlib.Core.List.{[]};
+ghost use Prim.Native.Nat.{_*_, _<_};
 ghost use lib.ListN.{length};
 ghost use Rattle.solver_record.specs.Record.{withoutMean};
 ghost use Rattle.solver.specs.Record.{recordWithSeed};
@@ -17,6 +20,7 @@ ghost use Rattle.robust.specs.Robust as R;
 ghost use Rattle.robust.specs.Record.{recordRing};
 ghost use Rattle.robust_choice.specs.Parts.{secondOf};
 ghost use Rattle.robust.specs.Parts as P;
+ghost use Rattle.seed_models.specs.Words as W;
 
 const AMP_FLOOR: f32 = 1.0;
 
@@ -156,7 +160,30 @@ fn refined(
     Second::Made(f)
 }
 
-// The start behind the grid, the sines and cosines at hand: `js` holds the centred samples until the fit takes it.
+// The sum of squares of the centred samples, or that the grid is not worth its search.
+pub enum Centered {
+    Sum(f32),
+    Flat,
+}
+
+// `js` holds the centred samples until the fit takes it.
+fn centered_sum(samples: &[f32], mean: f32, centered_var: f32, js: &mut [f32]) -> Centered
+    requires { ⌜ length (now js) ≡ 4 * length (now samples) ⌝ }
+    ensures { λ r. ⌜ P.CenteredIn (length (now (samples .entry))) (now (samples .entry)) mean «centered_var» (now (js .exit)) r ⌝ }
+{
+    if centered_var < 1e-6 {
+        return Centered::Flat;
+    }
+    let n = samples.len();
+    center(samples, mean, &mut js[0..n]);
+    let s = squares(&js[0..n]);
+    if seed::is_flat(s) {
+        return Centered::Flat;
+    }
+    Centered::Sum(s)
+}
+
+// The start behind the grid, the sines and cosines at hand.
 fn grid_fit(
     samples: &[f32],
     ring_phi: &[f32],
@@ -168,20 +195,39 @@ fn grid_fit(
     h: &mut [f32],
 ) -> Second
     requires { ⌜ P.Ready (now samples) (now «ring_phi») (now sphi) (now cphi) (now js) × P.Rows (now samples) (now h) ⌝ }
-    ensures { λ r. ⌜ r ≡ secondOf (R.robustGridFit (length (now (samples .entry))) (now (samples .entry)) (now («ring_phi» .entry))
+    ensures { λ r. ⌜ r ≡ secondOf (R.robustGridFit [] (length (now (samples .entry))) (now (samples .entry)) (now («ring_phi» .entry))
         mean «centered_var») ⌝ }
 {
-    if centered_var < 1e-6 {
+    let Centered::Sum(centered_ss) = centered_sum(samples, mean, centered_var, js) else {
         return Second::Missing;
-    }
-    let n = samples.len();
-    center(samples, mean, &mut js[0..n]);
-    let centered_ss = squares(&js[0..n]);
-    if seed::is_flat(centered_ss) {
-        return Second::Missing;
-    }
+    };
     robust_grid::fill_grid(sphi, cphi, h);
-    let top = robust_grid::best_seed(h, &js[0..n], centered_ss, mean);
+    let n = samples.len();
+    let top = seed_models::best_seed(h, false, &js[0..n], centered_ss, mean);
+    refined(samples, ring_phi, centered_var, top, sphi, cphi, js)
+}
+
+// The start behind a table's models: robust_grid_fit_cached.
+fn cached_fit(
+    table: &[f32],
+    samples: &[f32],
+    ring_phi: &[f32],
+    mean: f32,
+    centered_var: f32,
+    sphi: &[f32],
+    cphi: &[f32],
+    js: &mut [f32],
+) -> Second
+    requires { ⌜ (length (now table) ≡ W.tableSize) × (length (now samples) ≡ W.ringSamples)
+        × P.Ready (now samples) (now «ring_phi») (now sphi) (now cphi) (now js) ⌝ }
+    ensures { λ r. ⌜ r ≡ secondOf (R.gridFitBy (P.cachedSeed (now (table .entry)) mean) W.ringSamples (now (samples .entry)) (now («ring_phi» .entry))
+        mean «centered_var») ⌝ }
+{
+    let Centered::Sum(centered_ss) = centered_sum(samples, mean, centered_var, js) else {
+        return Second::Missing;
+    };
+    let n = samples.len();
+    let top = seed_models::best_seed(table, true, &js[0..n], centered_ss, mean);
     refined(samples, ring_phi, centered_var, top, sphi, cphi, js)
 }
 
@@ -216,7 +262,7 @@ pub fn robust_grid_fit(
     h: &mut [f32],
 ) -> Second
     requires { ⌜ P.Lent (now samples) (now «ring_phi») (now sphi) (now cphi) (now js) × P.Rows (now samples) (now h) ⌝ }
-    ensures { λ r. ⌜ r ≡ secondOf (R.robustGridFit (length (now (samples .entry))) (now (samples .entry)) (now («ring_phi» .entry))
+    ensures { λ r. ⌜ r ≡ secondOf (R.robustGridFit [] (length (now (samples .entry))) (now (samples .entry)) (now («ring_phi» .entry))
         mean «centered_var») ⌝ }
 {
     let n = ring_phi.len();
@@ -303,7 +349,7 @@ fn with_grid(
     h: &mut [f32],
 ) -> RingFit
     requires { ⌜ P.Ready (now samples) (now «ring_phi») (now sphi) (now cphi) (now js) × P.Rows (now samples) (now h) ⌝ }
-    ensures { λ r. ⌜ P.WithGrid (now (samples .entry)) (now («ring_phi» .entry)) f r ⌝ }
+    ensures { λ r. ⌜ P.WithGrid [] (now (samples .entry)) (now («ring_phi» .entry)) f r ⌝ }
 {
     let s = grid_fit(samples, ring_phi, f.mean, f.centered_var, sphi, cphi, js, h);
     robust_choice::chosen(f.primary, s)
@@ -319,7 +365,7 @@ fn with_grid_16(
     js: &mut [f32],
 ) -> RingFit
     requires { ⌜ (length (now samples) ≡ 16) × P.Ready (now samples) (now «ring_phi») (now sphi) (now cphi) (now js) ⌝ }
-    ensures { λ r. ⌜ P.WithGrid (now (samples .entry)) (now («ring_phi» .entry)) f r ⌝ }
+    ensures { λ r. ⌜ P.WithGrid [] (now (samples .entry)) (now («ring_phi» .entry)) f r ⌝ }
 {
     let mut h = [0.0f32; GRID_16];
     with_grid(samples, ring_phi, f, sphi, cphi, js, &mut h)
@@ -334,7 +380,7 @@ fn with_grid_24(
     js: &mut [f32],
 ) -> RingFit
     requires { ⌜ (length (now samples) ≡ 24) × P.Ready (now samples) (now «ring_phi») (now sphi) (now cphi) (now js) ⌝ }
-    ensures { λ r. ⌜ P.WithGrid (now (samples .entry)) (now («ring_phi» .entry)) f r ⌝ }
+    ensures { λ r. ⌜ P.WithGrid [] (now (samples .entry)) (now («ring_phi» .entry)) f r ⌝ }
 {
     let mut h = [0.0f32; GRID_24];
     with_grid(samples, ring_phi, f, sphi, cphi, js, &mut h)
@@ -344,7 +390,7 @@ fn with_grid_24(
 // samples, so each number has its own two functions, and all that they call serves both.
 pub fn fit_ring(samples: &[f32], ring_phi: &[f32]) -> RingFit
     requires { ⌜ (length (now samples) ≡ 16) × (length (now «ring_phi») ≡ 16) ⌝ }
-    ensures { λ r. ⌜ r ≡ recordRing (length (now (samples .entry))) (now (samples .entry)) (now («ring_phi» .entry)) ⌝ }
+    ensures { λ r. ⌜ r ≡ recordRing [] (length (now (samples .entry))) (now (samples .entry)) (now («ring_phi» .entry)) ⌝ }
 {
     let mut sphi = [0.0f32; 16];
     let mut cphi = [0.0f32; 16];
@@ -357,10 +403,76 @@ pub fn fit_ring(samples: &[f32], ring_phi: &[f32]) -> RingFit
     robust_choice::alone(primary)
 }
 
+// The answer behind a suspicious first start, by the table t.
+fn with_table(
+    words: &[f32],
+    t: usize,
+    samples: &[f32],
+    ring_phi: &[f32],
+    f: First,
+    sphi: &[f32],
+    cphi: &[f32],
+    js: &mut [f32],
+) -> RingFit
+    requires { ⌜ (length (now words) ≡ W.stateSize) × (t < W.mostTables) × (length (now samples) ≡ W.ringSamples)
+        × P.Ready (now samples) (now «ring_phi») (now sphi) (now cphi) (now js) ⌝ }
+    ensures { λ r. ⌜ P.WithTable (W.tablePart (now (words .entry)) t) (now (samples .entry)) (now («ring_phi» .entry)) f r ⌝ }
+{
+    let b = 1 + t * seed_models::TABLE_SIZE;
+    let e = b + seed_models::TABLE_SIZE;
+    let s = cached_fit(
+        &words[b..e],
+        samples,
+        ring_phi,
+        f.mean,
+        f.centered_var,
+        sphi,
+        cphi,
+        js,
+    );
+    robust_choice::chosen(f.primary, s)
+}
+
+// The same with all tables that the words hold: a ring whose angles are near a table's has its second seed from the first.
+fn with_tables(
+    words: &[f32],
+    samples: &[f32],
+    ring_phi: &[f32],
+    f: First,
+    sphi: &[f32],
+    cphi: &[f32],
+    js: &mut [f32],
+) -> RingFit
+    requires { ⌜ (length (now words) ≡ W.stateSize) × (length (now samples) ≡ 16)
+        × P.Ready (now samples) (now «ring_phi») (now sphi) (now cphi) (now js) ⌝ }
+    ensures { λ r. ⌜ P.WithGrid (W.tablesIn (now (words .entry))) (now (samples .entry)) (now («ring_phi» .entry)) f r ⌝ }
+{
+    let Matched::At(t) = seed_models::first_table(words, ring_phi) else {
+        return with_grid_16(samples, ring_phi, f, sphi, cphi, js);
+    };
+    with_table(words, t, samples, ring_phi, f, sphi, cphi, js)
+}
+
+pub fn fit_ring_with(words: &[f32], samples: &[f32], ring_phi: &[f32]) -> RingFit
+    requires { ⌜ (length (now words) ≡ W.stateSize) × (length (now samples) ≡ 16) × (length (now «ring_phi») ≡ 16) ⌝ }
+    ensures { λ r. ⌜ r ≡ recordRing (W.tablesIn (now (words .entry))) (length (now (samples .entry))) (now (samples .entry))
+        (now («ring_phi» .entry)) ⌝ }
+{
+    let mut sphi = [0.0f32; 16];
+    let mut cphi = [0.0f32; 16];
+    let mut js = [0.0f32; 64];
+    let f = first_start(samples, ring_phi, &mut sphi, &mut cphi, &mut js);
+    let primary = f.primary;
+    if fit_is_suspicious(primary.fit) {
+        return with_tables(words, samples, ring_phi, f, &sphi, &cphi, &mut js);
+    }
+    robust_choice::alone(primary)
+}
+
 // The fit of 24 samples: ours, without a counterpart in the Rust.
 pub fn fit_ring24(samples: &[f32], ring_phi: &[f32]) -> RingFit
     requires { ⌜ (length (now samples) ≡ 24) × (length (now «ring_phi») ≡ 24) ⌝ }
-    ensures { λ r. ⌜ r ≡ recordRing (length (now (samples .entry))) (now (samples .entry)) (now («ring_phi» .entry)) ⌝ }
+    ensures { λ r. ⌜ r ≡ recordRing [] (length (now (samples .entry))) (now (samples .entry)) (now («ring_phi» .entry)) ⌝ }
 {
     let mut sphi = [0.0f32; 24];
     let mut cphi = [0.0f32; 24];

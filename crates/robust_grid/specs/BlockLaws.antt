@@ -1,82 +1,81 @@
 -- A turn over four pairs: a lane's mean square is that of its pair, so a skipped lane changes nothing, and past the last allowed pair the turns are idle.
--- Assumes nothing.
-use mathlib.Core.Path.{_≡_, sym, ap, _∙_, subst}
-use mathlib.Core.Bool.{true}
-use Prim.Native.Nat.{ℕ, _+_, _≤_, _<_}
+-- From the grid's sums the lanes are those of the definition. Assumes nothing.
+use mathlib.Core.Path.{_≡_, refl, sym, ap, _∙_, subst}
+use mathlib.Core.Bool.{true, false, cond}
+use Prim.Native.Nat.{ℕ, zero, suc, _+_, _-_, _≤_, _<_}
 use native.Mathlib.Omega.{arith}
+use borrow.Author.Tests.{lt-leb, leb-false}
+use lib.Dec.{leb, eqb·suc-zero, lit≤}
 use lib.ListN.{length}
 use lib.Ieee.{Float, le}
 use Rattle.floats.specs.Rows.{Row, at, count}
-use Rattle.loops.specs.Loops.{range}
-use Rattle.loops.specs.IterLaws.{range-start, range-more, range-idle}
+use Rattle.loops.specs.Loops.{iter}
+use Rattle.loops.specs.IterLaws.{iter-same, iter-idle}
 use Rattle.seed.specs.Seed.{scored}
-use Rattle.seed.specs.declared.Sums.{Sums}
 use Rattle.seed.specs.declared.Seed.{Seed}
-use Rattle.robust_lanes.specs.declared.Lanes.{Lanes}
-use Rattle.robust_lanes.specs.Lanes.{inserted, sumsAt, laneSums, meanSquare, meanSquares, Squared, BestBound}
+use Rattle.robust_lanes.specs.declared.Models.{Models}
+use Rattle.robust_lanes.specs.Lanes.{inserted, laneSums, modelsOf, meanSquare, meanSquares, Squared, BestBound}
 use Rattle.robust_lanes.specs.LaneLaws.{four-at}
 use Rattle.robust_lanes.specs.SkipLaws.{scored-squared, skipped}
-use Rattle.robust_grid.specs.Grid.{gridAngle}
-use Rattle.robust_grid.specs.Places.{lastOf, stepAt, scoreAt}
-use Rattle.robust_grid.specs.PairLaws.{step-none, step-some}
+use Rattle.robust_grid.specs.declared.Pair.{Pair}
+use Rattle.robust_grid.specs.Grid.{tries}
+use Rattle.robust_grid.specs.Places.{lastOf, laneScore, lanesTried, stepAt, blockSteps, scoreAt}
 
--- ---- the turns
-module _ (score : ℕ → ℕ → Seed) (a b : ℕ) (top₀ : Seed) where
-  pub block-starts : top₀ ≡ range (stepAt score a) top₀ b (b + 0)
-  block-starts = let z : b + 0 ≡ b = omega arith in rw (z, range-start)
+pub last-most : (a : ℕ) → lastOf a ≤ 22
+last-most zero = lit≤ tt
+last-most (suc a) = rw (eqb·suc-zero a) (lit≤ tt)
 
-  pub block-more : (k : ℕ) (top next : Seed) → top ≡ range (stepAt score a) top₀ b (b + k) → next ≡ stepAt score a (b + k) top
-      → next ≡ range (stepAt score a) top₀ b (b + (k + 1))
-  block-more k top next e h =
-      let z : b + (k + 1) ≡ b + k + 1 = omega arith in
-      rw z (range-more (stepAt score a) top₀ top next b (b + k) (omega arith) e h)
+-- ---- the lanes of four pairs
+module _ (n centeredSs mean : Float) (m : Models) (p : Pair) where
+  abbrev pub laneStep : ℕ → Seed → Seed
+  laneStep k top = cond (leb (p .b + k) (lastOf (p .a))) (inserted top (laneScore n centeredSs mean m p k)) top
 
-  pub block-ends : (k : ℕ) (top : Seed) → k ≤ 4 → lastOf a < b + k → top ≡ range (stepAt score a) top₀ b (b + k) → top ≡ range (stepAt score a) top₀ b (b + 4)
-  block-ends k top l h e =
-      e ∙ sym (range-idle (stepAt score a) top₀ b (b + k) (b + 4) (omega arith) (omega arith) (λ i j m x. step-none score a i (omega arith) x))
+  -- past the last pair nothing is left
+  pub lanes-end : (k : ℕ) (top₀ top : Seed) → k ≤ 4 → leb (p .b + k) (lastOf (p .a)) ≡ false → top ≡ iter laneStep top₀ k
+      → top ≡ lanesTried n centeredSs mean m p top₀
+  unfolding lanesTried
+  lanes-end k top₀ top l t e =
+      let z : k + (4 - k) ≡ 4 = omega arith in
+      let past = leb-false (p .b + k) (lastOf (p .a)) t in
+      let idle = iter-idle laneStep top₀ k (4 - k) (λ i h x. off i x (lt-leb (p .b + i) (lastOf (p .a)) (omega (arith, past)))) in
+      e ∙ sym (rw z at idle)
+    where
+      off : (i : ℕ) (x : Seed) → leb (p .b + i) (lastOf (p .a)) ≡ false → laneStep i x ≡ x
+      off i x t = rw t
 
--- ---- the lane k
-module _ (centered h : Row) (centeredSs mean n : Float) (a b : ℕ) (s : Lanes) (xs : Row) (es : s ≡ laneSums (length centered) centered h a b)
-    (ex : xs ≡ meanSquares s n centeredSs) (en : n ≡ count (length centered)) (k : ℕ) (l : k < 4) where
-  abbrev sums : Sums
-  sums = sumsAt (length centered) centered h a (b + k)
+  module _ (xs : Row) (ex : xs ≡ meanSquares m n centeredSs) (k : ℕ) (l : k < 4) where
+    pub lane-squared : Squared (at xs k) (laneScore n centeredSs mean m p k)
+    lane-squared =
+        let is = ap (λ (r : Row). at r k) ex ∙ four-at (λ k. meanSquare n centeredSs (at (m .num) k) (at (m .denom) k)) k l in
+        subst (λ (x : Float). Squared x (laneScore n centeredSs mean m p k)) (sym is) (scored-squared n centeredSs mean _ _ _ _ _)
 
-  abbrev score : Seed
-  score = scoreAt (length centered) h centered centeredSs mean a (b + k)
+    pub lane-skipped : (top : Seed) (bound : Float) → leb (p .b + k) (lastOf (p .a)) ≡ true → BestBound top bound → le bound (at xs k) ≡ true
+        → top ≡ laneStep k top
+    lane-skipped top bound t q h = rw t (sym (skipped top (laneScore n centeredSs mean m p k) bound (at xs k) q lane-squared h))
 
-  lane-is : _≡_ {A = Sums} (record { «q_sum» = at (s .«q_sum») k; «q2_sum» = at (s .«q2_sum») k; num = at (s .num) k }) sums
-  unfolding laneSums
-  lane-is =
-      rw (
-        es,
-        four-at (λ k. sumsAt (length centered) centered h a (b + k) .«q_sum») k l,
-        four-at (λ k. sumsAt (length centered) centered h a (b + k) .«q2_sum») k l,
-        four-at (λ k. sumsAt (length centered) centered h a (b + k) .num) k l,
-      )
+  pub lane-tried : (k : ℕ) (top next c : Seed) → leb (p .b + k) (lastOf (p .a)) ≡ true → c ≡ laneScore n centeredSs mean m p k → next ≡ inserted top c
+      → next ≡ laneStep k top
+  lane-tried k top next c t e d = rw t (d ∙ ap (inserted top) e)
 
-  pub lane-scored : (c : Seed) (theta1 theta2 : Float)
-      → c ≡ scored n centeredSs mean (record { «q_sum» = at (s .«q_sum») k; «q2_sum» = at (s .«q2_sum») k; num = at (s .num) k }) theta1 theta2
-      → theta1 ≡ gridAngle a → theta2 ≡ gridAngle (b + k) → c ≡ score
-  unfolding scoreAt
-  lane-scored c theta1 theta2 e e1 e2 = rw (← lane-is, ← en, ← e1, ← e2) e
+-- ---- the lanes that the grid's sums bring
+module _ (h centered : Row) (centeredSs mean : Float) (p : Pair) where
+  abbrev n : ℕ
+  n = length centered
 
-  square-is : at xs k ≡ meanSquare (count (length centered)) centeredSs (sums .«q_sum») (sums .«q2_sum») (sums .num)
-  square-is =
-      ap (λ (r : Row). at r k) ex ∙ four-at (λ k. meanSquare n centeredSs (at (s .«q_sum») k) (at (s .«q2_sum») k) (at (s .num) k)) k l
-      ∙ ap (λ (t : Sums). meanSquare n centeredSs (t .«q_sum») (t .«q2_sum») (t .num)) lane-is
-      ∙ ap (λ (x : Float). meanSquare x centeredSs (sums .«q_sum») (sums .«q2_sum») (sums .num)) en
+  abbrev lanes : Models
+  lanes = modelsOf (laneSums n centered h (p .a) (p .b)) (count n)
 
-  pub lane-squared : Squared (at xs k) score
-  unfolding scoreAt
-  lane-squared =
-      let squared = scored-squared (count (length centered)) centeredSs mean sums (gridAngle a) (gridAngle (b + k)) in
-      subst (λ (x : Float). Squared x score) (sym square-is) squared
+  lane-is : (k : ℕ) → k < 4 → laneScore (count n) centeredSs mean lanes p k ≡ scoreAt n h centered centeredSs mean (p .a) (p .b + k)
+  unfolding scoreAt scored laneSums
+  lane-is zero l = refl
+  lane-is (suc zero) l = refl
+  lane-is (suc (suc zero)) l = refl
+  lane-is (suc (suc (suc zero))) l = refl
+  lane-is (suc (suc (suc (suc k)))) l = absurd (none k l)
+    where
+      none : (k : ℕ) → suc (suc (suc (suc k))) < 4 → ⊥
+      none k l = omega arith
 
-  pub lane-skipped : (top : Seed) (bound : Float) → BestBound top bound → le bound (at xs k) ≡ true → b + k ≤ lastOf a
-      → top ≡ stepAt (scoreAt (length centered) h centered centeredSs mean) a (b + k) top
-  lane-skipped top bound q t m =
-      sym (step-some (scoreAt (length centered) h centered centeredSs mean) a (b + k) m top ∙ skipped top score bound (at xs k) q lane-squared t)
-
-  pub lane-tried : (top next c : Seed) → b + k ≤ lastOf a → c ≡ score → next ≡ inserted top c
-      → next ≡ stepAt (scoreAt (length centered) h centered centeredSs mean) a (b + k) top
-  lane-tried top next c m e d = d ∙ ap (inserted top) e ∙ sym (step-some (scoreAt (length centered) h centered centeredSs mean) a (b + k) m top)
+  pub grid-lanes : (top : Seed) → lanesTried (count n) centeredSs mean lanes p top ≡ blockSteps (tries (scoreAt n h centered centeredSs mean)) p top
+  unfolding lanesTried blockSteps stepAt
+  grid-lanes top = iter-same _ _ top 4 (λ k l x. rw (lane-is k l))

@@ -28,16 +28,23 @@ factor s c t = tanh (tanhBeta ⊗ (s ⊗ t .c ⊖ c ⊗ t .s))
 unfoldable pub gridRow : ℕ → Row → Row → ℕ → Row
 gridRow n sphi cphi a = tab (λ i. factor (at sphi i) (at cphi i) (sinCos (gridAngle a))) n
 
--- `score a b` is the score of a pair; all allowed pairs in their order
-module _ (score : ℕ → ℕ → Seed) where
-  unfoldable pub pairAt : ℕ → ℕ → Seed → Seed
-  pairAt a b top = cond (validPair (gridAngle a) (gridAngle b)) (inserted top (score a b)) top
+-- all allowed pairs in their order, with `step a b` for each
+module _ {A : Type 0} (step : ℕ → ℕ → A → A) where
+  unfoldable pub pairAt : ℕ → ℕ → A → A
+  pairAt a b x = cond (validPair (gridAngle a) (gridAngle b)) (step a b x) x
 
-  unfoldable pub pairsFrom : ℕ → Seed → Seed
-  pairsFrom a top = range (pairAt a) top (a + 1) robustGridSteps
+  unfoldable pub pairsFrom : ℕ → A → A
+  pairsFrom a x = range (pairAt a) x (a + 1) robustGridSteps
 
-  unfoldable pub bestOf : Seed
-  bestOf = iter pairsFrom Nothing robustGridSteps
+  unfoldable pub allPairs : A → A
+  allPairs x = iter pairsFrom x robustGridSteps
+
+-- `score a b` is the score of a pair
+abbrev pub tries : (ℕ → ℕ → Seed) → ℕ → ℕ → Seed → Seed
+tries score a b top = inserted top (score a b)
+
+unfoldable pub bestOf : (ℕ → ℕ → Seed) → Seed
+bestOf score = allPairs (tries score) Nothing
 
 -- the seed of least residual, the earlier on a tie
 unfoldable pub bestSeed : ℕ → Row → Row → Row → Float → Float → Seed

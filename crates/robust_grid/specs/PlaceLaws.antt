@@ -11,28 +11,27 @@ use lib.Ieee.{Float, nan}
 use Rattle.floats.specs.Rows.{Row, at}
 use Rattle.elementary.specs.Elementary.{sinCos}
 use Rattle.elementary.specs.declared.SinCos.{SinCos}
-use Rattle.loops.specs.Loops.{tab}
 use Rattle.loops.specs.IterLaws.{iter-same, range-same}
 use Rattle.loops.specs.TabLaws.{tab-length, tab-at, tab-same, part-kept, part-same}
 use Rattle.seed.specs.Seed.{zeros, pairSums, scoreSeedPair}
 use Rattle.seed.specs.declared.Seed.{Seed}
 use Rattle.seed.specs.declared.Seed.the-variants.{Nothing}
-use Rattle.robust_grid.specs.Grid.{gridAngle, factor, gridRow, pairAt, pairsFrom, bestOf, bestSeed}
+use Rattle.robust_grid.specs.Grid.{gridAngle, factor, gridRow, pairAt, pairsFrom, allPairs, tries, bestOf, bestSeed}
 use Rattle.robust_grid.specs.Places.{Axes, rowFrom, sampleRow, sampleRowAt, Grid, scoreAt}
 use Rattle.robust_lanes.specs.Lanes.{gridPlaces, sumsAt}
 
 -- ---- scores that agree on the grid have the same best
 module _ (f g : ℕ → ℕ → Seed) (h : (a b : ℕ) → a < 23 → b < 23 → f a b ≡ g a b) where
-  pair-same : (a b : ℕ) → a < 23 → b < 23 → (top : Seed) → pairAt f a b top ≡ pairAt g a b top
+  pair-same : (a b : ℕ) → a < 23 → b < 23 → (top : Seed) → pairAt (tries f) a b top ≡ pairAt (tries g) a b top
   unfolding pairAt
   pair-same a b x y top = rw (h a b x y)
 
-  pairs-same : (a : ℕ) → a < 23 → (top : Seed) → pairsFrom f a top ≡ pairsFrom g a top
+  pairs-same : (a : ℕ) → a < 23 → (top : Seed) → pairsFrom (tries f) a top ≡ pairsFrom (tries g) a top
   unfolding pairsFrom
   pairs-same a x top = range-same _ _ top (a + 1) 23 (λ b l y s. pair-same a b x y s)
 
   best-same : bestOf f ≡ bestOf g
-  unfolding bestOf
+  unfolding bestOf allPairs
   best-same = iter-same _ _ Nothing 23 (λ a l top. pairs-same a l top)
 
 -- ---- a sample's row
@@ -68,14 +67,14 @@ module _ {sphi cphi : Row} where
       sym (getD-drop (i * gridPlaces) h a nan) ∙ sym (getD-take gridPlaces (drop (i * gridPlaces) h) a nan b) ∙ ap (λ (r : Row). at r a) (g .row i l)
       ∙ tab-at (λ a. factor (at sphi i) (at cphi i) (sinCos (gridAngle a))) nan gridPlaces a b
 
+  pub grid-at : {h : Row} {n : ℕ} → Grid sphi cphi h n → (a : ℕ) → a < 23 → (i : ℕ) → i < n → at h (i * gridPlaces + a) ≡ at (gridRow n sphi cphi a) i
+  unfolding gridRow
+  grid-at {h} {n} g a x i l = place g i l a (omega arith) ∙ sym (tab-at (λ i. factor (at sphi i) (at cphi i) (sinCos (gridAngle a))) nan n i l)
+
   module _ {h : Row} {n : ℕ} (g : Grid sphi cphi h n) (centered : Row) where
     sums-same : (a b : ℕ) → a < 23 → b < 23 → sumsAt n centered h a b ≡ pairSums n centered (gridRow n sphi cphi a) (gridRow n sphi cphi b)
-    unfolding sumsAt pairSums gridRow
-    sums-same a b x y = iter-same _ _ zeros n (λ i l s. rw (at-row a x i l, at-row b y i l))
-      where
-        at-row : (a : ℕ) → a < 23 → (i : ℕ) → i < n
-            → at h (i * gridPlaces + a) ≡ at (tab (λ i. factor (at sphi i) (at cphi i) (sinCos (gridAngle a))) n) i
-        at-row a x i l = place g i l a (omega arith) ∙ sym (tab-at (λ i. factor (at sphi i) (at cphi i) (sinCos (gridAngle a))) nan n i l)
+    unfolding sumsAt pairSums
+    sums-same a b x y = iter-same _ _ zeros n (λ i l s. rw (grid-at g a x i l, grid-at g b y i l))
 
     pub grid-best : (centeredSs mean : Float) → bestOf (scoreAt n h centered centeredSs mean) ≡ bestSeed n sphi cphi centered centeredSs mean
     unfolding bestSeed scoreAt scoreSeedPair

@@ -8,10 +8,12 @@ use lib.ListN.{take, drop}
 use lib.Ieee.{Float}
 use Rattle.floats.specs.Rows.{Row, at, count}
 use Rattle.elementary.specs.Elementary.{sinCos}
-use Rattle.loops.specs.Loops.{range, tab}
-use Rattle.seed.specs.Seed.{scored}
+use Rattle.loops.specs.Loops.{iter, tab}
+use Rattle.seed.specs.Seed.{scored, scoredFrom}
 use Rattle.seed.specs.declared.Seed.{Seed}
 use Rattle.robust_lanes.specs.Lanes.{gridPlaces, inserted, sumsAt}
+use Rattle.robust_lanes.specs.declared.Models.{Models}
+use Rattle.robust_grid.specs.declared.Pair.{Pair}
 use Rattle.robust_grid.specs.Grid.{gridAngle, factor}
 
 -- ---- the buffer
@@ -35,17 +37,40 @@ sampleRowAt h i = take gridPlaces (drop (i * gridPlaces) h)
 pub record Grid (sphi cphi h : Row) (k : ℕ) : Type 0 where
   pub row : (i : ℕ) → i < k → sampleRowAt h i ≡ sampleRow (at sphi i) (at cphi i)
 
--- ---- the pairs that are tried
+-- ---- the pairs that are tried: of an angle a with a + 2 up to its last, by fours
 abbrev pub lastOf : ℕ → ℕ
 lastOf a = cond (eqb a 0) 21 22
 
-unfoldable pub stepAt : (ℕ → ℕ → Seed) → ℕ → ℕ → Seed → Seed
-stepAt score a b top = cond (leb b (lastOf a)) (inserted top (score a b)) top
+abbrev pub firstBlock : Pair
+firstBlock = record { a = 0; b = 2 }
+
+-- the next four of the same angle a, or the first four of the next
+abbrev pub nextBlock : Pair → Pair
+nextBlock p = cond (leb (p .b + 4) (lastOf (p .a))) (record { a = p .a; b = p .b + 4 }) (record { a = p .a + 1; b = p .a + 3 })
+
+unfoldable pub blockPair : ℕ → Pair
+blockPair j = iter (λ i. nextBlock) firstBlock j
+
+abbrev pub blocks : ℕ
+blocks = 65
+
+-- a with b, if they are allowed
+unfoldable pub stepAt : {A : Type 0} → (ℕ → ℕ → A → A) → ℕ → ℕ → A → A
+stepAt step a b x = cond (leb b (lastOf a)) (step a b x) x
+
+-- a with b to b + 3
+unfoldable pub blockSteps : {A : Type 0} → (ℕ → ℕ → A → A) → Pair → A → A
+blockSteps step p x = iter (λ k. stepAt step (p .a) (p .b + k)) x 4
+
+-- the score of a lane of four pairs, and the four in their order
+abbrev pub laneScore : Float → Float → Float → Models → Pair → ℕ → Seed
+laneScore n centeredSs mean m p k =
+    scoredFrom n centeredSs mean (at (m .num) k) (at (m .«q_mean») k) (at (m .denom) k) (gridAngle (p .a)) (gridAngle (p .b + k))
+
+unfoldable pub lanesTried : Float → Float → Float → Models → Pair → Seed → Seed
+lanesTried n centeredSs mean m p top =
+    iter (λ k top. cond (leb (p .b + k) (lastOf (p .a))) (inserted top (laneScore n centeredSs mean m p k)) top) top 4
 
 -- the score of a pair, from the buffer
 unfoldable pub scoreAt : ℕ → Row → Row → Float → Float → ℕ → ℕ → Seed
 scoreAt n h centered centeredSs mean a b = scored (count n) centeredSs mean (sumsAt n centered h a b) (gridAngle a) (gridAngle b)
-
--- b to b + 3
-unfoldable pub blockOf : ℕ → Row → Row → Float → Float → ℕ → ℕ → Seed → Seed
-blockOf n h centered centeredSs mean a b top = range (stepAt (scoreAt n h centered centeredSs mean) a) top b (b + 4)

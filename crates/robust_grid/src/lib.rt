@@ -1,9 +1,9 @@
-// The grid of seeds behind a suspicious start: ring_fit/robust.rs, robust_grid_fit from the rows to the best seed.
+// The grid of seeds behind a suspicious start: ring_fit/robust.rs, the rows of robust_grid_fit, and four pairs of them.
 use robust_lanes::Best;
-use seed::Seed;
-use seed::Sums;
+use robust_lanes::Models;
 ghost use mathlib.Core.Path.{_≡_};
 ghost use Prim.Native.Nat.{_+_, _*_, _≤_, _<_};
+ghost use lib.Dec.{leb};
 ghost use lib.ListN.{length};
 ghost use Rattle.floats.specs.Rows.{count};
 ghost use Rattle.solver.specs.Buffers.{maxSamples};
@@ -71,63 +71,81 @@ fn last_of(a: usize) -> usize
     22
 }
 
-// Pairs of a with b to b + 3, as far as they are allowed. The root is monotone, so a pair whose mean square is not below
-// the best's has no lower residual, and is skipped before its root is taken.
-fn block(
+// Of the 253 pairs the 230 that are 2 to 21 steps apart are allowed. They are tried by fours: a with b to b + 3. The last
+// four of an angle may run past its last pair; there are 65 such blocks.
+pub const BLOCKS: usize = 65;
+
+pub struct Pair {
+    pub a: usize,
+    pub b: usize,
+}
+
+pub fn first_block() -> Pair
+    ensures { λ r. ⌜ r ≡ P.firstBlock ⌝ }
+{
+    Pair { a: 0, b: 2 }
+}
+
+pub fn next_block(p: Pair) -> Pair
+    requires { ⌜ (p .a < 21) × (p .b < 23) ⌝ }
+    ensures { λ r. ⌜ r ≡ P.nextBlock p ⌝ }
+{
+    if p.b + 4 <= last_of(p.a) {
+        return Pair { a: p.a, b: p.b + 4 };
+    }
+    Pair {
+        a: p.a + 1,
+        b: p.a + 3,
+    }
+}
+
+// Whether the lane k of a block has an allowed pair.
+pub fn is_pair(p: Pair, k: usize) -> bool
+    requires { ⌜ (p .b < 23) × (k < 4) ⌝ }
+    ensures { λ r. ⌜ r ≡ leb (p .b + k) (P.lastOf (p .a)) ⌝ }
+{
+    p.b + k <= last_of(p.a)
+}
+
+// A block's pairs as far as they are allowed. The root is monotone, so a pair whose mean square is not below the best's
+// has no lower residual, and is skipped before its root is taken.
+pub fn lanes_tried(
     best0: Best,
-    h: &[f32],
-    centered: &[f32],
+    m: Models,
+    samples: usize,
     n: f32,
     centered_ss: f32,
     mean: f32,
-    a: usize,
-    b: usize,
+    p: Pair,
 ) -> Best
-    requires { ⌜ L.BestKept best0 × L.GridRoom (now centered) (now h) × (n ≡ count (length (now centered))) × (a < 21) × (b < 23) ⌝ }
-    ensures { λ r. ⌜ (r .top ≡ P.blockOf (length (now (centered .entry))) (now (h .entry)) (now (centered .entry)) «centered_ss» mean
-        a b (best0 .top)) × L.BestKept r ⌝ }
+    requires { ⌜ L.BestKept best0 × (n ≡ count samples) × (p .a < 21) × (p .b < 23) ⌝ }
+    ensures { λ r. ⌜ (r .top ≡ P.lanesTried n «centered_ss» mean m p (best0 .top)) × L.BestKept r ⌝ }
 {
     let mut best = best0;
-    let s = robust_lanes::lane_sums(h, centered, a, b);
-    let xs = robust_lanes::mean_squares(s, centered.len(), n, centered_ss);
-    let q = s.q_sum;
-    let q2 = s.q2_sum;
-    let num = s.num;
+    let xs = robust_lanes::mean_squares(m, samples, n, centered_ss);
+    let q_mean = m.q_mean;
+    let denom = m.denom;
+    let num = m.num;
     'lanes: for k in 0..4 {
-        if b + k > last_of(a) {
+        if !is_pair(p, k) {
             break 'lanes;
         }
         if xs[k] >= best.bound {
             continue 'lanes;
         }
-        let sums = Sums {
-            q_sum: q[k],
-            q2_sum: q2[k],
-            num: num[k],
-        };
-        let c = seed::score_sums(n, centered_ss, mean, sums, grid_angle(a), grid_angle(b + k));
+        let theta1 = grid_angle(p.a);
+        let theta2 = grid_angle(p.b + k);
+        let c = seed::scored_from(
+            n,
+            centered_ss,
+            mean,
+            num[k],
+            q_mean[k],
+            denom[k],
+            theta1,
+            theta2,
+        );
         best = robust_lanes::tried(best, xs[k], c);
     }
     best
-}
-
-// The seed of least residual over all allowed pairs, the earlier on a tie. Of the 253 pairs the 230 that are 2 to 21 steps
-// apart are allowed.
-pub fn best_seed(h: &[f32], centered: &[f32], centered_ss: f32, mean: f32) -> Seed
-    requires { ⌜ L.GridRoom (now centered) (now h) ⌝ }
-    ensures { λ r. ⌜ r ≡ G.bestOf (P.scoreAt (length (now (centered .entry))) (now (h .entry)) (now (centered .entry)) «centered_ss» mean) ⌝ }
-{
-    let n = floats::count_f32(centered.len());
-    let mut best = Best {
-        top: Seed::Nothing,
-        bound: 0.0 / 0.0,
-    };
-    for a in 0..21 {
-        let mut b = a + 2;
-        while b <= last_of(a) {
-            best = block(best, h, centered, n, centered_ss, mean, a, b);
-            b += 4;
-        }
-    }
-    best.top
 }

@@ -3,13 +3,18 @@ use mathlib.Core.Path.{_≡_, refl, _∙_}
 use mathlib.Core.List.{[], _∷_}
 use Prim.Native.Nat.{ℕ, zero, suc, _+_, _*_, _<_}
 use native.Mathlib.Omega.{arith}
-use lib.Ieee.{Float}
-use Rattle.floats.specs.Ops.{nought}
-use Rattle.floats.specs.Rows.{Row, at}
+use lib.Ieee.{Float, ofInt, ofBits, round}
+use Rattle.floats.specs.Ops.{lit, nought}
+use Rattle.floats.specs.Rows.{Row, at, count}
 use Rattle.loops.specs.IterLaws.{iter-zero, iter-next}
 use Rattle.seed.specs.Seed.{summedBy}
 use Rattle.robust_lanes.specs.declared.Lanes.{Lanes}
 use Rattle.robust_lanes.specs.Lanes.{gridPlaces, sumsAt, four, laneSums, lanesAdded}
+
+-- the usual number of samples
+pub sixteen : count 16 ≡ lit 0x4180_0000
+unfolding ofInt ofBits round
+sixteen = refl
 
 pub four-at : (f : ℕ → Float) (k : ℕ) → k < 4 → at (four f) k ≡ f k
 four-at f zero l = refl

@@ -15,6 +15,7 @@ use Rattle.seed.specs.declared.Seed.{Seed}
 use Rattle.seed.specs.declared.Seed.the-variants.{Found, Nothing}
 use Rattle.robust_lanes.specs.declared.Best.{Best}
 use Rattle.robust_lanes.specs.declared.Lanes.{Lanes}
+use Rattle.robust_lanes.specs.declared.Models.{Models}
 
 -- the grid's rows stand so far apart: a place for each of its 23 angles, and one that evens them out
 abbrev pub gridPlaces : ℕ
@@ -57,12 +58,18 @@ lanesAdded s v x y =
     let q = times x y in
     record { «q_sum» = plus (s .«q_sum») q; «q2_sum» = plus (s .«q2_sum») (squared q); num = plus (s .num) (times v q) }
 
--- what the root of a pair's rms is taken of
-unfoldable pub meanSquare : Float → Float → Float → Float → Float → Float
-meanSquare n centeredSs q q2 num = max (centeredSs ⊖ num ⊗ num ⊘ (q2 ⊖ q ⊗ (q ⊘ n))) nought ⊘ n
+-- what four pairs bring to their scores, from their sums; n is the number of samples as a float
+abbrev pub modelsOf : Lanes → Float → Models
+modelsOf s n =
+    let mean = four (λ k. at (s .«q_sum») k ⊘ n) in
+    record { «q_mean» = mean; denom = four (λ k. at (s .«q2_sum») k ⊖ at (s .«q_sum») k ⊗ at mean k); num = s .num }
 
-abbrev pub meanSquares : Lanes → Float → Float → Row
-meanSquares s n centeredSs = four (λ k. meanSquare n centeredSs (at (s .«q_sum») k) (at (s .«q2_sum») k) (at (s .num) k))
+-- what the root of a pair's rms is taken of
+unfoldable pub meanSquare : Float → Float → Float → Float → Float
+meanSquare n centeredSs num denom = max (centeredSs ⊖ num ⊗ num ⊘ denom) nought ⊘ n
+
+abbrev pub meanSquares : Models → Float → Float → Row
+meanSquares m n centeredSs = four (λ k. meanSquare n centeredSs (at (m .num) k) (at (m .denom) k))
 
 -- ---- the best so far: ring_fit/robust.rs, a pair that scored is inserted
 unfoldable pub inserted : Seed → Seed → Seed

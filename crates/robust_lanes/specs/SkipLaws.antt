@@ -5,11 +5,9 @@ use mathlib.Core.Bool.{Bool, true, false, cond, _&&_, false≢true}
 use native.Mathlib.Omega.{arith}
 use lib.Ieee.{Float, binary32, lt, le}
 use lib.Ieee.Scale.{finite}
-use Rattle.floats.specs.Ops.{_⊖_, _⊗_, _⊘_}
 use Rattle.floats.specs.Library.{sqrt}
 use Rattle.floats.specs.RootOrderLaws.{sqrt-mono}
-use Rattle.seed.specs.Seed.{flat, kept, scored, insertSeedCandidate}
-use Rattle.seed.specs.declared.Sums.{Sums}
+use Rattle.seed.specs.Seed.{flat, kept, seedFrom, scoredFrom, insertSeedCandidate}
 use Rattle.seed.specs.declared.Seed.{Seed}
 use Rattle.seed.specs.declared.Seed.the-variants.{Found, Nothing}
 use Rattle.seed.specs.declared.SeedCandidate.{SeedCandidate}
@@ -24,11 +22,10 @@ kept-squared c x e = go (finite (c .rms) && (finite (c .amp) && finite (c .mu)))
     go true = e
     go false = omega arith
 
-pub scored-squared : (n centeredSs mean : Float) (s : Sums) (theta1 theta2 : Float)
-    → Squared (meanSquare n centeredSs (s .«q_sum») (s .«q2_sum») (s .num)) (scored n centeredSs mean s theta1 theta2)
-unfolding scored meanSquare
-scored-squared n centeredSs mean s theta1 theta2 =
-    go (flat (s .«q2_sum» ⊖ s .«q_sum» ⊗ (s .«q_sum» ⊘ n))) (meanSquare n centeredSs (s .«q_sum») (s .«q2_sum») (s .num)) _ refl
+pub scored-squared : (n centeredSs mean num qMean denom theta1 theta2 : Float)
+    → Squared (meanSquare n centeredSs num denom) (scoredFrom n centeredSs mean num qMean denom theta1 theta2)
+unfolding scoredFrom seedFrom meanSquare
+scored-squared n centeredSs mean num qMean denom theta1 theta2 = go (flat denom) (meanSquare n centeredSs num denom) _ refl
   where
     go : (a : Bool) (x : Float) (c : SeedCandidate) → c .rms ≡ sqrt binary32 x → Squared x (cond a Nothing (kept c))
     go true x c e = omega arith

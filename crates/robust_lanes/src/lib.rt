@@ -7,6 +7,7 @@ ghost use lib.ListN.{length};
 ghost use Rattle.floats.specs.Ops.{nought};
 ghost use Rattle.floats.specs.Rows.{count};
 ghost use Rattle.floats.specs.Library.{max};
+ghost use Rattle.seed.specs.declared.Seed.the-variants.{Nothing};
 ghost use Rattle.robust_lanes.specs.Lanes as L;
 
 // A sample's places in the grid's rows.
@@ -19,13 +20,13 @@ pub struct Lanes {
     pub num: [f32; 4],
 }
 
-fn times(x: f32, y: [f32; 4]) -> [f32; 4]
+pub fn times(x: f32, y: [f32; 4]) -> [f32; 4]
     ensures { λ r. ⌜ r ≡ L.times x y ⌝ }
 {
     [x * y[0], x * y[1], x * y[2], x * y[3]]
 }
 
-fn plus(x: [f32; 4], y: [f32; 4]) -> [f32; 4]
+pub fn plus(x: [f32; 4], y: [f32; 4]) -> [f32; 4]
     ensures { λ r. ⌜ r ≡ L.plus x y ⌝ }
 {
     [x[0] + y[0], x[1] + y[1], x[2] + y[2], x[3] + y[3]]
@@ -72,8 +73,8 @@ fn sums_of(h: &[f32], centered: &[f32], n: usize, a: usize, b: usize) -> Lanes
     s
 }
 
-// The usual number of samples is written out, here and in `mean_squares`, so that it is compiled as a constant: the loop
-// has no end to test, and what is divided by 16 is multiplied. It was a tenth of a fit with two starts.
+// The usual number of samples is written out, here, in `lane_models` and in `mean_squares`, so that it is compiled as a
+// constant: the loop has no end to test, and what is divided by 16 is multiplied. It was a tenth of a fit with two starts.
 pub fn lane_sums(h: &[f32], centered: &[f32], a: usize, b: usize) -> Lanes
     requires { ⌜ L.GridRoom (now centered) (now h) × (a < 23) × (b < 23) ⌝ }
     ensures { λ r. ⌜ r ≡ L.laneSums (length (now (centered .entry))) (now (centered .entry)) (now (h .entry)) a b ⌝ }
@@ -95,43 +96,83 @@ fn ahead(x: f32) -> f32
     0.0
 }
 
-// What the root of a pair's residual is taken of.
-fn mean_square(q_sum: f32, q2_sum: f32, num: f32, n: f32, centered_ss: f32) -> f32
-    ensures { λ r. ⌜ r ≡ L.meanSquare n «centered_ss» «q_sum» «q2_sum» num ⌝ }
-{
-    let denom = q2_sum - q_sum * (q_sum / n);
-    ahead(centered_ss - num * num / denom) / n
+// What four pairs bring to their scores.
+pub struct Models {
+    pub q_mean: [f32; 4],
+    pub denom: [f32; 4],
+    pub num: [f32; 4],
 }
 
-fn squares_of(s: Lanes, n: f32, centered_ss: f32) -> [f32; 4]
-    ensures { λ r. ⌜ r ≡ L.meanSquares s n «centered_ss» ⌝ }
+fn models_by(s: Lanes, n: f32) -> Models
+    ensures { λ r. ⌜ r ≡ L.modelsOf s n ⌝ }
 {
     let q = s.q_sum;
     let q2 = s.q2_sum;
     let num = s.num;
+    let q_mean = [q[0] / n, q[1] / n, q[2] / n, q[3] / n];
+    let denom = [
+        q2[0] - q[0] * q_mean[0],
+        q2[1] - q[1] * q_mean[1],
+        q2[2] - q[2] * q_mean[2],
+        q2[3] - q[3] * q_mean[3],
+    ];
+    Models { q_mean, denom, num }
+}
+
+// n is the number of samples as a float, here and below.
+pub fn lane_models(s: Lanes, samples: usize, n: f32) -> Models
+    requires { ⌜ n ≡ count samples ⌝ }
+    ensures { λ r. ⌜ r ≡ L.modelsOf s n ⌝ }
+{
+    if samples == 16 {
+        return models_by(s, 16.0);
+    }
+    models_by(s, n)
+}
+
+// What the root of a pair's residual is taken of.
+fn mean_square(num: f32, denom: f32, n: f32, centered_ss: f32) -> f32
+    ensures { λ r. ⌜ r ≡ L.meanSquare n «centered_ss» num denom ⌝ }
+{
+    ahead(centered_ss - num * num / denom) / n
+}
+
+fn squares_of(m: Models, n: f32, centered_ss: f32) -> [f32; 4]
+    ensures { λ r. ⌜ r ≡ L.meanSquares m n «centered_ss» ⌝ }
+{
+    let num = m.num;
+    let denom = m.denom;
     [
-        mean_square(q[0], q2[0], num[0], n, centered_ss),
-        mean_square(q[1], q2[1], num[1], n, centered_ss),
-        mean_square(q[2], q2[2], num[2], n, centered_ss),
-        mean_square(q[3], q2[3], num[3], n, centered_ss),
+        mean_square(num[0], denom[0], n, centered_ss),
+        mean_square(num[1], denom[1], n, centered_ss),
+        mean_square(num[2], denom[2], n, centered_ss),
+        mean_square(num[3], denom[3], n, centered_ss),
     ]
 }
 
-// n is the number of samples as a float.
-pub fn mean_squares(s: Lanes, samples: usize, n: f32, centered_ss: f32) -> [f32; 4]
+pub fn mean_squares(m: Models, samples: usize, n: f32, centered_ss: f32) -> [f32; 4]
     requires { ⌜ n ≡ count samples ⌝ }
-    ensures { λ r. ⌜ r ≡ L.meanSquares s n «centered_ss» ⌝ }
+    ensures { λ r. ⌜ r ≡ L.meanSquares m n «centered_ss» ⌝ }
 {
     if samples == 16 {
-        return squares_of(s, 16.0, centered_ss);
+        return squares_of(m, 16.0, centered_ss);
     }
-    squares_of(s, n, centered_ss)
+    squares_of(m, n, centered_ss)
 }
 
 // The best seed so far, and what the root of its residual was taken of: NaN where there is none.
 pub struct Best {
     pub top: Seed,
     pub bound: f32,
+}
+
+pub fn none_yet() -> Best
+    ensures { λ r. ⌜ (r .top ≡ Nothing) × L.BestKept r ⌝ }
+{
+    Best {
+        top: Seed::Nothing,
+        bound: 0.0 / 0.0,
+    }
 }
 
 // A candidate whose mean square is x.

@@ -71,16 +71,24 @@ kept s = cond (finite (s .rms) && (finite (s .amp) && finite (s .mu))) (Found s)
 unfoldable pub flat : Float → Bool
 flat x = not (finite x) || le x (lit 0x3586_37bd)
 
--- n is the number of samples as a float
+-- from num on both scores are made alike: n is the number of samples as a float
+unfoldable pub seedFrom : Float → Float → Float → Float → Float → Float → Float → Float → Seed
+seedFrom n centeredSs mean num qMean denom theta1 theta2 =
+    let amp = num ⊘ denom in
+    let mu = mean ⊖ amp ⊗ qMean in
+    let ssr = max (centeredSs ⊖ num ⊗ num ⊘ denom) nought in
+    let rms = sqrt binary32 (ssr ⊘ n) in
+    kept (record { theta1 = theta1; theta2 = theta2; mu = mu; amp = amp; rms = rms })
+
+unfoldable pub scoredFrom : Float → Float → Float → Float → Float → Float → Float → Float → Seed
+scoredFrom n centeredSs mean num qMean denom theta1 theta2 =
+    cond (flat denom) Nothing (seedFrom n centeredSs mean num qMean denom theta1 theta2)
+
 unfoldable pub scored : Float → Float → Float → Sums → Float → Float → Seed
 scored n centeredSs mean s theta1 theta2 =
     let qMean = s .«q_sum» ⊘ n in
     let denom = s .«q2_sum» ⊖ s .«q_sum» ⊗ qMean in
-    let amp = s .num ⊘ denom in
-    let mu = mean ⊖ amp ⊗ qMean in
-    let ssr = max (centeredSs ⊖ s .num ⊗ s .num ⊘ denom) nought in
-    let rms = sqrt binary32 (ssr ⊘ n) in
-    cond (flat denom) Nothing (kept (record { theta1 = theta1; theta2 = theta2; mu = mu; amp = amp; rms = rms }))
+    scoredFrom n centeredSs mean (s .num) qMean denom theta1 theta2
 
 unfoldable pub scoreSeedPair : ℕ → Row → Float → Float → Row → Row → Float → Float → Seed
 scoreSeedPair n centered centeredSs mean h1 h2 theta1 theta2 = scored (count n) centeredSs mean (pairSums n centered h1 h2) theta1 theta2

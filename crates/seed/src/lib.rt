@@ -158,17 +158,21 @@ pub fn is_flat(denom: f32) -> bool
     true
 }
 
-// The score of a pair from its sums; `n` is the number of samples.
-pub fn score_sums(n: f32, centered_ss: f32, mean: f32, s: Sums, theta1: f32, theta2: f32) -> Seed
-    ensures { λ r. ⌜ r ≡ S.scored n «centered_ss» mean s theta1 theta2 ⌝ }
+// From num on: `n` is the number of samples.
+pub fn seed_from(
+    n: f32,
+    centered_ss: f32,
+    mean: f32,
+    num: f32,
+    q_mean: f32,
+    denom: f32,
+    theta1: f32,
+    theta2: f32,
+) -> Seed
+    ensures { λ r. ⌜ r ≡ S.seedFrom n «centered_ss» mean num «q_mean» denom theta1 theta2 ⌝ }
 {
-    let q_mean = s.q_sum / n;
-    let denom = s.q2_sum - s.q_sum * q_mean;
-    if is_flat(denom) {
-        return Seed::Nothing;
-    }
-    let amp = s.num / denom;
-    let ssr = floats::max(centered_ss - s.num * s.num / denom, 0.0);
+    let amp = num / denom;
+    let ssr = floats::max(centered_ss - num * num / denom, 0.0);
     let rms = roots::sqrt(ssr / n);
     kept(SeedCandidate {
         theta1,
@@ -177,6 +181,34 @@ pub fn score_sums(n: f32, centered_ss: f32, mean: f32, s: Sums, theta1: f32, the
         amp,
         rms,
     })
+}
+
+// The same, unless the denominator is flat.
+pub fn scored_from(
+    n: f32,
+    centered_ss: f32,
+    mean: f32,
+    num: f32,
+    q_mean: f32,
+    denom: f32,
+    theta1: f32,
+    theta2: f32,
+) -> Seed
+    ensures { λ r. ⌜ r ≡ S.scoredFrom n «centered_ss» mean num «q_mean» denom theta1 theta2 ⌝ }
+{
+    if is_flat(denom) {
+        return Seed::Nothing;
+    }
+    seed_from(n, centered_ss, mean, num, q_mean, denom, theta1, theta2)
+}
+
+// The score of a pair from its sums.
+fn score_sums(n: f32, centered_ss: f32, mean: f32, s: Sums, theta1: f32, theta2: f32) -> Seed
+    ensures { λ r. ⌜ r ≡ S.scored n «centered_ss» mean s theta1 theta2 ⌝ }
+{
+    let q_mean = s.q_sum / n;
+    let denom = s.q2_sum - s.q_sum * q_mean;
+    scored_from(n, centered_ss, mean, s.num, q_mean, denom, theta1, theta2)
 }
 
 pub fn score_seed_pair(

@@ -5,6 +5,7 @@ extern "C" {
     fn oracle_event(event: u32);
     fn oracle_errors(jtj: &[[f32; 4]; 4], ssr: f32, n: usize);
     fn oracle_mean(mu: f32);
+    fn oracle_seed(theta1: f32, theta2: f32);
 }
 
 macro_rules! events {
@@ -19,7 +20,7 @@ macro_rules! events {
 events! {
     0 start, 1 update, 2 degenerate, 3 failed_elimination, 4 suspicious, 5 second_answered,
     6 trial, 7 tie_kept, 8 nan_score, 9 search, 10 leader, 11 theta2, 12 moved, 13 tie_at_end,
-    14 equal_sizes, 15 elimination,
+    14 equal_sizes, 15 elimination, 32 cached,
 }
 
 fn of_row(first: u32, row: usize) {
@@ -52,4 +53,10 @@ pub fn errors(jtj: &[[f32; 4]; 4], ssr: f32, n: usize) {
 pub fn mean(mu: f32) {
     // SAFETY: takes a number and keeps to its own memory.
     unsafe { oracle_mean(mu) }
+}
+
+/// The axes of the seed that the grid, or a table of models, answered.
+pub fn seed(theta1: f32, theta2: f32) {
+    // SAFETY: takes numbers and keeps to its own memory.
+    unsafe { oracle_seed(theta1, theta2) }
 }

@@ -43,11 +43,26 @@ impl Corner {
 
     /// The grey level of a pixel. Its noise depends on its place alone, so that all rings see one picture.
     fn pixel(&self, (dx, dy): (i8, i8)) -> f64 {
-        let place = (i64::from(dx) << 8 ^ i64::from(dy)) as u64;
+        self.level([dx.into(), dy.into()], (i64::from(dx) << 8 ^ i64::from(dy)) as u64)
+    }
+
+    /// That of a pixel with its middle anywhere.
+    fn level(&self, [x, y]: [f64; 2], place: u64) -> f64 {
         let noise = Random::new(self.seeds[0] ^ place.wrapping_mul(0x9e37_79b9), self.seeds[1]).noise();
-        let at = |middle: i8, k: i32| f64::from(middle) + (f64::from(k) + 0.5) / f64::from(FINE) - 0.5;
-        let fine = (0..FINE * FINE).map(|k| self.value(at(dx, k / FINE), at(dy, k % FINE)));
+        let at = |middle: f64, k: i32| middle + (f64::from(k) + 0.5) / f64::from(FINE) - 0.5;
+        let fine = (0..FINE * FINE).map(|k| self.value(at(x, k / FINE), at(y, k % FINE)));
         (fine.sum::<f64>() / f64::from(FINE * FINE) + self.noise * noise).clamp(0.0, 255.0).round()
+    }
+
+    /// The grey levels of the ring of 16 pixels.
+    pub fn on_pixels(&self) -> Vec<f64> {
+        pixel_ring(16, 0).into_iter().map(|at| self.pixel(at)).collect()
+    }
+
+    /// The grey levels at these angles on a circle of radius 5.
+    pub fn on_circle(&self, angles: &[f64]) -> Vec<f64> {
+        let level = |(place, &phi): (usize, &f64)| self.level([5.0 * cos(phi), 5.0 * sin(phi)], place as u64);
+        angles.iter().enumerate().map(level).collect()
     }
 
     /// The frame of a ring of pixels around the corner.

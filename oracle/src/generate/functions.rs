@@ -4,6 +4,7 @@ use super::disks::{disk, Made};
 use super::frames::{broken, line as text_line};
 use super::random::Random;
 use super::rings::{faint, ring};
+use super::tables;
 use super::values::{drawn, limit, nudged, taste, word, Taste, DEGREE};
 use shapes::{ANGLES, PAIRED_ANGLES, PAIRS, PIXELS};
 use std::f64::consts::PI;
@@ -77,6 +78,7 @@ impl Maker<'_> {
             40..=46 => self.solving(number),
             50..=54 => self.seeding(number),
             60..=66 => self.ring_fit(number),
+            67..=69 => self.words = tables::arguments(self.random, self.taste, number),
             70..=77 => self.candidates(number),
             80..=83 => self.scoring(number),
             90..=95 => self.searching(number),

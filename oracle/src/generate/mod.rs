@@ -8,6 +8,7 @@ mod functions;
 mod matrices;
 mod random;
 mod rings;
+pub mod tables;
 mod values;
 
 use random::Random;

@@ -83,6 +83,10 @@ fn samples(random: &mut Random, angles: &[f64]) -> Vec<f64> {
     let look = look(random);
     let first = random.range(0.0, PI);
     let second = first + separation(random) * PI / 180.0;
+    seen(random, angles, &look, [first, second])
+}
+
+fn seen(random: &mut Random, angles: &[f64], look: &Look, [first, second]: [f64; 2]) -> Vec<f64> {
     let sample = |&phi: &f64| {
         let model = tanh(look.slope * sin(phi - first)) * tanh(look.slope * sin(phi - second));
         let value = look.mean + look.amp * model + look.noise * random.noise();
@@ -93,6 +97,51 @@ fn samples(random: &mut Random, angles: &[f64]) -> Vec<f64> {
         }
     };
     angles.iter().map(sample).collect()
+}
+
+/// The angles of the ring of pixels.
+pub fn pixel_angles(n: usize) -> Vec<f64> {
+    pixel_ring(n, 0).into_iter().map(angle_of).collect()
+}
+
+/// Samples at these angles of a corner that is no right angle, so that mostly the grid is asked.
+pub fn skewed_samples(random: &mut Random, angles: &[f64]) -> Vec<f64> {
+    let amp = power_of_ten(random.range(0.5, 2.1));
+    let noise = random.pick(&[0.0, 0.02, 0.1, 0.5]) * random.unit();
+    let look = Look {
+        amp: amp * random.sign(),
+        mean: random.range(0.0, 255.0),
+        slope: random.range(0.7, 12.0),
+        noise: noise * amp,
+        whole: random.percent(50),
+    };
+    let first = random.range(0.0, PI);
+    let apart = if random.percent(60) { random.range(15.0, 64.0) } else { random.range(116.0, 165.0) };
+    seen(random, angles, &look, [first, first + apart * PI / 180.0])
+}
+
+/// A ring for the grid: of pixels, or even, then often with one angle near 0.
+pub fn skewed(random: &mut Random, n: usize) -> Vec<u32> {
+    let angles: Vec<f64> = if random.percent(50) {
+        pixel_angles(n)
+    } else {
+        let near = power_of_ten(random.range(-8.0, -5.0)) * random.sign();
+        let phase = if random.percent(40) { near } else { random.range(-PI, PI) };
+        (0..n).map(|i| phase + (i as f64 - 4.0) * PI / (n / 2) as f64).collect()
+    };
+    let samples = skewed_samples(random, &angles);
+    samples.into_iter().chain(angles).map(word).collect()
+}
+
+/// An even ring and its samples with a mirror at the middle of the grid, 88 degrees: a pair of the grid and its image explain
+/// them alike, and rounding decides between the two.
+pub fn mirrored(random: &mut Random) -> Vec<u32> {
+    let angles: Vec<f64> = (0..16).map(|i| 88.0 * PI / 180.0 + f64::from(i - 8) * PI / 8.0).collect();
+    let mut samples = if random.percent(30) { skewed_samples(random, &angles) } else { scattered(random, 16) };
+    for i in 1..8 {
+        samples[16 - i] = samples[i];
+    }
+    samples.into_iter().chain(angles).map(word).collect()
 }
 
 /// Opposite samples cancel: no pair of axes explains them, so seeds have hardly any amplitude.

@@ -14,7 +14,7 @@ use Rattle.checked.proofs.ring_refusal.Tie as tie
 -- the first length is another, or the second is
 returns : tie.Need-returns
 returns c =
-    ring-unsized _ _ _
+    λ tables. ring-unsized tables _ _ _
     (⊎-elim
     (λ w. rw (ne-eqb _ _ (w .taken)))
     (λ w. rw (eq-eqb _ _ (w .0 .left), not-true (eqb _ _) (w .1 .taken)))
@@ -36,7 +36,7 @@ returns-2 c =
     let sized = b3 .before .if1 .left in
     let same = not-false (eqb m (a .n)) (b3 .if2 .left) in
     let clean = sym (c .enum-told .given .1) ∙ c .before .before .ring-wild .ensures in
-    (sized, eqb-true m (a .n) same, ring-looked (a .n) (a .samples .now) (a .angles .now) _ sized same clean)
+    (sized, eqb-true m (a .n) same, λ tables. ring-looked tables (a .n) (a .samples .now) (a .angles .now) _ sized same clean)
 
 returns-3 : tie.Need-returns-3
 unfolding C.ringLooked
@@ -45,7 +45,7 @@ returns-3 c =
     let a = b4 .before .before .before .before .args in
     let same = not-false (eqb (length (a .angles .now)) (a .n)) (b4 .if2 .left) in
     let wild = sym (c .before .i .given .1) ∙ c .before .before .before .ring-wild .ensures in
-    ring-looked (a .n) (a .samples .now) (a .angles .now) _ (b4 .before .if1 .left) same wild
+    λ tables. ring-looked tables (a .n) (a .samples .now) (a .angles .now) _ (b4 .before .if1 .left) same wild
 
 pub ring-refusal-spec : {M : Type 1} → statement M
 ring-refusal-spec =

@@ -1,15 +1,10 @@
 -- 16 as a float is the literal. Assumes nothing.
-use mathlib.Core.Path.{_≡_, refl, ap, _∙_}
-use lib.Ieee.{ofInt, ofBits, round}
+use mathlib.Core.Path.{ap, _∙_}
 use borrow.Author.Needs.{needs}
-use Rattle.floats.specs.Ops.{lit}
 use Rattle.floats.specs.Rows.{count}
+use Rattle.robust_lanes.specs.LaneLaws.{sixteen}
 use Rattle.robust_lanes.proofs.mean_squares.Statement.{statement}
 use Rattle.robust_lanes.proofs.mean_squares.Tie as tie
-
-sixteen : count 16 ≡ lit 0x4180_0000
-unfolding ofInt ofBits round
-sixteen = refl
 
 returns : tie.Need-returns
 returns c =

@@ -1,0 +1,4 @@
+pub mod Tables
+pub mod Parts
+pub mod TableLaws
+pub mod Promises
