@@ -134,13 +134,13 @@ module _ (h : Row) (a b : ℕ) (s : QSums) (e : s ≡ qSumsAt ringSamples h a b)
 
 -- ---- the first that passes
 module _ (p : ℕ → Bool) (k t : ℕ) where
-  pub first-skip : t < k → p t ≡ false → firstFrom p (k - (t + 1)) (t + 1) ≡ firstFrom p (k - t) t
-  unfolding firstFrom
-  first-skip l e = let z : k - t ≡ suc (k - (t + 1)) = omega arith in rw (z, e)
-
   pub first-here : t < k → p t ≡ true → At t ≡ firstFrom p (k - t) t
   unfolding firstFrom
   first-here l e = let z : k - t ≡ suc (k - (t + 1)) = omega arith in rw (z, e)
+
+  pub first-skip : t < k → p t ≡ false → firstFrom p (k - (t + 1)) (t + 1) ≡ firstFrom p (k - t) t
+  unfolding firstFrom
+  first-skip l e = let z : k - t ≡ suc (k - (t + 1)) = omega arith in rw (z, e)
 
   pub first-none : k ≤ t → Missing ≡ firstFrom p (k - t) t
   unfolding firstFrom
