@@ -53,7 +53,7 @@ CALL(call_ring, status = jb_fit_ring(samples, 16, angles, 16, fit, 6, counts, 4)
 CALL(call_ring24, status = jb_fit_ring24(samples, 24, angles, 24, fit, 6, counts, 4))
 CALL(call_record, status = jb_ring_record(samples, 16, angles, 16, fit, 7, counts, 4))
 CALL(call_record24, status = jb_ring_record(samples, 24, angles, 24, fit, 7, counts, 4))
-CALL(call_fresh, jb_tables_fresh(&tables))
+CALL(call_fresh, jb_tables_fresh(&tables); status = 0) /* it returns nothing: without the store it would be jumped to */
 CALL(call_store, status = jb_tables_store(&tables, angles, 16))
 CALL(call_tables, status = jb_tables_fit(&tables, samples, 16, angles, 16, fit, 7, counts, 4))
 CALL(call_disk, status = jb_fit_disk(disk[0], disk[1], disk[2], disk + 3, PIXELS, disk + 3 + PIXELS, PIXELS,

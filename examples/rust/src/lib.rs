@@ -1,8 +1,8 @@
 //! A safe wrapper of `libjengubool.a`: the proved ring and disk fits of the two axes of a chessboard corner.
 //!
-//! A call answers a typed fit, or a [`Refusal`] with its number and place. Nothing here panics, allocates or keeps state,
-//! and any number of threads may call at once. What the library promises is stated in `include/jengubool.h`; the items
-//! below say the same for Rust.
+//! A call answers a typed fit, or a [`Refusal`] with its number and place. Nothing here panics or keeps state, and any
+//! number of threads may call at once. Nothing allocates but [`Tables`], which is there with the feature `alloc`, a default
+//! one. What the library promises is stated in `include/jengubool.h`; the items below say the same for Rust.
 //!
 //! The library expects the floating-point mode that a Rust program has anyway: rounding to nearest, subnormals on.
 //! A NaN in an answer is some NaN. All other bits of an answer are the same on every machine.
@@ -21,14 +21,21 @@
 #![deny(missing_docs)]
 #![deny(unsafe_op_in_unsafe_fn)]
 
+#[cfg(feature = "alloc")]
+extern crate alloc;
+
 use core::fmt;
 
 mod lines;
 mod raw;
+#[cfg(feature = "alloc")]
+mod tables;
 
 pub use lines::{answer_line, RefusedLine, ANSWER_BYTES};
+#[cfg(feature = "alloc")]
+pub use tables::{Tables, MOST_TABLES};
 
-/// Samples, and angles, that a ring has in [`fit_ring`].
+/// Samples, and angles, that a ring has in [`fit_ring`] and in [`Tables`].
 pub const RING_SAMPLES: usize = 16;
 
 /// Samples, and angles, that a ring has in [`fit_ring24`].
@@ -37,7 +44,7 @@ pub const RING24_SAMPLES: usize = 24;
 /// Pixels that a disk has at most. It has at least one.
 pub const MOST_PIXELS: usize = 320;
 
-/// Why a call was refused. The numbers are those of the frame lines.
+/// Why a call was refused. The numbers are those of the frame lines; no line is refused by 6.
 #[derive(Clone, Copy, Debug, PartialEq, Eq, Hash)]
 #[non_exhaustive]
 pub enum Number {
@@ -52,6 +59,8 @@ pub enum Number {
     NothingFound,
     /// 5: a line is malformed.
     Malformed,
+    /// 6: [`Tables`] have no room for another table.
+    Full,
     /// A number that this version of the crate does not know.
     Unknown(u16),
 }
@@ -65,6 +74,7 @@ impl Number {
             3 => Self::NotFinite,
             4 => Self::NothingFound,
             5 => Self::Malformed,
+            6 => Self::Full,
             other => Self::Unknown(other),
         }
     }
@@ -77,6 +87,7 @@ impl Number {
             Self::NotFinite => 3,
             Self::NothingFound => 4,
             Self::Malformed => 5,
+            Self::Full => 6,
             Self::Unknown(code) => code,
         }
     }
@@ -88,6 +99,7 @@ impl Number {
             Self::NotFinite => "a value is not finite",
             Self::NothingFound => "the disk search found no fit",
             Self::Malformed => "the line is malformed",
+            Self::Full => "three tables are held",
             Self::Unknown(_) => "the reason is not known here",
         }
     }
@@ -104,8 +116,8 @@ pub struct Refusal {
     /// trials, else 0.
     ///
     /// A ring's values count samples (0 to 15), then angles (16 to 31); with 24 samples they are 0 to 23, and the angles
-    /// 24 to 47. A disk's count `val_energy`, `base0`, `base1` (0 to 2), then `xs`, `ys`, `vals_centered`, `grad_angles`,
-    /// `grad_weights`.
+    /// 24 to 47. Of a table that is to be stored they are its angles, 0 to 15. A disk's count `val_energy`, `base0`, `base1`
+    /// (0 to 2), then `xs`, `ys`, `vals_centered`, `grad_angles`, `grad_weights`.
     pub place: u16,
 }
 

@@ -127,6 +127,61 @@ pub fn fit_disk(disk: &Disk<'_>, fit: &mut [f32], counts: &mut [u32]) -> u32 {
     }
 }
 
+/// The calls with tables, for which this crate needs a heap.
+#[cfg(feature = "alloc")]
+pub mod tables {
+    /// Words of the struct jb_tables, which is their array and nothing else.
+    pub const WORDS: usize = 14089;
+
+    pub type Words = [f32; WORDS];
+
+    mod c {
+        extern "C" {
+            pub fn jb_tables_fresh(tables: *mut super::Words);
+            pub fn jb_tables_store(tables: *mut super::Words, angles: *const f32, angles_len: usize) -> u32;
+            pub fn jb_tables_fit(
+                tables: *const super::Words,
+                samples: *const f32,
+                samples_len: usize,
+                angles: *const f32,
+                angles_len: usize,
+                fit: *mut f32,
+                fit_len: usize,
+                counts: *mut u32,
+                counts_len: usize,
+            ) -> u32;
+        }
+    }
+
+    pub fn fresh(tables: &mut Words) {
+        // SAFETY: all words of live tables, borrowed alone.
+        unsafe { c::jb_tables_fresh(tables) }
+    }
+
+    pub fn store(tables: &mut Words, angles: &[f32]) -> u32 {
+        // SAFETY: all words of live tables, borrowed alone; pointer and length of a live slice.
+        unsafe { c::jb_tables_store(tables, angles.as_ptr(), angles.len()) }
+    }
+
+    pub fn fit(tables: &Words, samples: &[f32], angles: &[f32], fit: &mut [f32], counts: &mut [u32]) -> u32 {
+        // SAFETY: all words of live tables, which are read alone; pointers and lengths of live slices, the written ones
+        // borrowed alone.
+        unsafe {
+            c::jb_tables_fit(
+                tables,
+                samples.as_ptr(),
+                samples.len(),
+                angles.as_ptr(),
+                angles.len(),
+                fit.as_mut_ptr(),
+                fit.len(),
+                counts.as_mut_ptr(),
+                counts.len(),
+            )
+        }
+    }
+}
+
 #[cfg(test)]
 mod tests {
     use super::*;
@@ -152,6 +207,17 @@ mod tests {
             assert_eq!(ring_record(zeros, zeros, &mut fit, &mut counts[..3]), 65536);
             assert_eq!((fit, counts), ([7.0; 7], [7; 4]));
         }
+    }
+
+    #[cfg(feature = "alloc")]
+    #[test]
+    fn short_buffers_by_tables_are_refused_and_kept() {
+        let (words, zeros, mut fit, mut counts) = ([0.0; tables::WORDS], [0.0; 16], [7.0; 8], [7; 5]);
+        assert_eq!(tables::fit(&words, &zeros, &zeros, &mut fit[..6], &mut counts), 65536);
+        assert_eq!(tables::fit(&words, &zeros, &zeros, &mut fit, &mut counts[..3]), 65536);
+        assert_eq!((fit, counts), ([7.0; 8], [7; 5]));
+        assert_eq!(tables::fit(&words, &zeros, &zeros, &mut fit, &mut counts), 0);
+        assert_eq!((fit[7], counts[4]), (7.0, 7));
     }
 
     #[test]

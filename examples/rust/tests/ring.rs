@@ -116,6 +116,6 @@ fn a_refusal_speaks() {
 fn numbers_and_reasons_are_one_to_one() {
     for code in 0..=9 {
         assert_eq!(Number::from_code(code).code(), code);
-        assert_eq!(matches!(Number::from_code(code), Number::Unknown(_)), !(1..=5).contains(&code));
+        assert_eq!(matches!(Number::from_code(code), Number::Unknown(_)), !(1..=6).contains(&code));
     }
 }
