@@ -303,7 +303,7 @@ fn fill_table(angles: &[f32], h: &[f32], table: &mut [f32])
     }
 }
 
-// The table of these angles, on whose grid the buffers of this call's stack are spent.
+// The table of these angles. The grid's rows are on this call's stack, and are of no use afterwards.
 fn build_table(angles: &[f32], table: &mut [f32])
     requires { ⌜ (length (now angles) ≡ W.ringSamples) × (length (now table) ≡ W.tableSize) ⌝ }
     ensures { λ _. ⌜ now (table .exit) ≡ W.tableWords (now (angles .entry)) (M.modelAt W.ringSamples (now (angles .entry))) ⌝ }

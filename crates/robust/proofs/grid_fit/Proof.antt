@@ -14,14 +14,14 @@ returns c =
 
 fill-grid-requires : tie.Need-fill-grid-requires
 fill-grid-requires c κs =
-    let at-before-13 = c .before .before .before .before .before .before .before .before .before .before .before .before in
-    let at-before = at-before-13 .before .before in
-    let s = at-before in ready-rows (s .pre .0) (s .pre .1)
+    let c6 = c .before .before .before .before .before .before in
+    let s = c6 .before .before .before .before .before .before .before .before in
+    ready-rows (s .pre .0) (s .pre .1)
 
 refined-requires : tie.Need-refined-requires
 refined-requires c κs =
-    let r = c .before .before .before .before .before .before .before .before .before .before .before .before .before .before .before .before .before
-    .before .before .before .before .before .pre .0 in
+    let c14 = c .before .before .before .before .before .before .before .before .before .before .before .before .before .before in
+    let r = c14 .before .before .before .before .before .before .before .before .pre .0 in
     record { few = r .few; phi = r .phi; sines = r .sines; j = search needs }
 
 returns-2 : tie.Need-returns-2

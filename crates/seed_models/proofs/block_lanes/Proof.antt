@@ -17,8 +17,8 @@ abbrev μ-loop : tie.MeasureT-loop
 
 loop-holds : tie.Need-loop-holds Inv-loop μ-loop
 loop-holds c =
-    let at-args = c .before .before .before .before .before .before .before .before .before .before .args in
-    let a = at-args in (search needs, sums-none (a .block .now) (a .centered .now))
+    let a = c .before .before .before .before .before .before .before .before .before .before .args in
+    (search needs, sums-none (a .block .now) (a .centered .now))
 
 loop-again : tie.Need-loop-again Inv-loop μ-loop
 loop-again c =
