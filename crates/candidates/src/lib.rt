@@ -1,6 +1,6 @@
 // Candidate angles and the pool of pairs: disk_sector/candidates.rs.
 ghost use Rattle.std.specs.Prelude.{◌≡◌, false, ◌+◌, ◌≤◌, ◌<◌, length, replicate};
-ghost use Rattle.floats.specs.Library.{histBins};
+ghost use Rattle.floats.specs.Library.{hist_bins};
 ghost use Rattle.candidates.specs.Candidates as C;
 
 use floats::HIST_BINS;
@@ -65,7 +65,7 @@ pub struct Pool {
 
 impl CandidateSet {
     pub fn new() -> CandidateSet
-        ensures { result ≡ C.newSet }
+        ensures { result ≡ C.new_set }
     {
         CandidateSet {
             n: 0,
@@ -75,8 +75,8 @@ impl CandidateSet {
 
     // Whether a kept angle lies within min_sep of a.
     fn is_near(self, a: f32, min_sep: f32) -> bool
-        requires { self.n ≤ C.maxCandidates }
-        ensures { result ≡ C.isNear self.angles self.n a min_sep }
+        requires { self.n ≤ C.max_candidates }
+        ensures { result ≡ C.is_near self.angles self.n a min_sep }
     {
         let n = self.n;
         for i in 0..n {
@@ -89,8 +89,8 @@ impl CandidateSet {
 
     // Adds the angle, wrapped by PI, unless a kept one lies within min_sep.
     pub fn push_unique(mut self, angle: f32, min_sep: f32) -> CandidateSet
-        requires { self.n ≤ C.maxCandidates }
-        ensures { (result.n ≤ C.maxCandidates) × (result.n ≤ self.n + 1) × (result ≡ C.pushUnique self angle min_sep) }
+        requires { self.n ≤ C.max_candidates }
+        ensures { (result.n ≤ C.max_candidates) × (result.n ≤ self.n + 1) × (result ≡ C.push_unique self angle min_sep) }
     {
         let n = self.n;
         if n >= MAX_CANDIDATES {
@@ -108,8 +108,8 @@ impl CandidateSet {
 
 // The weights of the gradients by their direction.
 fn histogram(grad_angles: &[f32], grad_weights: &[f32], hist: &mut [f32])
-    requires { (length grad_weights.now ≡ length grad_angles.now) × (length hist.old ≡ histBins) }
-    ensures { (length hist.new ≡ histBins)
+    requires { (length grad_weights.now ≡ length grad_angles.now) × (length hist.old ≡ hist_bins) }
+    ensures { (length hist.new ≡ hist_bins)
         × (hist.new
         ≡ C.histogram (length grad_angles.now) grad_angles.now grad_weights.now hist.old) }
 {
@@ -125,8 +125,8 @@ fn histogram(grad_angles: &[f32], grad_weights: &[f32], hist: &mut [f32])
 }
 
 fn prev_bin(i: usize) -> usize
-    requires { i < histBins }
-    ensures { (result < histBins) × (result ≡ C.prevBin i) }
+    requires { i < hist_bins }
+    ensures { (result < hist_bins) × (result ≡ C.prev_bin i) }
 {
     if i == 0 {
         return HIST_BINS - 1;
@@ -135,8 +135,8 @@ fn prev_bin(i: usize) -> usize
 }
 
 fn next_bin(i: usize) -> usize
-    requires { i < histBins }
-    ensures { (result < histBins) × (result ≡ C.nextBin i) }
+    requires { i < hist_bins }
+    ensures { (result < hist_bins) × (result ≡ C.next_bin i) }
 {
     if i + 1 == HIST_BINS {
         return 0;
@@ -146,8 +146,8 @@ fn next_bin(i: usize) -> usize
 
 // 1/4, 1/2, 1/4 around the circle.
 fn smooth_bins(hist: &[f32], smooth: &mut [f32])
-    requires { (length hist.now ≡ histBins) × (length smooth.old ≡ histBins) }
-    ensures { (length smooth.new ≡ histBins) × (smooth.new ≡ C.smoothed hist.now) }
+    requires { (length hist.now ≡ hist_bins) × (length smooth.old ≡ hist_bins) }
+    ensures { (length smooth.new ≡ hist_bins) × (smooth.new ≡ C.smoothed hist.now) }
 {
     for i in 0..HIST_BINS {
         let prev = prev_bin(i);
@@ -157,7 +157,7 @@ fn smooth_bins(hist: &[f32], smooth: &mut [f32])
 }
 
 fn greatest(smooth: &[f32]) -> f32
-    requires { length smooth.now ≡ histBins }
+    requires { length smooth.now ≡ hist_bins }
     ensures { result ≡ C.greatest smooth.now }
 {
     let mut max_v = 0.0f32;
@@ -169,8 +169,8 @@ fn greatest(smooth: &[f32]) -> f32
 
 // The greatest unused bin, the lower on a tie; HIST_BINS where every bin is used.
 fn best_bin(smooth: &[f32], used: &[bool]) -> usize
-    requires { (length smooth.now ≡ histBins) × (length used.now ≡ histBins) }
-    ensures { (result ≤ histBins) × (result ≡ C.bestBin smooth.now used.now) }
+    requires { (length smooth.now ≡ hist_bins) × (length used.now ≡ hist_bins) }
+    ensures { (result ≤ hist_bins) × (result ≡ C.best_bin smooth.now used.now) }
 {
     let mut best = HIST_BINS;
     for i in 0..HIST_BINS {
@@ -190,15 +190,15 @@ fn best_bin(smooth: &[f32], used: &[bool]) -> usize
 }
 
 fn bin_angle(best_i: usize) -> f32
-    requires { best_i < histBins }
-    ensures { result ≡ C.binAngle best_i }
+    requires { best_i < hist_bins }
+    ensures { result ≡ C.bin_angle best_i }
 {
     (floats::count_f32(best_i) + 0.5) * floats::PI / floats::count_f32(HIST_BINS)
 }
 
 fn is_too_low(smooth: &[f32], max_v: f32, best_i: usize) -> bool
-    requires { length smooth.now ≡ histBins }
-    ensures { result ≡ C.tooLow smooth.now max_v best_i }
+    requires { length smooth.now ≡ hist_bins }
+    ensures { result ≡ C.too_low smooth.now max_v best_i }
 {
     if best_i >= HIST_BINS {
         return true;
@@ -208,8 +208,8 @@ fn is_too_low(smooth: &[f32], max_v: f32, best_i: usize) -> bool
 
 // At most MAX_PICKS, until one is below 0.12 of the maximum. A pick that is dropped counts.
 fn peaks(smooth: &[f32], max_v: f32, used: &mut [bool]) -> CandidateSet
-    requires { (length smooth.now ≡ histBins) × (used.old ≡ replicate histBins false) }
-    ensures { (result.n ≤ C.maxPicks) × (result ≡ C.peaks smooth.now max_v) }
+    requires { (length smooth.now ≡ hist_bins) × (used.old ≡ replicate hist_bins false) }
+    ensures { (result.n ≤ C.max_picks) × (result ≡ C.peaks smooth.now max_v) }
 {
     let mut candidates = CandidateSet::new();
     for k in 0..MAX_PICKS {
@@ -224,8 +224,8 @@ fn peaks(smooth: &[f32], max_v: f32, used: &mut [bool]) -> CandidateSet
 }
 
 fn histogram_peaks(smooth: &[f32]) -> CandidateSet
-    requires { length smooth.now ≡ histBins }
-    ensures { (result.n ≤ C.maxPicks) × (result ≡ C.histogramPeaks smooth.now) }
+    requires { length smooth.now ≡ hist_bins }
+    ensures { (result.n ≤ C.max_picks) × (result ≡ C.histogram_peaks smooth.now) }
 {
     let max_v = greatest(smooth);
     if max_v > 0.0 {
@@ -269,8 +269,8 @@ pub fn histogram_candidates(
     base1: f32,
 ) -> CandidateSet
     requires { length grad_weights.now ≡ length grad_angles.now }
-    ensures { (result.n ≤ C.maxPaired)
-        × (result ≡ C.gradientCandidates (length grad_angles.now) grad_angles.now grad_weights.now base0 base1) }
+    ensures { (result.n ≤ C.max_paired)
+        × (result ≡ C.gradient_candidates (length grad_angles.now) grad_angles.now grad_weights.now base0 base1) }
 {
     let mut hist = [0.0f32; HIST_BINS];
     let mut smooth = [0.0f32; HIST_BINS];
@@ -290,7 +290,7 @@ struct Nearby {
 }
 
 fn nearer(best: Nearby, c: usize, d: f32) -> Nearby
-    ensures { result ≡ C.nearerOf c d best }
+    ensures { result ≡ C.nearer_of c d best }
 {
     if d < best.best_d {
         return Nearby {
@@ -302,7 +302,7 @@ fn nearer(best: Nearby, c: usize, d: f32) -> Nearby
 }
 
 fn nearest(candidates: CandidateSet, target_w: f32) -> Nearby
-    requires { candidates.n ≤ C.maxCandidates }
+    requires { candidates.n ≤ C.max_candidates }
     ensures { (result.best_i ≤ candidates.n) × (result ≡ C.nearest candidates.angles target_w candidates.n) }
 {
     let n = candidates.n;
@@ -318,8 +318,8 @@ fn nearest(candidates: CandidateSet, target_w: f32) -> Nearby
 }
 
 pub fn closest_candidate(candidates: CandidateSet, target: f32) -> Closest
-    requires { candidates.n ≤ C.maxCandidates }
-    ensures { result ≡ C.closestCandidate candidates target }
+    requires { candidates.n ≤ C.max_candidates }
+    ensures { result ≡ C.closest_candidate candidates target }
 {
     if candidates.n == 0 {
         return Closest::Nobody;
@@ -342,8 +342,8 @@ fn ordered(i: usize, j: usize) -> Forced
 
 // The pair closest to the seeds.
 pub fn forced_seed_pair(candidates: CandidateSet, base0: f32, base1: f32) -> Forced
-    requires { candidates.n ≤ C.maxCandidates }
-    ensures { result ≡ C.forcedSeedPair candidates base0 base1 }
+    requires { candidates.n ≤ C.max_candidates }
+    ensures { result ≡ C.forced_seed_pair candidates base0 base1 }
 {
     if candidates.n < 2 {
         return Forced::Nothing;
@@ -359,7 +359,7 @@ pub fn forced_seed_pair(candidates: CandidateSet, base0: f32, base1: f32) -> For
 
 fn first_tops(edge_align: &[f32]) -> Tops
     requires { 2 ≤ length edge_align.now }
-    ensures { (result.top0 < 2) × (result.top1 < 2) × (result ≡ C.firstTops edge_align.now) }
+    ensures { (result.top0 < 2) × (result.top1 < 2) × (result ≡ C.first_tops edge_align.now) }
 {
     if edge_align[1] > edge_align[0] {
         return Tops { top0: 1, top1: 0 };
@@ -369,7 +369,7 @@ fn first_tops(edge_align: &[f32]) -> Tops
 
 fn raised_tops(edge_align: &[f32], c: usize, t: Tops) -> Tops
     requires { (c < length edge_align.now) × (t.top0 < c) × (t.top1 < c) }
-    ensures { (result.top0 ≤ c) × (result.top1 ≤ c) × (result ≡ C.raisedTops edge_align.now c t) }
+    ensures { (result.top0 ≤ c) × (result.top1 ≤ c) × (result ≡ C.raised_tops edge_align.now c t) }
 {
     let top0 = t.top0;
     let top1 = t.top1;
@@ -388,7 +388,7 @@ fn raised_tops(edge_align: &[f32], c: usize, t: Tops) -> Tops
 // The pair of the two greatest edge sums.
 pub fn forced_histogram_pair(candidates: CandidateSet, edge_align: &[f32]) -> Forced
     requires { candidates.n ≤ length edge_align.now }
-    ensures { result ≡ C.forcedHistogramPair candidates edge_align.now }
+    ensures { result ≡ C.forced_histogram_pair candidates edge_align.now }
 {
     let n = candidates.n;
     if n < 2 {
@@ -402,7 +402,7 @@ pub fn forced_histogram_pair(candidates: CandidateSet, edge_align: &[f32]) -> Fo
 }
 
 pub fn matches_pair(forced: Forced, i: usize, j: usize) -> bool
-    ensures { result ≡ C.matchesPair forced i j }
+    ensures { result ≡ C.matches_pair forced i j }
 {
     let Forced::Pair(fi, fj) = forced else {
         return false;
@@ -411,7 +411,7 @@ pub fn matches_pair(forced: Forced, i: usize, j: usize) -> bool
 }
 
 pub fn combine_edge_pair(s_a: f32, s_b: f32, total: f32) -> f32
-    ensures { result ≡ C.combineEdgePair s_a s_b total }
+    ensures { result ≡ C.combine_edge_pair s_a s_b total }
 {
     if total <= 1e-9 {
         return 0.0;
@@ -423,7 +423,7 @@ pub fn combine_edge_pair(s_a: f32, s_b: f32, total: f32) -> f32
 }
 
 fn no_pairs() -> Pool
-    ensures { result ≡ C.noPairs }
+    ensures { result ≡ C.no_pairs }
 {
     let p = PairScore {
         i: 0,
@@ -436,7 +436,7 @@ fn no_pairs() -> Pool
 }
 
 fn is_forced(force_seed: Forced, force_hist: Forced, i: usize, j: usize) -> bool
-    ensures { result ≡ C.isForced force_seed force_hist i j }
+    ensures { result ≡ C.is_forced force_seed force_hist i j }
 {
     matches_pair(force_seed, i, j) || matches_pair(force_hist, i, j)
 }
@@ -450,7 +450,7 @@ fn pair_score(
     j: usize,
 ) -> PairScore
     requires { (i < length edge_align.now) × (j < length edge_align.now) × (i < 65536) × (j < 65536) }
-    ensures { result ≡ C.pairScore edge_align.now grad_total force_seed force_hist i j }
+    ensures { result ≡ C.pair_score edge_align.now grad_total force_seed force_hist i j }
 {
     let edge_score = combine_edge_pair(edge_align[i], edge_align[j], grad_total);
     let forced = is_forced(force_seed, force_hist, i, j);
@@ -470,9 +470,9 @@ pub fn build_pair_pool(
     force_seed: Forced,
     force_hist: Forced,
 ) -> Pool
-    requires { (candidates.n ≤ C.maxPaired) × (candidates.n ≤ length edge_align.now) }
-    ensures { (result.n ≤ C.maxPairs)
-        × (result ≡ C.buildPairPool candidates edge_align.now grad_total force_seed force_hist) }
+    requires { (candidates.n ≤ C.max_paired) × (candidates.n ≤ length edge_align.now) }
+    ensures { (result.n ≤ C.max_pairs)
+        × (result ≡ C.build_pair_pool candidates edge_align.now grad_total force_seed force_hist) }
 {
     let n = candidates.n;
     let mut pool = no_pairs();

@@ -5,20 +5,20 @@ use Rattle.std.specs.Float.{nan}
 use Rattle.std.specs.Float.Ieee.Scale.{finite}
 use Rattle.loops.specs.Loops.{iter}
 use Rattle.seed_models.specs.Models.{Table}
-use Rattle.robust.specs.Record.{recordRing}
+use Rattle.robust.specs.Record.{record_ring}
 use Rattle.checked.specs.declared.Refusal.{Refusal}
 use Rattle.checked.specs.declared.Refusal.TheVariants.{By, Nothing}
 use Rattle.checked.specs.declared.RingAnswer.TheVariants.{Fitted, Refused}
-use Rattle.checked.specs.Checked.{checkedRing}
+use Rattle.checked.specs.Checked.{checked_ring}
 use Rattle.checked.specs.declared.Wild.{Wild}
 use Rattle.checked.specs.declared.Wild.TheVariants.{At, Clean}
 
 -- whether all values are finite, told without their places
-abbrev pub stillFine : Float → Bool → Bool
-stillFine x fine = cond (finite x) fine false
+abbrev pub still_fine : Float → Bool → Bool
+still_fine x fine = cond (finite x) fine false
 
-unfoldable pub allFinite : List Float → Bool
-allFinite l = iter (λ i. stillFine (get_or l i nan)) true (length l)
+unfoldable pub all_finite : List Float → Bool
+all_finite l = iter (λ i. still_fine (get_or l i nan)) true (length l)
 
 -- a place that is found is one of the values
 abbrev pub Below : ℕ → Wild → Type 0
@@ -36,6 +36,6 @@ lone_at x place next = cond (finite x) next (At place)
 
 -- a ring of n samples that is refused is answered so; of any other both lengths are n, and its fit is the answer
 abbrev pub RingRefusal : ℕ → List Float → List Float → Refusal → Type 0
-RingRefusal n samples angles (By number place) = (tables : List Table) → Refused number place ≡ checkedRing tables n samples angles
+RingRefusal n samples angles (By number place) = (tables : List Table) → Refused number place ≡ checked_ring tables n samples angles
 RingRefusal n samples angles Nothing =
-    (length samples ≡ n) × (length angles ≡ n) × ((tables : List Table) → Fitted (recordRing tables n samples angles) ≡ checkedRing tables n samples angles)
+    (length samples ≡ n) × (length angles ≡ n) × ((tables : List Table) → Fitted (record_ring tables n samples angles) ≡ checked_ring tables n samples angles)

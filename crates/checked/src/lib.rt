@@ -1,9 +1,9 @@
 // The checked entries: what a caller gets who may hand over anything. Wrong lengths and values that
 // are not finite are refused by number and place; everything else is fitted.
 ghost use Rattle.std.specs.Prelude.{◌≡◌, [], ◌<◌, ◌≤◌, length, Float};
-ghost use Rattle.solver.specs.Buffers.{maxSamples};
-ghost use Rattle.data.specs.Data.{lentDisk, OfPixels, DiskSized, maxTanhPixels};
-ghost use Rattle.seed_models.specs.Words.{tablesIn};
+ghost use Rattle.solver.specs.Buffers.{max_samples};
+ghost use Rattle.data.specs.Data.{lent_disk, OfPixels, DiskSized, max_tanh_pixels};
+ghost use Rattle.seed_models.specs.Words.{tables_in};
 ghost use Rattle.checked.specs.Checked as C;
 ghost use Rattle.checked.specs.Parts as P;
 
@@ -34,7 +34,7 @@ pub enum RingAnswer {
 }
 
 fn still_fine(fine: bool, x: f32) -> bool
-    ensures { result ≡ P.stillFine x fine }
+    ensures { result ≡ P.still_fine x fine }
 {
     if floats::is_finite(x) {
         return fine;
@@ -43,7 +43,7 @@ fn still_fine(fine: bool, x: f32) -> bool
 }
 
 fn all_finite(xs: &[f32]) -> bool
-    ensures { result ≡ P.allFinite xs.now }
+    ensures { result ≡ P.all_finite xs.now }
 {
     let n = xs.len();
     let mut fine = true;
@@ -55,7 +55,7 @@ fn all_finite(xs: &[f32]) -> bool
 
 fn find_wild(xs: &[f32]) -> Wild
     requires { length xs.now < 4096 }
-    ensures { (result ≡ C.firstWild xs.now) × P.Below (length xs.now) result }
+    ensures { (result ≡ C.first_wild xs.now) × P.Below (length xs.now) result }
 {
     let n = xs.len();
     for i in 0..n {
@@ -70,7 +70,7 @@ fn find_wild(xs: &[f32]) -> Wild
 // Whether all are finite is asked first: that loop becomes vector code, and the place is looked for only where it is needed.
 pub fn first_wild(xs: &[f32]) -> Wild
     requires { length xs.now < 4096 }
-    ensures { (result ≡ C.firstWild xs.now) × P.Below (length xs.now) result }
+    ensures { (result ≡ C.first_wild xs.now) × P.Below (length xs.now) result }
 {
     if all_finite(xs) {
         return Wild::Clean;
@@ -80,7 +80,7 @@ pub fn first_wild(xs: &[f32]) -> Wild
 
 // The place of a value that is not finite among all values, or what comes later.
 fn shifted(w: Wild, off: u16, next: Wild) -> Wild
-    requires { P.Below maxTanhPixels w × (off ≤ 4096) }
+    requires { P.Below max_tanh_pixels w × (off ≤ 4096) }
     ensures { result ≡ P.shifted_by w off next }
 {
     let Wild::At(i) = w else {
@@ -100,8 +100,8 @@ fn lone(x: f32, place: u16, next: Wild) -> Wild
 
 // The angles' places count on from the number of samples.
 fn ring_wild(samples: &[f32], angles: &[f32]) -> Wild
-    requires { (length samples.now ≤ maxSamples) × (length angles.now ≤ maxSamples) }
-    ensures { result ≡ C.firstWild (C.ringInputs samples.now angles.now) }
+    requires { (length samples.now ≤ max_samples) × (length angles.now ≤ max_samples) }
+    ensures { result ≡ C.first_wild (C.ring_inputs samples.now angles.now) }
 {
     let n = samples.len() as u16;
     let b = shifted(first_wild(angles), n, Wild::Clean);
@@ -110,7 +110,7 @@ fn ring_wild(samples: &[f32], angles: &[f32]) -> Wild
 
 // By which number and place a ring of n samples is refused, if it is.
 fn ring_refusal(n: usize, samples: &[f32], angles: &[f32]) -> Refusal
-    requires { n ≤ maxSamples }
+    requires { n ≤ max_samples }
     ensures { P.RingRefusal n samples.now angles.now result }
 {
     if samples.len() != n || angles.len() != n {
@@ -124,7 +124,7 @@ fn ring_refusal(n: usize, samples: &[f32], angles: &[f32]) -> Refusal
 
 // The ring entry: any two slices.
 pub fn fit_ring(samples: &[f32], angles: &[f32]) -> RingAnswer
-    ensures { result ≡ C.checkedRing [] 16 samples.now angles.now }
+    ensures { result ≡ C.checked_ring [] 16 samples.now angles.now }
 {
     match ring_refusal(16, samples, angles) {
         Refusal::By(number, place) => RingAnswer::Refused(number, place),
@@ -134,7 +134,7 @@ pub fn fit_ring(samples: &[f32], angles: &[f32]) -> RingAnswer
 
 // The same of 24 samples.
 pub fn fit_ring24(samples: &[f32], angles: &[f32]) -> RingAnswer
-    ensures { result ≡ C.checkedRing [] 24 samples.now angles.now }
+    ensures { result ≡ C.checked_ring [] 24 samples.now angles.now }
 {
     match ring_refusal(24, samples, angles) {
         Refusal::By(number, place) => RingAnswer::Refused(number, place),
@@ -148,7 +148,7 @@ pub fn fit_ring_with(
     samples: &[f32],
     angles: &[f32],
 ) -> RingAnswer
-    ensures { result ≡ C.checkedRing (tablesIn words.now) 16 samples.now angles.now }
+    ensures { result ≡ C.checked_ring (tables_in words.now) 16 samples.now angles.now }
 {
     match ring_refusal(16, samples, angles) {
         Refusal::By(number, place) => RingAnswer::Refused(number, place),
@@ -182,7 +182,7 @@ fn disk_wild(
     grad_weights: &[f32],
 ) -> Wild
     requires { DiskSized xs.now ys.now vals_centered.now grad_angles.now grad_weights.now }
-    ensures { result ≡ C.firstWild (C.diskInputs (lentDisk val_energy xs ys vals_centered grad_angles grad_weights) base0 base1) }
+    ensures { result ≡ C.first_wild (C.disk_inputs (lent_disk val_energy xs ys vals_centered grad_angles grad_weights) base0 base1) }
 {
     let n = xs.len() as u16;
     let e = shifted(first_wild(grad_weights), 3 + 4 * n, Wild::Clean);
@@ -194,8 +194,8 @@ fn disk_wild(
 }
 
 fn with_errors(xs: &[f32], ys: &[f32], vals_centered: &[f32], f: Fit, trials: usize) -> Measured
-    requires { (length xs.now ≤ maxTanhPixels) × (length ys.now ≡ length xs.now) × (length vals_centered.now ≡ length xs.now) }
-    ensures { (energy : Float) → OfPixels energy xs ys vals_centered (λ D. result ≡ C.measuredOf D f trials) }
+    requires { (length xs.now ≤ max_tanh_pixels) × (length ys.now ≡ length xs.now) × (length vals_centered.now ≡ length xs.now) }
+    ensures { (energy : Float) → OfPixels energy xs ys vals_centered (λ D. result ≡ C.measured_of D f trials) }
 {
     let estimate = score::fit_std_errors(xs, ys, vals_centered, f);
     Measured {
@@ -216,7 +216,7 @@ fn disk_fitted(
     grad_weights: &[f32],
 ) -> DiskAnswer
     requires { DiskSized xs.now ys.now vals_centered.now grad_angles.now grad_weights.now }
-    ensures { result ≡ C.diskFitted (lentDisk val_energy xs ys vals_centered grad_angles grad_weights) base0 base1 }
+    ensures { result ≡ C.disk_fitted (lent_disk val_energy xs ys vals_centered grad_angles grad_weights) base0 base1 }
 {
     let found = search::best_disk_fit(
         val_energy,
@@ -247,8 +247,8 @@ fn disk_looked(
     grad_weights: &[f32],
 ) -> DiskAnswer
     requires { DiskSized xs.now ys.now vals_centered.now grad_angles.now grad_weights.now }
-    ensures { result ≡ C.diskLooked (lentDisk val_energy xs ys vals_centered grad_angles grad_weights) base0 base1
-        (C.firstWild (C.diskInputs (lentDisk val_energy xs ys vals_centered grad_angles grad_weights) base0 base1)) }
+    ensures { result ≡ C.disk_looked (lent_disk val_energy xs ys vals_centered grad_angles grad_weights) base0 base1
+        (C.first_wild (C.disk_inputs (lent_disk val_energy xs ys vals_centered grad_angles grad_weights) base0 base1)) }
 {
     let wild = disk_wild(
         val_energy,
@@ -286,7 +286,7 @@ pub fn fit_disk(
     grad_angles: &[f32],
     grad_weights: &[f32],
 ) -> DiskAnswer
-    ensures { result ≡ C.checkedDisk (lentDisk val_energy xs ys vals_centered grad_angles grad_weights) base0 base1 }
+    ensures { result ≡ C.checked_disk (lent_disk val_energy xs ys vals_centered grad_angles grad_weights) base0 base1 }
 {
     let n = xs.len();
     if n == 0 || n > data::MAX_TANH_PIXELS {

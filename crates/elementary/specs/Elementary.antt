@@ -6,7 +6,7 @@ use Rattle.std.specs.Float.{binary32}
 use Rattle.std.specs.Float.Ieee.{rem, neg, lt, eq, of_bits, to_bits}
 use Rattle.elementary.specs.declared.SinCos.{SinCos}
 use Rattle.elementary.specs.declared.TwoSinCos.{TwoSinCos}
-use Rattle.floats.specs.Ops.{◌⊕◌, ◌⊖◌, ◌⊗◌, ◌⊘◌, lit, minus, nought, one, pi, tau, halfPi}
+use Rattle.floats.specs.Ops.{◌⊕◌, ◌⊖◌, ◌⊗◌, ◌⊘◌, lit, minus, nought, one, pi, tau, half_pi}
 
 -- ---- selects, each one instruction of the machine
 -- x, but top where x is above it; x, but bottom where x is below it: a NaN passes
@@ -32,68 +32,68 @@ unfoldable pub scale : Float → Float
 scale t = of_bits binary32 (to_bits binary32 t % 256 * 8388608)
 
 -- R = 1.5 * 2 ^ 23: adding it and taking it off rounds to a whole number. M is R + 127, so that the low byte of a sum's pattern is an exponent's field.
-abbrev pub bigR : Float
-bigR = lit 0x4b40_0000
+abbrev pub big_r : Float
+big_r = lit 0x4b40_0000
 
-abbrev pub bigM : Float
-bigM = lit 0x4b40_007f
+abbrev pub big_m : Float
+big_m = lit 0x4b40_007f
 
 unfoldable pub whole : Float → Float
-whole v = (v ⊕ bigR) ⊖ bigR
+whole v = (v ⊕ big_r) ⊖ big_r
 
 -- ---- tanh (c + r) = T + (1 - T * T) * tanh r / (1 + T * tanh r), with c = k * ln 2 / 2, so that T = (2 ^ k - 1) / (2 ^ k + 1); l is -T
 -- tanh r / (1 + T * tanh r) is r / (1 + q)
-unfoldable pub tanhRest : Float → Float → Float
-tanhRest l r =
+unfoldable pub tanh_rest : Float → Float → Float
+tanh_rest l r =
     let z = r ⊗ r in
     let q = z ⊗ (lit 0x3eaa_aa7a ⊕ z ⊗ minus 0x3cb5_1554) ⊖ l ⊗ r in
     r ⊖ (r ⊗ q ⊕ nought) ⊘ (one ⊕ q)
 
 unfoldable pub tanh : Float → Float
-unfolding unit scale tanhRest
+unfolding unit scale tanh_rest
 tanh x =
     let a = raised (capped x (lit 0x4114_0000)) (minus 0x4114_0000) in
-    let t = x ⊗ lit 0x4030_0000 ⊕ bigM in
+    let t = x ⊗ lit 0x4030_0000 ⊕ big_m in
     let v = under (above t (lit 0x4b40_0068)) (lit 0x4b40_0096) in
-    let r = a ⊖ (v ⊖ bigM) ⊗ lit 0x3eb1_7218 in
+    let r = a ⊖ (v ⊖ big_m) ⊗ lit 0x3eb1_7218 in
     let s = scale v in
     let l = (one ⊖ s) ⊘ (one ⊕ s) in
-    unit ((one ⊖ l ⊗ l) ⊗ tanhRest l r ⊖ l)
+    unit ((one ⊖ l ⊗ l) ⊗ tanh_rest l r ⊖ l)
 
 -- ---- exp of an x not above 0, or NaN: 2 ^ k * e ^ (h - l), with ln 2 in two parts; 0 where the result would be subnormal
-unfoldable pub expRest : Float → Float → Float
-expRest h l =
+unfoldable pub exp_rest : Float → Float → Float
+exp_rest h l =
     let r = h ⊖ l in
     let e = lit 0x3eff_fffe ⊕ r ⊗ (lit 0x3e2a_aa48 ⊕ r ⊗ (lit 0x3d2a_ac7c ⊕ r ⊗ (lit 0x3c09_1d81 ⊕ r ⊗ lit 0x3ab5_112b))) in
     one ⊕ (h ⊕ ((r ⊗ r) ⊗ e ⊖ l))
 
 -- the least f32 whose exp is a normal number
-abbrev pub expLeast : Float
-expLeast = minus 0x42ae_ac4f
+abbrev pub exp_least : Float
+exp_least = minus 0x42ae_ac4f
 
-unfoldable pub expNeg : Float → Float
-unfolding scale expRest
-expNeg x =
-    let z = raised x expLeast in
-    let t = z ⊗ lit 0x3fb8_aa3b ⊕ bigM in
-    let u = above t bigR in
-    let k = t ⊖ bigM in
-    let p = expRest (z ⊖ k ⊗ lit 0x3f31_7200) (k ⊗ lit 0x35bf_be8e) in
+unfoldable pub exp_neg : Float → Float
+unfolding scale exp_rest
+exp_neg x =
+    let z = raised x exp_least in
+    let t = z ⊗ lit 0x3fb8_aa3b ⊕ big_m in
+    let u = above t big_r in
+    let k = t ⊖ big_m in
+    let p = exp_rest (z ⊖ k ⊗ lit 0x3f31_7200) (k ⊗ lit 0x35bf_be8e) in
     let w = raised (capped (p ⊗ scale u) one) nought in
-    cond (lt x expLeast) nought w
+    cond (lt x exp_least) nought w
 
 unfoldable pub exp : Float → Float
-unfolding expNeg
-exp x = cond (lt nought x) (one ⊘ expNeg (neg x)) (expNeg x)
+unfolding exp_neg
+exp x = cond (lt nought x) (one ⊘ exp_neg (neg x)) (exp_neg x)
 
 -- ---- sin and cos: k quarter turns are taken off, PI/2 being cut into three parts; the angle left is r - l
-unfoldable pub sinRest : Float → Float → Float
-sinRest r l =
+unfoldable pub sin_rest : Float → Float → Float
+sin_rest r l =
     let z = r ⊗ r in
     r ⊖ ((r ⊗ z) ⊗ (lit 0x3e2a_aaa3 ⊕ z ⊗ (minus 0x3c08_83a6 ⊕ z ⊗ lit 0x394c_a3e5)) ⊕ l)
 
-unfoldable pub cosRest : Float → Float → Float
-cosRest r l =
+unfoldable pub cos_rest : Float → Float → Float
+cos_rest r l =
     let z = r ⊗ r in
     let y = lit 0x3f00_0000 ⊗ z in
     let w = one ⊖ y in
@@ -111,36 +111,36 @@ quadrant k sr cr =
     record { s = unit (a ⊗ sr ⊖ e ⊗ cr); c = unit (a ⊗ cr ⊕ e ⊗ sr) }
 
 -- of an x up to 64 in size
-unfoldable pub sinCosNear : Float → SinCos
-unfolding whole sinRest cosRest quadrant
-sinCosNear x =
+unfoldable pub sin_cos_near : Float → SinCos
+unfolding whole sin_rest cos_rest quadrant
+sin_cos_near x =
     let k = whole (x ⊗ lit 0x3f22_f983) in
     let h = x ⊖ k ⊗ lit 0x3fc9_0fc0 in
     let g = k ⊗ lit 0x3655_1100 in
     let r = h ⊖ g in
     let l = (g ⊖ (h ⊖ r)) ⊕ k ⊗ lit 0x2c34_611a in
-    quadrant k (sinRest r l) (cosRest r l)
+    quadrant k (sin_rest r l) (cos_rest r l)
 
 -- an angle above 64 in size is first reduced by TAU
 unfoldable pub turn : Float → Float
 turn x = cond (lt (lit 0x4280_0000) x || lt x (minus 0x4280_0000)) (rem binary32 x tau) x
 
-unfoldable pub sinCos : Float → SinCos
-unfolding sinCosNear turn
-sinCos x = sinCosNear (turn x)
+unfoldable pub sin_cos : Float → SinCos
+unfolding sin_cos_near turn
+sin_cos x = sin_cos_near (turn x)
 
 -- of two angles
-unfoldable pub sinCosTwo : Float → Float → TwoSinCos
-unfolding sinCos
-sinCosTwo x y = record { s1 = (sinCos x).s; s2 = (sinCos y).s; c1 = (sinCos x).c; c2 = (sinCos y).c }
+unfoldable pub sin_cos_two : Float → Float → TwoSinCos
+unfolding sin_cos
+sin_cos_two x y = record { s1 = (sin_cos x).s; s2 = (sin_cos y).s; c1 = (sin_cos x).c; c2 = (sin_cos y).c }
 
 unfoldable pub sin : Float → Float
-unfolding sinCos
-sin x = (sinCos x).s
+unfolding sin_cos
+sin x = (sin_cos x).s
 
 unfoldable pub cos : Float → Float
-unfolding sinCos
-cos x = (sinCos x).c
+unfolding sin_cos
+cos x = (sin_cos x).c
 
 -- ---- atan2
 -- below zero, or -0
@@ -152,8 +152,8 @@ unfoldable pub ratio : Float → Float → Float
 ratio ay ax = cond (eq ay ax) (cond (eq ax nought) nought one) (cond (lt ax ay) (ax ⊘ ay) (ay ⊘ ax))
 
 -- the angle whose tangent is t, from 0 to 1
-unfoldable pub atanRest : Float → Float
-atanRest t =
+unfoldable pub atan_rest : Float → Float
+atan_rest t =
     let z = t ⊗ t in
     let w8 = minus 0x3c87_d534 ⊕ z ⊗ lit 0x3b42_f161 in
     let w6 = minus 0x3d9b_4010 ⊕ z ⊗ (lit 0x3d32_652f ⊕ z ⊗ w8) in
@@ -169,13 +169,13 @@ signed b below = cond below (neg b) b
 
 -- the angle's place: from the y axis where it is steep, from the -x axis where x is below zero; PI/2 and PI in two parts each
 unfoldable pub octant : Float → Bool → Bool → Float
-octant c steep back = cond steep (halfPi ⊖ (c ⊕ lit 0x333b_bd2e)) (cond back (pi ⊕ (c ⊖ lit 0x33bb_bd2e)) c)
+octant c steep back = cond steep (half_pi ⊖ (c ⊕ lit 0x333b_bd2e)) (cond back (pi ⊕ (c ⊖ lit 0x33bb_bd2e)) c)
 
 unfoldable pub atan2 : Float → Float → Float
-unfolding left ratio atanRest size signed octant
+unfolding left ratio atan_rest size signed octant
 atan2 y x =
     let ax = size x in
     let ay = size y in
-    let b = atanRest (ratio ay ax) in
+    let b = atan_rest (ratio ay ax) in
     let d = octant (signed b (left x)) (lt ax ay) (left x) in
     raised (capped (signed d (left y)) pi) (minus 0x4049_0fdb)

@@ -7,41 +7,41 @@ use Rattle.std.specs.Float.Ieee.Fits.{add-fits, sub-fits, mul-fits, cond-fits}
 use Rattle.std.specs.Float.Ieee.Scale.{finite}
 use Rattle.floats.specs.Ops.{minus, nought, one, pi}
 use Rattle.floats.specs.RankLaws.{le_of_not_lt}
-use Rattle.elementary.specs.Elementary.{capped, raised, unit, scale, whole, tanhRest, tanh, expRest, expLeast, expNeg, exp, sinRest, cosRest, quadrant}
-use Rattle.elementary.specs.Elementary.{sinCosNear, turn, sinCos, sin, cos}
-use Rattle.elementary.specs.Elementary.{ratio, atanRest, size, signed, octant, atan2}
-use Rattle.elementary.specs.SelectLaws.{Inside, clamped-inside, cond-number, clamped-number, clamped-fits}
-use Rattle.elementary.specs.TanhLaws.{tanh-number}
-use Rattle.elementary.specs.NumberLaws.{sinCos-numbers, expWide, exp-number, atanWide, atan2-number, wide_fits}
+use Rattle.elementary.specs.Elementary.{capped, raised, unit, scale, whole, tanh_rest, tanh, exp_rest, exp_least, exp_neg, exp, sin_rest, cos_rest, quadrant}
+use Rattle.elementary.specs.Elementary.{sin_cos_near, turn, sin_cos, sin, cos}
+use Rattle.elementary.specs.Elementary.{ratio, atan_rest, size, signed, octant, atan2}
+use Rattle.elementary.specs.SelectLaws.{Inside, clamped_inside, cond_number, clamped_number, clamped_fits}
+use Rattle.elementary.specs.TanhLaws.{tanh_number}
+use Rattle.elementary.specs.NumberLaws.{sin_cos_numbers, exp_wide, exp_number, atan_wide, atan2_number, wide_fits}
 
 -- ---- ranges that hold of a NaN too: the tests past the ends fail
-unit-inside : (y : Float) → Inside (minus 0x3f80_0000) one (unit y)
+unit_inside : (y : Float) → Inside (minus 0x3f80_0000) one (unit y)
 unfolding unit lt neg of_bits
-unit-inside y = clamped-inside (minus 0x3f80_0000) one refl refl refl y
+unit_inside y = clamped_inside (minus 0x3f80_0000) one refl refl refl y
 
-pub sin-inside : (x : Float) → Inside (minus 0x3f80_0000) one (sin x)
-unfolding sin sinCos sinCosNear quadrant
-sin-inside x = unit-inside _
+pub sin_inside : (x : Float) → Inside (minus 0x3f80_0000) one (sin x)
+unfolding sin sin_cos sin_cos_near quadrant
+sin_inside x = unit_inside _
 
-pub cos-inside : (x : Float) → Inside (minus 0x3f80_0000) one (cos x)
-unfolding cos sinCos sinCosNear quadrant
-cos-inside x = unit-inside _
+pub cos_inside : (x : Float) → Inside (minus 0x3f80_0000) one (cos x)
+unfolding cos sin_cos sin_cos_near quadrant
+cos_inside x = unit_inside _
 
-pub tanh-inside : (x : Float) → Inside (minus 0x3f80_0000) one (tanh x)
+pub tanh_inside : (x : Float) → Inside (minus 0x3f80_0000) one (tanh x)
 unfolding tanh
-tanh-inside x = unit-inside _
+tanh_inside x = unit_inside _
 
-pub expNeg-inside : (x : Float) → Inside nought one (expNeg x)
-unfolding expNeg lt of_bits
-expNeg-inside x = pick (lt x expLeast) (raised (capped (expWide x) one) nought) (clamped-inside nought one refl refl refl (expWide x))
+pub exp_neg_inside : (x : Float) → Inside nought one (exp_neg x)
+unfolding exp_neg lt of_bits
+exp_neg_inside x = pick (lt x exp_least) (raised (capped (exp_wide x) one) nought) (clamped_inside nought one refl refl refl (exp_wide x))
   where
     pick : (b : Bool) (w : Float) → Inside nought one w → Inside nought one (cond b nought w)
     pick true w h = record { low = refl; high = refl }
     pick false w h = h
 
-pub atan2-inside : (y x : Float) → Inside (minus 0x4049_0fdb) pi (atan2 y x)
+pub atan2_inside : (y x : Float) → Inside (minus 0x4049_0fdb) pi (atan2 y x)
 unfolding atan2 lt neg of_bits
-atan2-inside y x = clamped-inside (minus 0x4049_0fdb) pi refl refl refl (atanWide y x)
+atan2_inside y x = clamped_inside (minus 0x4049_0fdb) pi refl refl refl (atan_wide y x)
 
 -- ---- ranges of a number: the results lie between the ends
 pub record Between (bottom top r : Float) : Type 0 where
@@ -52,123 +52,123 @@ module _ (bottom top : Float) (p : T (fits binary32 bottom)) (q : T (fits binary
   between : (r : Float) → T (fits binary32 r) → T (not (is_nan r)) → Inside bottom top r → Between bottom top r
   between r f k h = record { low = le_of_not_lt binary32 r bottom f p k n h.low; high = le_of_not_lt binary32 top r q f m k h.high }
 
-unit-fits : (y : Float) → T (fits binary32 y) → T (fits binary32 (unit y))
+unit_fits : (y : Float) → T (fits binary32 y) → T (fits binary32 (unit y))
 unfolding unit fits of_bits neg
-unit-fits y f = clamped-fits y one (minus 0x3f80_0000) f tt tt
+unit_fits y f = clamped_fits y one (minus 0x3f80_0000) f tt tt
 
-unit-between : (r : Float) → T (fits binary32 r) → T (not (is_nan r)) → Inside (minus 0x3f80_0000) one r → Between (minus 0x3f80_0000) one r
+unit_between : (r : Float) → T (fits binary32 r) → T (not (is_nan r)) → Inside (minus 0x3f80_0000) one r → Between (minus 0x3f80_0000) one r
 unfolding is_nan fits of_bits neg
-unit-between r f n h = between (minus 0x3f80_0000) one tt tt tt tt r f n h
+unit_between r f n h = between (minus 0x3f80_0000) one tt tt tt tt r f n h
 
-pub sin-between : (x : Float) → T (fits binary32 x) → T (finite x) → Between (minus 0x3f80_0000) one (sin x)
-sin-between x f q =
-    unit-between (sin x) (unfold sin sinCos sinCosNear quadrant in unit-fits _ (sub-fits binary32 _ _)) (unfold sin in (sinCos-numbers x f q).s) (sin-inside x)
+pub sin_between : (x : Float) → T (fits binary32 x) → T (finite x) → Between (minus 0x3f80_0000) one (sin x)
+sin_between x f q =
+    unit_between (sin x) (unfold sin sin_cos sin_cos_near quadrant in unit_fits _ (sub-fits binary32 _ _)) (unfold sin in (sin_cos_numbers x f q).s) (sin_inside x)
 
-pub cos-between : (x : Float) → T (fits binary32 x) → T (finite x) → Between (minus 0x3f80_0000) one (cos x)
-cos-between x f q =
-    unit-between (cos x) (unfold cos sinCos sinCosNear quadrant in unit-fits _ (add-fits binary32 _ _)) (unfold cos in (sinCos-numbers x f q).c) (cos-inside x)
+pub cos_between : (x : Float) → T (fits binary32 x) → T (finite x) → Between (minus 0x3f80_0000) one (cos x)
+cos_between x f q =
+    unit_between (cos x) (unfold cos sin_cos sin_cos_near quadrant in unit_fits _ (add-fits binary32 _ _)) (unfold cos in (sin_cos_numbers x f q).c) (cos_inside x)
 
-pub tanh-between : (x : Float) → T (fits binary32 x) → T (not (is_nan x)) → Between (minus 0x3f80_0000) one (tanh x)
-tanh-between x f n = unit-between (tanh x) (unfold tanh in unit-fits _ (sub-fits binary32 _ _)) (tanh-number x f n) (tanh-inside x)
+pub tanh_between : (x : Float) → T (fits binary32 x) → T (not (is_nan x)) → Between (minus 0x3f80_0000) one (tanh x)
+tanh_between x f n = unit_between (tanh x) (unfold tanh in unit_fits _ (sub-fits binary32 _ _)) (tanh_number x f n) (tanh_inside x)
 
-pub expNeg-between : (x : Float) → T (fits binary32 x) → T (finite x) → lt nought x ≡ false → Between nought one (expNeg x)
+pub exp_neg_between : (x : Float) → T (fits binary32 x) → T (finite x) → lt nought x ≡ false → Between nought one (exp_neg x)
 unfolding is_nan fits of_bits
-expNeg-between x f q g = between nought one tt tt tt tt (expNeg x) held number (expNeg-inside x)
+exp_neg_between x f q g = between nought one tt tt tt tt (exp_neg x) held number (exp_neg_inside x)
   where
     w : Float
-    w = raised (capped (expWide x) one) nought
+    w = raised (capped (exp_wide x) one) nought
 
-    held : T (fits binary32 (expNeg x))
-    held = unfold expNeg in cond-fits binary32 (lt x expLeast) nought w tt (clamped-fits (expWide x) one nought (mul-fits binary32 _ _) tt tt)
+    held : T (fits binary32 (exp_neg x))
+    held = unfold exp_neg in cond-fits binary32 (lt x exp_least) nought w tt (clamped_fits (exp_wide x) one nought (mul-fits binary32 _ _) tt tt)
 
-    number : T (not (is_nan (expNeg x)))
-    number = unfold expNeg in cond-number (lt x expLeast) nought w tt (clamped-number (expWide x) one nought (exp-number x f q g) tt tt)
+    number : T (not (is_nan (exp_neg x)))
+    number = unfold exp_neg in cond_number (lt x exp_least) nought w tt (clamped_number (exp_wide x) one nought (exp_number x f q g) tt tt)
 
-pub exp-between : (x : Float) → T (fits binary32 x) → T (finite x) → lt nought x ≡ false → Between nought one (exp x)
+pub exp_between : (x : Float) → T (fits binary32 x) → T (finite x) → lt nought x ≡ false → Between nought one (exp x)
 unfolding exp
-exp-between x f q g = rw g (expNeg-between x f q g)
+exp_between x f q g = rw g (exp_neg_between x f q g)
 
-pub atan2-between : (y x : Float) → T (fits binary32 y) → T (fits binary32 x) → T (not (is_nan y)) → T (not (is_nan x)) →
+pub atan2_between : (y x : Float) → T (fits binary32 y) → T (fits binary32 x) → T (not (is_nan y)) → T (not (is_nan x)) →
     Between (minus 0x4049_0fdb) pi (atan2 y x)
 unfolding is_nan fits of_bits neg
-atan2-between y x f g n m = between (minus 0x4049_0fdb) pi tt tt tt tt (atan2 y x) held number (atan2-inside y x)
+atan2_between y x f g n m = between (minus 0x4049_0fdb) pi tt tt tt tt (atan2 y x) held number (atan2_inside y x)
   where
     held : T (fits binary32 (atan2 y x))
-    held = unfold atan2 in clamped-fits (atanWide y x) pi (minus 0x4049_0fdb) (wide_fits y x) tt tt
+    held = unfold atan2 in clamped_fits (atan_wide y x) pi (minus 0x4049_0fdb) (wide_fits y x) tt tt
 
     number : T (not (is_nan (atan2 y x)))
-    number = unfold atan2 in clamped-number (atanWide y x) pi (minus 0x4049_0fdb) (atan2-number y x f g n m) tt tt
+    number = unfold atan2 in clamped_number (atan_wide y x) pi (minus 0x4049_0fdb) (atan2_number y x f g n m) tt tt
 
 -- ---- a NaN for a NaN
-pub sin-nan : sin nan ≡ nan
-unfolding sin sinCos sinCosNear quadrant sinRest cosRest whole turn unit add sub mul rem neg lt of_bits
-sin-nan = refl
+pub sin_nan : sin nan ≡ nan
+unfolding sin sin_cos sin_cos_near quadrant sin_rest cos_rest whole turn unit add sub mul rem neg lt of_bits
+sin_nan = refl
 
-pub cos-nan : cos nan ≡ nan
-unfolding cos sinCos sinCosNear quadrant sinRest cosRest whole turn unit add sub mul rem neg lt of_bits
-cos-nan = refl
+pub cos_nan : cos nan ≡ nan
+unfolding cos sin_cos sin_cos_near quadrant sin_rest cos_rest whole turn unit add sub mul rem neg lt of_bits
+cos_nan = refl
 
-pub tanh-nan : tanh nan ≡ nan
-unfolding tanh tanhRest unit scale add sub mul div neg lt of_bits to_bits
-tanh-nan = refl
+pub tanh_nan : tanh nan ≡ nan
+unfolding tanh tanh_rest unit scale add sub mul div neg lt of_bits to_bits
+tanh_nan = refl
 
-pub exp-nan : exp nan ≡ nan
-unfolding exp expNeg expRest scale add sub mul div neg lt of_bits to_bits
-exp-nan = refl
+pub exp_nan : exp nan ≡ nan
+unfolding exp exp_neg exp_rest scale add sub mul div neg lt of_bits to_bits
+exp_nan = refl
 
 -- of two sizes, one a NaN: the ratio is one
-ratio-nan-left : (ax : Float) → ratio nan ax ≡ nan
+ratio_nan_left : (ax : Float) → ratio nan ax ≡ nan
 unfolding ratio eq lt div
-ratio-nan-left nan = refl
-ratio-nan-left (inf s) = refl
-ratio-nan-left (fin s m e) = refl
+ratio_nan_left nan = refl
+ratio_nan_left (inf s) = refl
+ratio_nan_left (fin s m e) = refl
 
-ratio-nan-right : (ay : Float) → ratio ay nan ≡ nan
+ratio_nan_right : (ay : Float) → ratio ay nan ≡ nan
 unfolding ratio eq lt div
-ratio-nan-right nan = refl
-ratio-nan-right (inf s) = refl
-ratio-nan-right (fin s m e) = refl
+ratio_nan_right nan = refl
+ratio_nan_right (inf s) = refl
+ratio_nan_right (fin s m e) = refl
 
 -- and a NaN stays one, whatever the tests say
-signed-nan : (b : Bool) → signed nan b ≡ nan
+signed_nan : (b : Bool) → signed nan b ≡ nan
 unfolding signed neg
-signed-nan true = refl
-signed-nan false = refl
+signed_nan true = refl
+signed_nan false = refl
 
-octant-nan : (steep back : Bool) → octant nan steep back ≡ nan
+octant_nan : (steep back : Bool) → octant nan steep back ≡ nan
 unfolding octant add sub neg of_bits
-octant-nan true back = refl
-octant-nan false true = refl
-octant-nan false false = refl
+octant_nan true back = refl
+octant_nan false true = refl
+octant_nan false false = refl
 
-wide-nan : (y x : Float) → ratio (size y) (size x) ≡ nan → atanWide y x ≡ nan
-unfolding atanRest add mul
-wide-nan y x e = rw (e, signed-nan, octant-nan, signed-nan)
+wide_nan : (y x : Float) → ratio (size y) (size x) ≡ nan → atan_wide y x ≡ nan
+unfolding atan_rest add mul
+wide_nan y x e = rw (e, signed_nan, octant_nan, signed_nan)
 
-raised-nan : (x top bottom : Float) → x ≡ nan → lt top nan ≡ false → raised (capped x top) bottom ≡ nan
+raised_nan : (x top bottom : Float) → x ≡ nan → lt top nan ≡ false → raised (capped x top) bottom ≡ nan
 unfolding lt
-raised-nan x top bottom e h = rw (e, h)
+raised_nan x top bottom e h = rw (e, h)
 
-pub atan2-nan-left : (x : Float) → atan2 nan x ≡ nan
+pub atan2_nan_left : (x : Float) → atan2 nan x ≡ nan
 unfolding atan2 size lt neg of_bits
-atan2-nan-left x = raised-nan (atanWide nan x) pi (minus 0x4049_0fdb) (wide-nan nan x (ratio-nan-left (size x))) refl
+atan2_nan_left x = raised_nan (atan_wide nan x) pi (minus 0x4049_0fdb) (wide_nan nan x (ratio_nan_left (size x))) refl
 
-pub atan2-nan-right : (y : Float) → atan2 y nan ≡ nan
+pub atan2_nan_right : (y : Float) → atan2 y nan ≡ nan
 unfolding atan2 size lt neg of_bits
-atan2-nan-right y = raised-nan (atanWide y nan) pi (minus 0x4049_0fdb) (wide-nan y nan (ratio-nan-right (size y))) refl
+atan2_nan_right y = raised_nan (atan_wide y nan) pi (minus 0x4049_0fdb) (wide_nan y nan (ratio_nan_right (size y))) refl
 
 -- ---- the infinities
-pub sin-infinite : (s : Bool) → sin (inf s) ≡ nan
-unfolding sin sinCos sinCosNear quadrant sinRest cosRest whole turn unit add sub mul rem neg lt of_bits
-sin-infinite true = refl
-sin-infinite false = refl
+pub sin_infinite : (s : Bool) → sin (inf s) ≡ nan
+unfolding sin sin_cos sin_cos_near quadrant sin_rest cos_rest whole turn unit add sub mul rem neg lt of_bits
+sin_infinite true = refl
+sin_infinite false = refl
 
-pub cos-infinite : (s : Bool) → cos (inf s) ≡ nan
-unfolding cos sinCos sinCosNear quadrant sinRest cosRest whole turn unit add sub mul rem neg lt of_bits
-cos-infinite true = refl
-cos-infinite false = refl
+pub cos_infinite : (s : Bool) → cos (inf s) ≡ nan
+unfolding cos sin_cos sin_cos_near quadrant sin_rest cos_rest whole turn unit add sub mul rem neg lt of_bits
+cos_infinite true = refl
+cos_infinite false = refl
 
-pub tanh-infinite : (s : Bool) → tanh (inf s) ≡ cond s (minus 0x3f80_0000) one
-unfolding tanh tanhRest unit scale add sub mul div neg lt of_bits to_bits
-tanh-infinite true = refl
-tanh-infinite false = refl
+pub tanh_infinite : (s : Bool) → tanh (inf s) ≡ cond s (minus 0x3f80_0000) one
+unfolding tanh tanh_rest unit scale add sub mul div neg lt of_bits to_bits
+tanh_infinite true = refl
+tanh_infinite false = refl

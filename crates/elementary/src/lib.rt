@@ -65,7 +65,7 @@ fn whole(v: f32) -> f32
 }
 
 fn tanh_rest(l: f32, r: f32) -> f32
-    ensures { result ≡ E.tanhRest l r }
+    ensures { result ≡ E.tanh_rest l r }
 {
     let z = r * r;
     let q = z * (0.333331883 + z * -0.0221048966) - l * r;
@@ -86,7 +86,7 @@ pub fn tanh(x: f32) -> f32
 }
 
 fn exp_rest(h: f32, l: f32) -> f32
-    ensures { result ≡ E.expRest h l }
+    ensures { result ≡ E.exp_rest h l }
 {
     let r = h - l;
     let e = 0.49999994
@@ -97,7 +97,7 @@ fn exp_rest(h: f32, l: f32) -> f32
 // exp of an x that is not above 0, or a NaN. The cut at -87.33654 keeps subnormal products, thirty
 // times as slow as others, off the common path.
 pub fn exp_neg(x: f32) -> f32
-    ensures { result ≡ E.expNeg x }
+    ensures { result ≡ E.exp_neg x }
 {
     let z = raised(x, -87.3365402);
     let t = z * 1.44269502 + 12583039.0;
@@ -127,14 +127,14 @@ pub struct SinCos {
 }
 
 fn sin_rest(r: f32, l: f32) -> f32
-    ensures { result ≡ E.sinRest r l }
+    ensures { result ≡ E.sin_rest r l }
 {
     let z = r * r;
     r - ((r * z) * (0.166666552 + z * (-0.00833216868 + z * 0.000195160115)) + l)
 }
 
 fn cos_rest(r: f32, l: f32) -> f32
-    ensures { result ≡ E.cosRest r l }
+    ensures { result ≡ E.cos_rest r l }
 {
     let z = r * r;
     let y = 0.5 * z;
@@ -159,7 +159,7 @@ fn quadrant(k: f32, sr: f32, cr: f32) -> SinCos
 
 // For an x up to 64 in size. Loops over angles call this one, since `%` in `turn` is a call.
 pub fn sin_cos_near(x: f32) -> SinCos
-    ensures { result ≡ E.sinCosNear x }
+    ensures { result ≡ E.sin_cos_near x }
 {
     let k = whole(x * 0.636619747);
     let h = x - k * 1.57079315;
@@ -182,7 +182,7 @@ pub fn turn(x: f32) -> f32
 }
 
 pub fn sin_cos(x: f32) -> SinCos
-    ensures { result ≡ E.sinCos x }
+    ensures { result ≡ E.sin_cos x }
 {
     sin_cos_near(turn(x))
 }
@@ -197,7 +197,7 @@ pub struct TwoSinCos {
 }
 
 pub fn sin_cos_two(x: f32, y: f32) -> TwoSinCos
-    ensures { result ≡ E.sinCosTwo x y }
+    ensures { result ≡ E.sin_cos_two x y }
 {
     let t = sin_cos_near(turn(x));
     let u = sin_cos_near(turn(y));
@@ -249,7 +249,7 @@ fn ratio(ay: f32, ax: f32) -> f32
 }
 
 fn atan_rest(t: f32) -> f32
-    ensures { result ≡ E.atanRest t }
+    ensures { result ≡ E.atan_rest t }
 {
     let z = t * t;
     let w8 = -0.0165811554 + z * 0.00297459238;

@@ -3,15 +3,15 @@ use Rattle.std.specs.Prelude.{◌≡◌, ℕ, ◌+◌, ◌%◌, ◌^◌, true, L
 use Rattle.hex.specs.Hex.{Written}
 use Rattle.lines.specs.declared.Found.{Found}
 use Rattle.lines.specs.declared.Found.TheVariants.{Line, More, Done}
-use Rattle.lines.specs.Lines.{foundOf}
+use Rattle.lines.specs.Lines.{found_of}
 use Rattle.lines.specs.declared.State.{State}
-use Rattle.lines.specs.Turns.{Answered, Read, Run, closed, lineTo, opening}
+use Rattle.lines.specs.Turns.{Answered, Read, Run, closed, line_to, opening}
 use Rattle.shapes.specs.Shapes.{limit}
 use Rattle.explain_words.specs.Tell.{telling}
 use Rattle.explain_sorts.specs.declared.Above.{Above}
 use Rattle.explain_sorts.specs.declared.Sort.{Sort}
-use Rattle.explain_sorts.specs.Sorts.{sortOf, above_of, nothing}
-use Rattle.explain_sentences.specs.Sentences.{aloneRows, body_of, explained}
+use Rattle.explain_sorts.specs.Sorts.{sort_of, above_of, nothing}
+use Rattle.explain_sentences.specs.Sentences.{alone_rows, body_of, explained}
 use Rattle.explain.specs.declared.Explaining.{Explaining}
 
 -- ---- a line l of its sort s, below a, in the text t, which is m now
@@ -26,26 +26,26 @@ pub record Explained (l : List ℕ) (s : Sort) (a : Above) (t : List ℕ) (at : 
   pub said : Written t at (explained first second third l s a) m r
 
 -- ---- a turn from x to y: its input goes from b to c, its text from l to m; lines are counted from 1, modulo 2^64
-abbrev pub textRoom : ℕ
-textRoom = 60000
+abbrev pub text_room : ℕ
+text_room = 60000
 
-abbrev pub firstState : Explaining
-firstState = record { state = opening; above = nothing; lines = 0 }
+abbrev pub first_state : Explaining
+first_state = record { state = opening; above = nothing; lines = 0 }
 
-abbrev pub lineNumber : Explaining → ℕ
-lineNumber x = (x.lines + 1) % 2 ^ 64
+abbrev pub line_number : Explaining → ℕ
+line_number x = (x.lines + 1) % 2 ^ 64
 
-abbrev pub sortAt : Explaining → List ℕ → ℕ → Sort
-sortAt x b e = sortOf (lineTo b x.state.feed e) x.state.feed.skip (lineNumber x)
+abbrev pub sort_at : Explaining → List ℕ → ℕ → Sort
+sort_at x b e = sort_of (line_to b x.state.feed e) x.state.feed.skip (line_number x)
 
 -- the line up to e is explained, and the next one starts at `from`
 pub record Explains (x : Explaining) (b : List ℕ) (e from : ℕ) (l m : List ℕ) (y : Explaining) : Type 0 where
   pub first : List (List ℕ)
   pub second : List (List ℕ)
   pub third : List (List ℕ)
-  pub text : Answered textRoom x.state from (explained first second third (lineTo b x.state.feed e) (sortAt x b e) x.above) l m y.state
-  pub above : y.above ≡ above_of (sortAt x b e) (lineNumber x)
-  pub counted : y.lines ≡ lineNumber x
+  pub text : Answered text_room x.state from (explained first second third (line_to b x.state.feed e) (sort_at x b e) x.above) l m y.state
+  pub above : y.above ≡ above_of (sort_at x b e) (line_number x)
+  pub counted : y.lines ≡ line_number x
 
 -- a block is read, and nothing is said
 pub record Block (x : Explaining) (b c : List ℕ) (y : Explaining) : Type 0 where
@@ -57,7 +57,7 @@ pub record Block (x : Explaining) (b c : List ℕ) (y : Explaining) : Type 0 whe
 pub record End (x : Explaining) (l m : List ℕ) (y : Explaining) : Type 0 where
   pub words : List (List ℕ)
   pub said : State
-  pub text : Answered textRoom x.state x.state.feed.from (telling words (aloneRows true x.above)) l m said
+  pub text : Answered text_room x.state x.state.feed.from (telling words (alone_rows true x.above)) l m said
   pub state : y.state ≡ closed said
   pub above : y.above ≡ x.above
   pub counted : y.lines ≡ x.lines
@@ -68,8 +68,8 @@ ExplainTurned More x b c l m y = Block x b c y × (m ≡ l)
 ExplainTurned Done x b c l m y = End x l m y × (c ≡ b)
 
 pub record ExplainTurn (x : Explaining) (b c l m : List ℕ) (y : Explaining) : Type 0 where
-  pub made : ExplainTurned (foundOf b x.state.feed) x b c l m y
+  pub made : ExplainTurned (found_of b x.state.feed) x b c l m y
 
 -- all turns
 abbrev pub AllExplained : List ℕ → List ℕ → Explaining → List ℕ → List ℕ → Type 0
-AllExplained b l r c m = Run Explaining ExplainTurn (λ x. x.state.more) firstState b l r c m
+AllExplained b l r c m = Run Explaining ExplainTurn (λ x. x.state.more) first_state b l r c m

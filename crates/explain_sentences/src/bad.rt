@@ -11,7 +11,7 @@ use explain_words::numbers::{bits, letters, number, plural};
 
 // The place of the first character that is no digit, or the length where there is none.
 fn first_foreign(line: &[u8]) -> usize
-    ensures { result ≡ S.foreignFrom line.now (length line.now) 0 }
+    ensures { result ≡ S.foreign_from line.now (length line.now) 0 }
 {
     let n = line.len();
     for i in 0..n {
@@ -32,7 +32,7 @@ fn byte_of(line: &[u8], k: usize) -> u8
 }
 
 fn flags_of(w: Wrong, n: usize, b: u8) -> [bool; 20]
-    ensures { (result ≡ flags_of (S.badRows w n b)) × (20 ≡ length result) }
+    ensures { (result ≡ flags_of (S.bad_rows w n b)) × (20 ≡ length result) }
 {
     let why = w.why;
     let upper = (b > 64) & (b < 71);
@@ -90,7 +90,7 @@ fn words_of(line: u64, n: usize, place: usize, b: u8, w: Wrong) -> [[u8; 24]; 11
 // Line number `number`.
 pub fn told(text: &mut [u8], at: usize, number: u64, line: &[u8], w: Wrong) -> usize
     requires { at + 24936 ≤ length text.old }
-    ensures { (result ≤ at + 24936) × Told (S.lineRows w line.now) text.old at text.new result }
+    ensures { (result ≤ at + 24936) × Told (S.line_rows w line.now) text.old at text.new result }
 {
     let n = line.len();
     let place = first_foreign(line);

@@ -1,8 +1,8 @@
 // A fit in sentences, and what in it is not to be taken at face value.
 ghost use Rattle.std.specs.Prelude.{◌≡◌, ◌+◌, ◌≤◌, length};
 ghost use Rattle.explain_words.specs.Tell.{flags_of};
-ghost use Rattle.shapes.specs.Shapes.{fitLength};
-ghost use Rattle.explain_sorts.specs.Sorts.{isDiskAnswer};
+ghost use Rattle.shapes.specs.Shapes.{fit_length};
+ghost use Rattle.explain_sorts.specs.Sorts.{is_disk_answer};
 ghost use Rattle.explain_sentences.specs.Sentences as S;
 
 use explain_warnings::Reading;
@@ -76,7 +76,7 @@ fn words_of(line: u64, r: Reading) -> [[u8; 24]; 24]
 
 // Which sentences are told: a ring's, a disk's or both's.
 fn flags_of(kind: u32, r: Reading) -> [bool; 15]
-    ensures { (result ≡ flags_of (S.fitRows kind r)) × (15 ≡ length result) }
+    ensures { (result ≡ flags_of (S.fit_rows kind r)) × (15 ≡ length result) }
 {
     let disk = r.disk;
     let unknown = r.known == 0;
@@ -101,7 +101,7 @@ fn flags_of(kind: u32, r: Reading) -> [bool; 15]
 
 // Line number `number`, a fit of its answer's type.
 pub fn told(text: &mut [u8], at: usize, number: u64, line: &[u8], kind: u32) -> usize
-    requires { (fitLength (isDiskAnswer kind) ≤ length line.now) × (at + 44424 ≤ length text.old) }
+    requires { (fit_length (is_disk_answer kind) ≤ length line.now) × (at + 44424 ≤ length text.old) }
     ensures { (result ≤ at + 44424) × S.Fitted line.now kind text.old at text.new result }
 {
     let r = explain_warnings::read(line, kind == 130);

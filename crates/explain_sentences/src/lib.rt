@@ -14,7 +14,7 @@ ghost use Rattle.explain_sentences.specs.Sentences as S;
 // A frame that no answer follows. A bar ends a sentence, here and in all that follow.
 pub fn alone_told(text: &mut [u8], at: usize, alone: bool, a: Above) -> usize
     requires { at + 5280 ≤ length text.old }
-    ensures { (result ≤ at + 5280) × Told (S.aloneRows alone a) text.old at text.new result }
+    ensures { (result ≤ at + 5280) × Told (S.alone_rows alone a) text.old at text.new result }
 {
     let flags = [
         alone & (a.kind == 1),
@@ -46,7 +46,7 @@ fn due(a: Above) -> [u8; 24] {
 // An answer that is not that of the frame above it.
 pub fn mismatch_told(text: &mut [u8], at: usize, strange: bool, a: Above) -> usize
     requires { at + 8760 ≤ length text.old }
-    ensures { (result ≤ at + 8760) × Told (S.mismatchRows strange a) text.old at text.new result }
+    ensures { (result ≤ at + 8760) × Told (S.mismatch_rows strange a) text.old at text.new result }
 {
     let clean = a.number == 0;
     let flags = [

@@ -33,7 +33,7 @@ fn name_of(r: Refusal, a: Above) -> u32
 }
 
 fn is_shown(r: Refusal, a: Above) -> bool
-    ensures { result ≡ S.isShown r a }
+    ensures { result ≡ S.is_shown r a }
 {
     (a.number == 3) & explain_sorts::belongs(a, r.kind, r.number, r.place)
 }
@@ -45,19 +45,19 @@ fn is_ring(r: Refusal) -> bool
 }
 
 fn samples_at(r: Refusal) -> usize
-    ensures { (result ≤ 24) × (result ≡ S.samplesAt r) }
+    ensures { (result ≤ 24) × (result ≡ S.samples_at r) }
 {
     shapes::samples_of(r.kind % 128)
 }
 
 fn is_sample(r: Refusal) -> bool
-    ensures { result ≡ S.isSample r }
+    ensures { result ≡ S.is_sample r }
 {
     is_ring(r) & ((r.place as usize) < samples_at(r))
 }
 
 fn is_angle(r: Refusal) -> bool
-    ensures { result ≡ S.isAngle r }
+    ensures { result ≡ S.is_angle r }
 {
     let n = samples_at(r);
     let place = r.place as usize;
@@ -65,7 +65,7 @@ fn is_angle(r: Refusal) -> bool
 }
 
 fn flags_of(r: Refusal, above: u32, name: u32, shown: bool) -> [bool; 30]
-    ensures { (result ≡ flags_of (S.refusalRows r above name shown)) × (30 ≡ length result) }
+    ensures { (result ≡ flags_of (S.refusal_rows r above name shown)) × (30 ≡ length result) }
 {
     let kind = r.kind;
     let number = r.number;
@@ -148,7 +148,7 @@ fn words_of(line: u64, r: Refusal, a: Above) -> [[u8; 24]; 11]
 
 pub fn told(text: &mut [u8], at: usize, line: u64, r: Refusal, a: Above) -> usize
     requires { (r.place ≤ 65535) × (at + 26952 ≤ length text.old) }
-    ensures { (result ≤ at + 26952) × Told (S.refusedRows r a) text.old at text.new result }
+    ensures { (result ≤ at + 26952) × Told (S.refused_rows r a) text.old at text.new result }
 {
     let name = name_of(r, a);
     let shown = is_shown(r, a);

@@ -1,7 +1,7 @@
 // What a line of frames and answers is, and which answer the frame above it is due. Nothing is written
 // here; all of it equals its definition in specs/Sorts.antt.
 ghost use Rattle.std.specs.Prelude.{◌≡◌, ◌+◌, ◌*◌, ◌≤◌, ◌<◌, length};
-ghost use Rattle.shapes.specs.Shapes.{fitLength};
+ghost use Rattle.shapes.specs.Shapes.{fit_length};
 ghost use Rattle.explain_sorts.specs.Sorts as S;
 
 use shapes::{Fault, Shape};
@@ -99,7 +99,7 @@ fn is_of(kind: u32, number: u32) -> bool
 
 fn refusal_sort(line: &[u8], kind: u32) -> Sort
     requires { 8 ≤ length line.now }
-    ensures { (result ≡ S.refusalSort line.now kind) × S.SortSound (length line.now) result }
+    ensures { (result ≡ S.refusal_sort line.now kind) × S.SortSound (length line.now) result }
 {
     let number = hex::byte_at(line, 2);
     let place = hex::byte_at(line, 4) * 256 + hex::byte_at(line, 6);
@@ -118,7 +118,7 @@ fn refusal_sort(line: &[u8], kind: u32) -> Sort
 
 // How many characters a fit of a type has.
 fn fit_size(kind: u32) -> usize
-    ensures { (4 ≤ result) × (result ≡ fitLength (S.isDiskAnswer kind)) }
+    ensures { (4 ≤ result) × (result ≡ fit_length (S.is_disk_answer kind)) }
 {
     if kind == 130 {
         return 98;
@@ -128,7 +128,7 @@ fn fit_size(kind: u32) -> usize
 
 // An answer of a type that has fits.
 fn fit_answer(line: &[u8], kind: u32) -> Sort
-    ensures { (result ≡ S.fitAnswer line.now kind) × S.SortSound (length line.now) result }
+    ensures { (result ≡ S.fit_answer line.now kind) × S.SortSound (length line.now) result }
 {
     let n = line.len();
     let size = fit_size(kind);
@@ -146,7 +146,7 @@ fn fit_answer(line: &[u8], kind: u32) -> Sort
 }
 
 fn malformed_answer(line: &[u8]) -> Sort
-    ensures { (result ≡ S.malformedAnswer line.now) × S.SortSound (length line.now) result }
+    ensures { (result ≡ S.malformed_answer line.now) × S.SortSound (length line.now) result }
 {
     if line.len() == 8 {
         return refusal_sort(line, 255);
@@ -155,7 +155,7 @@ fn malformed_answer(line: &[u8]) -> Sort
 }
 
 fn answer_sort(line: &[u8], kind: u32) -> Sort
-    ensures { (result ≡ S.answerSort line.now kind) × S.SortSound (length line.now) result }
+    ensures { (result ≡ S.answer_sort line.now kind) × S.SortSound (length line.now) result }
 {
     if (kind == 129) | (kind == 131) | (kind == 130) {
         return fit_answer(line, kind);
@@ -167,7 +167,7 @@ fn answer_sort(line: &[u8], kind: u32) -> Sort
 }
 
 fn fault_sort(fault: Fault) -> Sort
-    ensures { result ≡ S.faultSort fault }
+    ensures { result ≡ S.fault_sort fault }
 {
     match fault {
         Fault::TooLong => bad(TOO_LONG, 0, 0, 0),
@@ -195,7 +195,7 @@ pub fn nothing() -> Above
 // The first of n words that is no finite value; n where each is.
 fn wild_word(line: &[u8], at: usize, n: usize) -> usize
     requires { (n < 65536) × (at < 65536) × (at + 8 * n ≤ length line.now) }
-    ensures { (result ≤ n) × (result ≡ S.wildWord line.now at n 0) }
+    ensures { (result ≤ n) × (result ≡ S.wild_word line.now at n 0) }
 {
     for k in 0..n {
         let p = at + 8 * k;
@@ -235,7 +235,7 @@ fn valued(line: &[u8], number: u64, kind: u32, pixels: u32, at: usize, n: usize)
 }
 
 fn refused_above(line: u64, kind: u32, pixels: u32, number: u32) -> Above
-    ensures { result ≡ S.refusedAbove line kind pixels number }
+    ensures { result ≡ S.refused_above line kind pixels number }
 {
     Above {
         line,
@@ -249,7 +249,7 @@ fn refused_above(line: u64, kind: u32, pixels: u32, number: u32) -> Above
 
 // Line number `number`. A line of which a part is gone was too long.
 pub fn sort_of(line: &[u8], skip: bool, number: u64) -> Sort
-    ensures { (result ≡ S.sortOf line.now skip number) × S.SortSound (length line.now) result }
+    ensures { (result ≡ S.sort_of line.now skip number) × S.SortSound (length line.now) result }
 {
     if skip {
         return bad(TOO_LONG, 0, 0, 0);
@@ -272,7 +272,7 @@ pub fn sort_of(line: &[u8], skip: bool, number: u64) -> Sort
 }
 
 fn bad_above(w: Wrong, number: u64) -> Above
-    ensures { result ≡ S.badAbove w number }
+    ensures { result ≡ S.bad_above w number }
 {
     if w.why < ANSWER_LENGTH {
         return refused_above(number, 255, 0, 5);
@@ -312,7 +312,7 @@ pub fn belongs(a: Above, kind: u32, number: u32, place: u32) -> bool
 
 // Whether a line is no answer, so that the frame above it has none.
 pub fn is_alone(sort: Sort) -> bool
-    ensures { result ≡ S.isAlone sort }
+    ensures { result ≡ S.is_alone sort }
 {
     match sort {
         Sort::Frame(_) => true,
@@ -324,7 +324,7 @@ pub fn is_alone(sort: Sort) -> bool
 
 // Whether it is an answer, and not that of the frame above it.
 pub fn is_strange(sort: Sort, a: Above) -> bool
-    ensures { result ≡ S.isStrange sort a }
+    ensures { result ≡ S.is_strange sort a }
 {
     match sort {
         Sort::Frame(_) => false,

@@ -4,15 +4,15 @@ use Prim.Native.String.{String}
 use Rattle.std.specs.Float.{nan, inf, fin}
 use Rattle.std.specs.Float.Ieee.{eq, lt, le, is_nan}
 use Rattle.std.specs.Float.Ieee.Scale.{finite}
-use Rattle.floats.specs.Ops.{◌⊘◌, lit, nought, one, pi, halfPi}
+use Rattle.floats.specs.Ops.{◌⊘◌, lit, nought, one, pi, half_pi}
 use Rattle.floats.specs.Library.{max}
 use Rattle.hex.specs.Hex.{byte_of, value_of}
 use Rattle.explain_words.specs.Tell.{telling}
 use Rattle.explain_warnings.specs.declared.Reading.{Reading}
 
 -- ---- an answer's values, where they stand in its line (docs/RULES.md, Frame lines)
-abbrev pub ringReading : List ℕ → Reading
-ringReading l =
+abbrev pub ring_reading : List ℕ → Reading
+ring_reading l =
     record {
       disk = false;
       amp = value_of l 4;
@@ -33,8 +33,8 @@ ringReading l =
       known = byte_of l 58;
     }
 
-abbrev pub diskReading : List ℕ → Reading
-diskReading l =
+abbrev pub disk_reading : List ℕ → Reading
+disk_reading l =
     record {
       disk = true;
       theta1 = value_of l 4;
@@ -57,58 +57,58 @@ diskReading l =
 
 -- of a disk or of a ring
 unfoldable pub reading_of : List ℕ → Bool → Reading
-reading_of l disk = cond disk (diskReading l) (ringReading l)
+reading_of l disk = cond disk (disk_reading l) (ring_reading l)
 
 -- ---- what is asked of a value
-unfoldable pub isInfinite : Float → Bool
-isInfinite nan = false
-isInfinite (inf s) = true
-isInfinite (fin s m e) = false
+unfoldable pub is_infinite : Float → Bool
+is_infinite nan = false
+is_infinite (inf s) = true
+is_infinite (fin s m e) = false
 
-abbrev pub isWild : Float → Bool
-isWild x = not (finite x)
+abbrev pub is_wild : Float → Bool
+is_wild x = not (finite x)
 
 -- robust.rs: relative_rms is at least ROBUST_REL_RMS_TRIGGER, 0.12; of a residual that is not finite nothing is said here
-abbrev pub isLarge : Float → Float → Bool
-isLarge rms amp = finite rms && le (lit 0x3df5_c28f) (max rms nought ⊘ max amp one)
+abbrev pub is_large : Float → Float → Bool
+is_large rms amp = finite rms && le (lit 0x3df5_c28f) (max rms nought ⊘ max amp one)
 
 -- a ring's start without contrast: amplitude 0, axes 0 and PI/2, and no update. Where there were two starts, either may be the one
-abbrev pub isDegenerate : Reading → Bool
-isDegenerate r =
-    not r.disk && (eq r.amp nought && eq r.theta1 nought && eq r.theta2 halfPi) && (eqb r.first 0 || eqb r.second 0)
+abbrev pub is_degenerate : Reading → Bool
+is_degenerate r =
+    not r.disk && (eq r.amp nought && eq r.theta1 nought && eq r.theta2 half_pi) && (eqb r.first 0 || eqb r.second 0)
 
 -- the errors are known (docs/RULES.md, Known); where they are, a PI is an estimate of that or more, and where they are not, a 0 says nothing
-abbrev pub isKnown : Reading → Bool
-isKnown r = not (eqb r.known 0)
+abbrev pub is_known : Reading → Bool
+is_known r = not (eqb r.known 0)
 
 -- ---- the warnings: when, and in which words
-unfoldable pub warningsOf : Reading → List (Bool × String)
-warningsOf r =
+unfoldable pub warnings_of : Reading → List (Bool × String)
+warnings_of r =
     (eq r.rms nought, "  warning: the residual is 0: no noise at all, or nothing to fit\n")
-    ∷ (isInfinite r.rms, "  warning: the residual is infinite: a sum overflowed\n")
+    ∷ (is_infinite r.rms, "  warning: the residual is infinite: a sum overflowed\n")
     ∷ (is_nan r.rms, "  warning: the residual is NaN: it says nothing of the fit\n")
-    ∷ (isLarge r.rms r.amp, "  warning: the residual is at least 12 % of the amplitude, or of 1 where that is more\n")
+    ∷ (is_large r.rms r.amp, "  warning: the residual is at least 12 % of the amplitude, or of 1 where that is more\n")
     ∷ (r.disk && eq r.corr nought, "  warning: the correlation is 0: the fit explains nothing of the disk\n")
     ∷ (lt r.corr nought || lt one r.corr, "  warning: the correlation is not between 0 and 1\n")
-    ∷ (not (isKnown r), "  warning: the errors are not known: whatever stands in their place, PI or 0 too, is no estimate\n")
-    ∷ (isKnown r && eq r.error1 pi, "  warning: the first error is estimated, and is PI or more: that axis is not determined\n")
-    ∷ (isKnown r && eq r.error2 pi, "  warning: the second error is estimated, and is PI or more: that axis is not determined\n")
-    ∷ (isKnown r && eq r.error1 nought, "  warning: the first error is estimated, and is 0: no value deviates, or it was lost in rounding\n")
-    ∷ (isKnown r && eq r.error2 nought, "  warning: the second error is estimated, and is 0: no value deviates, or it was lost in rounding\n")
+    ∷ (not (is_known r), "  warning: the errors are not known: whatever stands in their place, PI or 0 too, is no estimate\n")
+    ∷ (is_known r && eq r.error1 pi, "  warning: the first error is estimated, and is PI or more: that axis is not determined\n")
+    ∷ (is_known r && eq r.error2 pi, "  warning: the second error is estimated, and is PI or more: that axis is not determined\n")
+    ∷ (is_known r && eq r.error1 nought, "  warning: the first error is estimated, and is 0: no value deviates, or it was lost in rounding\n")
+    ∷ (is_known r && eq r.error2 nought, "  warning: the second error is estimated, and is 0: no value deviates, or it was lost in rounding\n")
     ∷ (eq r.amp nought, "  warning: the amplitude is 0: there is no contrast to fit\n")
-    ∷ (isWild r.amp, "  warning: the amplitude is not finite\n")
-    ∷ (isWild r.theta1, "  warning: the first axis is not finite\n")
-    ∷ (isWild r.theta2, "  warning: the second axis is not finite\n")
-    ∷ (isWild r.error1, "  warning: the first error is not finite\n")
-    ∷ (isWild r.error2, "  warning: the second error is not finite\n")
-    ∷ (isWild r.width, "  warning: the width is not finite\n")
-    ∷ (isWild r.rel_rms, "  warning: the relative residual is not finite\n")
-    ∷ (isWild r.corr, "  warning: the correlation is not finite\n")
-    ∷ (isWild r.edge_score, "  warning: the edge score is not finite\n")
-    ∷ (isWild r.objective, "  warning: the objective is not finite\n")
-    ∷ (isDegenerate r, "  warning: the samples have no contrast: axes and errors are placeholders\n")
+    ∷ (is_wild r.amp, "  warning: the amplitude is not finite\n")
+    ∷ (is_wild r.theta1, "  warning: the first axis is not finite\n")
+    ∷ (is_wild r.theta2, "  warning: the second axis is not finite\n")
+    ∷ (is_wild r.error1, "  warning: the first error is not finite\n")
+    ∷ (is_wild r.error2, "  warning: the second error is not finite\n")
+    ∷ (is_wild r.width, "  warning: the width is not finite\n")
+    ∷ (is_wild r.rel_rms, "  warning: the relative residual is not finite\n")
+    ∷ (is_wild r.corr, "  warning: the correlation is not finite\n")
+    ∷ (is_wild r.edge_score, "  warning: the edge score is not finite\n")
+    ∷ (is_wild r.objective, "  warning: the objective is not finite\n")
+    ∷ (is_degenerate r, "  warning: the samples have no contrast: axes and errors are placeholders\n")
     ∷ []
 
 -- those that are called for, one after the other
-abbrev pub warningsText : Reading → List ℕ
-warningsText r = telling [] (warningsOf r)
+abbrev pub warnings_text : Reading → List ℕ
+warnings_text r = telling [] (warnings_of r)

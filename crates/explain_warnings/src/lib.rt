@@ -3,7 +3,7 @@
 ghost use Rattle.std.specs.Prelude.{◌≡◌, ◌+◌, ◌≤◌, length};
 ghost use Rattle.hex.specs.Hex.{Written};
 ghost use Rattle.explain_words.specs.Tell.{flags_of};
-ghost use Rattle.shapes.specs.Shapes.{fitLength};
+ghost use Rattle.shapes.specs.Shapes.{fit_length};
 ghost use Rattle.explain_warnings.specs.Warnings as W;
 
 // What a line's answer says. A ring has no width, relative residual, correlation, edge score, objective
@@ -31,7 +31,7 @@ pub struct Reading {
 
 fn ring_reading(line: &[u8]) -> Reading
     requires { 60 ≤ length line.now }
-    ensures { result ≡ W.ringReading line.now }
+    ensures { result ≡ W.ring_reading line.now }
 {
     Reading {
         disk: false,
@@ -56,7 +56,7 @@ fn ring_reading(line: &[u8]) -> Reading
 
 fn disk_reading(line: &[u8]) -> Reading
     requires { 98 ≤ length line.now }
-    ensures { result ≡ W.diskReading line.now }
+    ensures { result ≡ W.disk_reading line.now }
 {
     Reading {
         disk: true,
@@ -80,7 +80,7 @@ fn disk_reading(line: &[u8]) -> Reading
 }
 
 pub fn read(line: &[u8], disk: bool) -> Reading
-    requires { fitLength disk ≤ length line.now }
+    requires { fit_length disk ≤ length line.now }
     ensures { result ≡ W.reading_of line.now disk }
 {
     if disk {
@@ -90,7 +90,7 @@ pub fn read(line: &[u8], disk: bool) -> Reading
 }
 
 fn is_infinite(x: f32) -> bool
-    ensures { result ≡ W.isInfinite x }
+    ensures { result ≡ W.is_infinite x }
 {
     if x == x {
         return !floats::is_finite(x);
@@ -100,14 +100,14 @@ fn is_infinite(x: f32) -> bool
 
 // robust.rs: relative_rms against ROBUST_REL_RMS_TRIGGER, both in f32.
 fn is_large(rms: f32, amp: f32) -> bool
-    ensures { result ≡ W.isLarge rms amp }
+    ensures { result ≡ W.is_large rms amp }
 {
     let least = floats::max(rms, 0.0) / floats::max(amp, 1.0);
     floats::is_finite(rms) & (least >= 0.12)
 }
 
 fn is_degenerate(r: Reading) -> bool
-    ensures { result ≡ W.isDegenerate r }
+    ensures { result ≡ W.is_degenerate r }
 {
     let flat = (r.amp == 0.0) & (r.theta1 == 0.0) & (r.theta2 == floats::HALF_PI);
     let still = (r.first == 0) | (r.second == 0);
@@ -115,14 +115,14 @@ fn is_degenerate(r: Reading) -> bool
 }
 
 fn is_wild(x: f32) -> bool
-    ensures { result ≡ W.isWild x }
+    ensures { result ≡ W.is_wild x }
 {
     !floats::is_finite(x)
 }
 
 // Whether each warning is called for, in the order of the sentences.
 fn flags(r: Reading) -> [bool; 23]
-    ensures { (result ≡ flags_of (W.warningsOf r)) × (23 ≡ length result) }
+    ensures { (result ≡ flags_of (W.warnings_of r)) × (23 ≡ length result) }
 {
     let known = r.known != 0;
     [
@@ -156,7 +156,7 @@ fn flags(r: Reading) -> [bool; 23]
 // sentence.
 pub fn warnings(text: &mut [u8], at: usize, r: Reading) -> usize
     requires { at + 33936 ≤ length text.old }
-    ensures { (result ≤ at + 33936) × Written text.old at (W.warningsText r) text.new result }
+    ensures { (result ≤ at + 33936) × Written text.old at (W.warnings_text r) text.new result }
 {
     let told = flags(r);
     let words = [[0u8; 24]; 1];

@@ -17,14 +17,14 @@ abbrev pub word_at : List (List ℕ) → ℕ → List ℕ
 word_at ws c = spelt (slice_index_or ws ((c + 31) % 32) []) 24
 
 -- ---- what a character stands for, behind an opening brace or not: braces and bars are not written
-abbrev pub isMark : ℕ → Bool
-isMark c = c == 123 || c == 125 || c == 124
+abbrev pub is_mark : ℕ → Bool
+is_mark c = c == 123 || c == 125 || c == 124
 
 unfoldable pub piece : List (List ℕ) → Bool → ℕ → List ℕ
-piece ws inside c = cond (isMark c) [] (cond inside (word_at ws c) (c ∷ []))
+piece ws inside c = cond (is_mark c) [] (cond inside (word_at ws c) (c ∷ []))
 
-abbrev pub pieceIf : Bool → List (List ℕ) → Bool → ℕ → List ℕ
-pieceIf on ws inside c = cond on (piece ws inside c) []
+abbrev pub piece_if : Bool → List (List ℕ) → Bool → ℕ → List ℕ
+piece_if on ws inside c = cond on (piece ws inside c) []
 
 unfoldable pub spelled : List (List ℕ) → Bool → List ℕ → List ℕ
 spelled ws inside [] = []
@@ -36,12 +36,12 @@ telling ws [] = []
 telling ws ((on, s) ∷ rest) = cond on (spelled ws false (bytes s)) [] ++ telling ws rest
 
 -- ---- the same from one text of sentences, each ended by a bar: the flag of number k says whether sentence k is told
-abbrev pub sentenceAfter : ℕ → ℕ → ℕ
-sentenceAfter k c = cond (c == 124) (k + 1) k
+abbrev pub sentence_after : ℕ → ℕ → ℕ
+sentence_after k c = cond (c == 124) (k + 1) k
 
 unfoldable pub told : List Bool → List (List ℕ) → ℕ → Bool → List ℕ → List ℕ
 told fs ws k inside [] = []
-told fs ws k inside (c ∷ cs) = pieceIf (slice_index_or fs k false) ws inside c ++ told fs ws (sentenceAfter k c) (c == 123) cs
+told fs ws k inside (c ∷ cs) = piece_if (slice_index_or fs k false) ws inside c ++ told fs ws (sentence_after k c) (c == 123) cs
 
 pub record Tells (fs : List Bool) (ws : List (List ℕ)) (s l : List ℕ) (at : ℕ) (m : List ℕ) (r : ℕ) : Type 0 where
   pub fits : r ≤ at + 24 * length s
@@ -60,9 +60,9 @@ unfoldable pub barless : List ℕ → Bool
 barless [] = true
 barless (c ∷ cs) = not (c == 124) && barless cs
 
-unfoldable pub allBarless : List (Bool × String) → Bool
-allBarless [] = true
-allBarless ((on, s) ∷ rest) = barless (bytes s) && allBarless rest
+unfoldable pub all_barless : List (Bool × String) → Bool
+all_barless [] = true
+all_barless ((on, s) ∷ rest) = barless (bytes s) && all_barless rest
 
 -- ---- sentences told into the text l, which is m now, whatever the words in their blanks are
 pub record Told (rows : List (Bool × String)) (l : List ℕ) (at : ℕ) (m : List ℕ) (r : ℕ) : Type 0 where

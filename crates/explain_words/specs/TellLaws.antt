@@ -9,21 +9,21 @@ use Rattle.std.proofs.lemmas.Bool.{not-true}
 use Rattle.std.proofs.Math.Seq.{drop-length, get_or-append_seam}
 use Rattle.hex.specs.Hex.{Written, bytes}
 use Rattle.hex.specs.HexLaws.{written_none, written_as, written_then}
-use Rattle.explain_words.specs.Tell.{Told, letter, spelt, piece, pieceIf, spelled, sentenceAfter, told, telling, flags_of, barred, barless, allBarless}
+use Rattle.explain_words.specs.Tell.{Told, letter, spelt, piece, piece_if, spelled, sentence_after, told, telling, flags_of, barred, barless, all_barless}
 
 -- ---- a word, letter by letter
-pub spelt-none : (w : List ℕ) → spelt w 0 ≡ []
+pub spelt_none : (w : List ℕ) → spelt w 0 ≡ []
 unfolding spelt
-spelt-none w = refl
+spelt_none w = refl
 
-pub spelt-next : (w : List ℕ) (n : ℕ) → spelt w (n + 1) ≡ spelt w n ++ letter (slice_index w n)
+pub spelt_next : (w : List ℕ) (n : ℕ) → spelt w (n + 1) ≡ spelt w n ++ letter (slice_index w n)
 unfolding spelt
-spelt-next w n = rw add-one
+spelt_next w n = rw add-one
 
-pub spelt-empty : (n : ℕ) → spelt [] n ≡ []
+pub spelt_empty : (n : ℕ) → spelt [] n ≡ []
 unfolding spelt
-spelt-empty zero = refl
-spelt-empty (suc n) = rw (spelt-empty n)
+spelt_empty zero = refl
+spelt_empty (suc n) = rw (spelt_empty n)
 
 -- ---- in the middle of a text: what is said so far, and what is left to tell, are the whole
 pub record Midway (fs : List Bool) (ws : List (List ℕ)) (s l : List ℕ) (at i p k : ℕ) (inside : Bool) (m : List ℕ) : Type 0 where
@@ -35,14 +35,14 @@ module _ {fs : List Bool} {ws : List (List ℕ)} {s l : List ℕ} {at : ℕ} whe
   pub midway_start : at ≤ length l → Midway fs ws s l at 0 at 0 false l
   midway_start h = record { done = []; said = written_none h; whole = refl }
 
-  pub midway-next : {i p k r : ℕ} {inside : Bool} {m n : List ℕ} → Midway fs ws s l at i p k inside m → i < length s
-      → Written m p (pieceIf (slice_index_or fs k false) ws inside (slice_index s i)) n r → r ≤ length l
-      → Midway fs ws s l at (i + 1) r (sentenceAfter k (slice_index s i)) (slice_index s i == 123) n
+  pub midway_next : {i p k r : ℕ} {inside : Bool} {m n : List ℕ} → Midway fs ws s l at i p k inside m → i < length s
+      → Written m p (piece_if (slice_index_or fs k false) ws inside (slice_index s i)) n r → r ≤ length l
+      → Midway fs ws s l at (i + 1) r (sentence_after k (slice_index s i)) (slice_index s i == 123) n
   unfolding told
-  midway-next {i} {p} {k} {r} {inside} {m} {n} w h t b =
+  midway_next {i} {p} {k} {r} {inside} {m} {n} w h t b =
       let c = get_or s i 0 in
-      let x = pieceIf (slice_index_or fs k false) ws inside c in
-      let rest = told fs ws (sentenceAfter k c) (c == 123) (drop (i + 1) s) in
+      let x = piece_if (slice_index_or fs k false) ws inside c in
+      let rest = told fs ws (sentence_after k c) (c == 123) (drop (i + 1) s) in
       let e : told fs ws k inside (drop i s) ≡ x ++ rest = rw (drop-cons s i 0 h, add-one i) in
       record {
         done = w.done ++ x;
@@ -69,26 +69,26 @@ joined : (b : Bool) (x y t : List ℕ) → cond b x [] ++ (cond b y [] ++ t) ≡
 joined true x y t = sym (append_assoc x y t)
 joined false x y t = refl
 
-bar-unsaid : (ws : List (List ℕ)) (inside : Bool) → piece ws inside 124 ≡ []
+bar_unsaid : (ws : List (List ℕ)) (inside : Bool) → piece ws inside 124 ≡ []
 unfolding piece
-bar-unsaid ws inside = refl
+bar_unsaid ws inside = refl
 
 module _ (fs : List Bool) (ws : List (List ℕ)) where
   sentence : (k : ℕ) (inside : Bool) (cs rest : List ℕ) → barless cs ≡ true
       → told fs ws k inside (cs ++ (124 ∷ rest)) ≡ cond (slice_index_or fs k false) (spelled ws inside cs) [] ++ told fs ws (k + 1) false rest
   unfolding told spelled barless
-  sentence k inside [] rest h = rw (bar-unsaid ws inside, nothing (slice_index_or fs k false))
+  sentence k inside [] rest h = rw (bar_unsaid ws inside, nothing (slice_index_or fs k false))
   sentence k inside (c ∷ cs) rest h =
       let g = both (not (c == 124)) (barless cs) h in
       rw (not-true (c == 124) g.0, sentence k (c == 123) cs rest g.1) (joined (slice_index_or fs k false) (piece ws inside c) (spelled ws (c == 123) cs) _)
 
 -- with the flags gs of what came before
-all_told : (ws : List (List ℕ)) (gs : List Bool) (ps : List (Bool × String)) → allBarless ps ≡ true
+all_told : (ws : List (List ℕ)) (gs : List Bool) (ps : List (Bool × String)) → all_barless ps ≡ true
     → told (gs ++ flags_of ps) ws (length gs) false (barred ps) ≡ telling ws ps
-unfolding told telling flags_of barred allBarless
+unfolding told telling flags_of barred all_barless
 all_told ws gs [] h = refl
 all_told ws gs ((on, u) ∷ ps) h =
-    let g = both (barless (bytes u)) (allBarless ps) h in
+    let g = both (barless (bytes u)) (all_barless ps) h in
     let f : get_or (gs ++ (on ∷ flags_of ps)) (length gs) false ≡ on = get_or-append_seam gs on (flags_of ps) false in
     let a : gs ++ (on ∷ flags_of ps) ≡ (gs ++ (on ∷ [])) ++ flags_of ps = sym (append_assoc gs (on ∷ []) (flags_of ps)) in
     let n : length gs + 1 ≡ length (gs ++ (on ∷ [])) = simp length-append in
@@ -96,11 +96,11 @@ all_told ws gs ((on, u) ∷ ps) h =
     ∙ ap (λ (b : Bool). cond b (spelled ws false (bytes u)) [] ++ told (gs ++ (on ∷ flags_of ps)) ws (length gs + 1) false (barred ps)) f
     ∙ ap (λ (q : List ℕ). cond on (spelled ws false (bytes u)) [] ++ q) (rw (a, n) (all_told ws (gs ++ (on ∷ [])) ps g.1))
 
-pub told-telling : (ws : List (List ℕ)) (ps : List (Bool × String)) → allBarless ps ≡ true → told (flags_of ps) ws 0 false (barred ps) ≡ telling ws ps
-told-telling ws ps h = all_told ws [] ps h
+pub told_telling : (ws : List (List ℕ)) (ps : List (Bool × String)) → all_barless ps ≡ true → told (flags_of ps) ws 0 false (barred ps) ≡ telling ws ps
+told_telling ws ps h = all_told ws [] ps h
 
 -- what the writer of sentences is called with: their flags, and their text
 pub rows_told : (rows : List (Bool × String)) {fs : List Bool} (ws : List (List ℕ)) {l m : List ℕ} {at r : ℕ}
-    → Written l at (told fs ws 0 false (barred rows)) m r → fs ≡ flags_of rows → allBarless rows ≡ true → Told rows l at m r
+    → Written l at (told fs ws 0 false (barred rows)) m r → fs ≡ flags_of rows → all_barless rows ≡ true → Told rows l at m r
 rows_told rows ws s e h =
-    record { words = ws; said = written_as s (ap (λ (gs : List Bool). told gs ws 0 false (barred rows)) e ∙ told-telling ws rows h) }
+    record { words = ws; said = written_as s (ap (λ (gs : List Bool). told gs ws 0 false (barred rows)) e ∙ told_telling ws rows h) }

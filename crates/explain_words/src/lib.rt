@@ -45,7 +45,7 @@ fn blank(text: &mut [u8], at: usize, c: u8, words: &[[u8; 24]]) -> usize
 }
 
 fn is_mark(c: u8) -> bool
-    ensures { result ≡ T.isMark c }
+    ensures { result ≡ T.is_mark c }
 {
     (c == b'{') | (c == b'}') | (c == b'|')
 }
@@ -67,7 +67,7 @@ fn piece(text: &mut [u8], at: usize, inside: bool, c: u8, words: &[[u8; 24]]) ->
 
 fn piece_if(text: &mut [u8], at: usize, on: bool, inside: bool, c: u8, words: &[[u8; 24]]) -> usize
     requires { at + 24 ≤ length text.old }
-    ensures { (result ≤ at + 24) × Written text.old at (T.pieceIf on words.now inside c) text.new result }
+    ensures { (result ≤ at + 24) × Written text.old at (T.piece_if on words.now inside c) text.new result }
 {
     if on {
         return piece(text, at, inside, c, words);
@@ -87,7 +87,7 @@ fn is_told(flags: &[bool], k: usize) -> bool
 // A bar ends a sentence.
 fn after(k: usize, c: u8) -> usize
     requires { k < 1000000 }
-    ensures { (result ≤ k + 1) × (result ≡ T.sentenceAfter k c) }
+    ensures { (result ≤ k + 1) × (result ≡ T.sentence_after k c) }
 {
     if c == b'|' {
         return k + 1;

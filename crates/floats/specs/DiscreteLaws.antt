@@ -22,33 +22,33 @@ sign_of nan = false
 sign_of (inf s) = s
 sign_of (fin s m e) = s
 
-abbrev digitsOf : Float → ℕ
-digitsOf nan = 0
-digitsOf (inf s) = 0
-digitsOf (fin s m e) = m
+abbrev digits_of : Float → ℕ
+digits_of nan = 0
+digits_of (inf s) = 0
+digits_of (fin s m e) = m
 
-abbrev powerOf : Float → ℤ
-powerOf nan = pos 0
-powerOf (inf s) = pos 0
-powerOf (fin s m e) = e
+abbrev power_of : Float → ℤ
+power_of nan = pos 0
+power_of (inf s) = pos 0
+power_of (fin s m e) = e
 
-inf-dec : (s t : Bool) → Dec (s ≡ t) → Dec (inf s ≡ inf t)
-inf-dec s t (yes p) = yes (ap inf p)
-inf-dec s t (no f) = no (λ q. f (ap sign_of q))
+inf_dec : (s t : Bool) → Dec (s ≡ t) → Dec (inf s ≡ inf t)
+inf_dec s t (yes p) = yes (ap inf p)
+inf_dec s t (no f) = no (λ q. f (ap sign_of q))
 
-fin-dec : (s t : Bool) (m n : ℕ) (e d : ℤ) → Dec (s ≡ t) → Dec (m ≡ n) → Dec (e ≡ d) → Dec (fin s m e ≡ fin t n d)
-fin-dec s t m n e d (no f) b c = no (λ q. f (ap sign_of q))
-fin-dec s t m n e d (yes p) (no f) c = no (λ q. f (ap digitsOf q))
-fin-dec s t m n e d (yes p) (yes q) (no f) = no (λ z. f (ap powerOf z))
-fin-dec s t m n e d (yes p) (yes q) (yes r) = yes (λ i. fin (p i) (q i) (r i))
+fin_dec : (s t : Bool) (m n : ℕ) (e d : ℤ) → Dec (s ≡ t) → Dec (m ≡ n) → Dec (e ≡ d) → Dec (fin s m e ≡ fin t n d)
+fin_dec s t m n e d (no f) b c = no (λ q. f (ap sign_of q))
+fin_dec s t m n e d (yes p) (no f) c = no (λ q. f (ap digits_of q))
+fin_dec s t m n e d (yes p) (yes q) (no f) = no (λ z. f (ap power_of z))
+fin_dec s t m n e d (yes p) (yes q) (yes r) = yes (λ i. fin (p i) (q i) (r i))
 
-pub float-discrete : Discrete Float
-float-discrete nan nan = yes refl
-float-discrete nan (inf t) = no (λ e. subst IsNan e tt)
-float-discrete nan (fin t n d) = no (λ e. subst IsNan e tt)
-float-discrete (inf s) nan = no (λ e. subst IsNan (sym e) tt)
-float-discrete (inf s) (inf t) = inf-dec s t (Bool-discrete s t)
-float-discrete (inf s) (fin t n d) = no (λ e. subst IsInf e tt)
-float-discrete (fin s m k) nan = no (λ e. subst IsNan (sym e) tt)
-float-discrete (fin s m k) (inf t) = no (λ e. subst IsInf (sym e) tt)
-float-discrete (fin s m k) (fin t n d) = fin-dec s t m n k d (Bool-discrete s t) (ℕ_discrete m n) (ℤ_discrete k d)
+pub float_discrete : Discrete Float
+float_discrete nan nan = yes refl
+float_discrete nan (inf t) = no (λ e. subst IsNan e tt)
+float_discrete nan (fin t n d) = no (λ e. subst IsNan e tt)
+float_discrete (inf s) nan = no (λ e. subst IsNan (sym e) tt)
+float_discrete (inf s) (inf t) = inf_dec s t (Bool-discrete s t)
+float_discrete (inf s) (fin t n d) = no (λ e. subst IsInf e tt)
+float_discrete (fin s m k) nan = no (λ e. subst IsNan (sym e) tt)
+float_discrete (fin s m k) (inf t) = no (λ e. subst IsInf (sym e) tt)
+float_discrete (fin s m k) (fin t n d) = fin_dec s t m n k d (Bool-discrete s t) (ℕ_discrete m n) (ℤ_discrete k d)

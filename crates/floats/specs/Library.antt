@@ -35,42 +35,42 @@ unfoldable pub min : Float → Float → Float
 min x y = cond (is_nan x) y (cond (is_nan y) x (cond (before y x) y x))
 
 -- f32::to_radians: times the f32 quotient PI/180
-unfoldable pub toRadians : Float → Float
-toRadians x = x ⊗ lit 0x3c8e_fa35
+unfoldable pub to_radians : Float → Float
+to_radians x = x ⊗ lit 0x3c8e_fa35
 
 -- f32::rem_euclid: `%`, and the divisor added where that is below zero. The sum is rounded, so the divisor itself can come out.
-unfoldable pub remEuclid : Format → Float → Float → Float
-remEuclid f x d = let r = rem f x d in cond (lt r nought) (add f r d) r
+unfoldable pub rem_euclid : Format → Float → Float → Float
+rem_euclid f x d = let r = rem f x d in cond (lt r nought) (add f r d) r
 
--- The square root. `wholeRoot d n` is the whole root of an n below 4 ^ d: its square is at most n, and the next number's is above n.
+-- The square root. `whole_root d n` is the whole root of an n below 4 ^ d: its square is at most n, and the next number's is above n.
 abbrev pub stepped : ℕ → ℕ → ℕ
 stepped r n = cond (nat_le (suc r * suc r) n) (suc r) r
 
-unfoldable pub wholeRoot : ℕ → ℕ → ℕ
-wholeRoot zero n = 0
-wholeRoot (suc d) n = stepped (2 * wholeRoot d (n / 4)) n
+unfoldable pub whole_root : ℕ → ℕ → ℕ
+whole_root zero n = 0
+whole_root (suc d) n = stepped (2 * whole_root d (n / 4)) n
 
 -- the middle between q * 2 ^ k and the next number of that many digits, twice
 abbrev pub middle : ℕ → ℕ → ℕ
 middle q k = (2 * q + 1) * 2 ^ k
 
 -- The root of N, in units of the format's smallest value, rounded to the nearest: the square of the middle is compared with N.
-unfoldable pub rootUnits : Format → ℕ → Float
-unfolding wholeRoot size units
-rootUnits f N =
-    let w = wholeRoot (2 * (low f + suc (emax f))) N in
+unfoldable pub root_units : Format → ℕ → Float
+unfolding whole_root size units
+root_units f N =
+    let w = whole_root (2 * (low f + suc (emax f))) N in
     let k = size w - prec f in
     let q = w / 2 ^ k in
     units f false (cond (nat_lt (middle q k * middle q k) (4 * N)) (suc q) q) k
 
 -- f32::sqrt, as IEEE 754 has it: correctly rounded
 unfoldable pub sqrt : Format → Float → Float
-unfolding rootUnits
+unfolding root_units
 sqrt f nan = nan
 sqrt f (inf s) = cond s nan (inf false)
 sqrt f (fin s zero e) = fin s zero e
 sqrt f (fin true (suc m) e) = nan
-sqrt f (fin false (suc m) e) = rootUnits f (suc m * up e * 2 ^ low f / down e * 2 ^ low f)
+sqrt f (fin false (suc m) e) = root_units f (suc m * up e * 2 ^ low f / down e * 2 ^ low f)
 
 -- f64 `as f32`: to nearest, ties to even
 unfoldable pub narrow : Float → Float
@@ -83,8 +83,8 @@ narrow (fin s m e) = round binary32 s (m * up e) (down e)
 abbrev pub key_of : ℕ → ℕ
 key_of b = cond (nat_le 0x8000_0000 b) (0xffff_ffff - b) (b + 0x8000_0000)
 
-unfoldable pub totalKey : Float → ℕ
-totalKey x = key_of (to_bits binary32 x)
+unfoldable pub total_key : Float → ℕ
+total_key x = key_of (to_bits binary32 x)
 
 -- f32::floor: the greatest whole number that is no greater
 unfoldable pub floor : Format → Float → Float
@@ -96,12 +96,12 @@ floor f (fin false m (negsuc k)) = round f false (m / 2 ^ suc k) 1
 floor f (fin true m (negsuc k)) = round f true ((m + (2 ^ suc k - 1)) / 2 ^ suc k) 1
 
 -- f32 `as usize`: toward zero, brought into range, 0 for a NaN
-abbrev pub toIndex : Float → ℕ
-toIndex x = to_unsigned 64 x
+abbrev pub to_index : Float → ℕ
+to_index x = to_unsigned 64 x
 
 -- candidates.rs: HIST_BINS, and ((angle / PI) * HIST_BINS as f32).floor() as usize % HIST_BINS
-abbrev pub histBins : ℕ
-histBins = 72
+abbrev pub hist_bins : ℕ
+hist_bins = 72
 
 unfoldable pub bin : Float → ℕ
-bin a = toIndex (floor binary32 (a ⊘ pi ⊗ count histBins)) % histBins
+bin a = to_index (floor binary32 (a ⊘ pi ⊗ count hist_bins)) % hist_bins

@@ -9,35 +9,35 @@ use Rattle.std.specs.Float.Ieee.{nan, add, mul, is_nan, nan_bits, to_bits, ones,
 use Rattle.std.specs.Float.{inf, fin, Format, binary32}
 use Rattle.std.specs.Float.Ieee.Bits.{nan_bits_is, nan_bits_above}
 use Rattle.std.specs.Float.Ieee.Compare.{differs_from_itself}
-use Rattle.floats.specs.FiniteLaws.{of-true}
+use Rattle.floats.specs.FiniteLaws.{of_true}
 
-is-nan : (x : Float) → is_nan x ≡ true → x ≡ nan
+is_nan : (x : Float) → is_nan x ≡ true → x ≡ nan
 unfolding is_nan
-is-nan nan e = refl
-is-nan (inf s) e = absurd (false≢true e)
-is-nan (fin s m k) e = absurd (false≢true e)
+is_nan nan e = refl
+is_nan (inf s) e = absurd (false≢true e)
+is_nan (fin s m k) e = absurd (false≢true e)
 
-pub nan-word : (f : Format) (w : ℕ) → ones f * hid f < w % top f → nan ≡ from_bits f w
-nan-word f w h = sym (is-nan (from_bits f w) (sym (nan_bits_is f w) ∙ nan_bits_above f w ∙ lt-ltb (ones f * hid f) (w % top f) h))
+pub nan_word : (f : Format) (w : ℕ) → ones f * hid f < w % top f → nan ≡ from_bits f w
+nan_word f w h = sym (is_nan (from_bits f w) (sym (nan_bits_is f w) ∙ nan_bits_above f w ∙ lt-ltb (ones f * hid f) (w % top f) h))
 
-pub no-nan-word : (f : Format) (w : ℕ) → w % top f ≤ ones f * hid f → T (not (nan_bits f w))
-no-nan-word f w h = subst (λ (b : Bool). T (not b)) (sym (nan_bits_above f w)) (le→nltb (ones f * hid f) (w % top f) h)
+pub no_nan_word : (f : Format) (w : ℕ) → w % top f ≤ ones f * hid f → T (not (nan_bits f w))
+no_nan_word f w h = subst (λ (b : Bool). T (not b)) (sym (nan_bits_above f w)) (le→nltb (ones f * hid f) (w % top f) h)
 
 -- the pattern that is written for a NaN
-pub nan-bits : (x : Float) → ne x x ≡ true → 0x7fc0_0000 ≡ to_bits binary32 x
+pub nan_bits : (x : Float) → ne x x ≡ true → 0x7fc0_0000 ≡ to_bits binary32 x
 unfolding to_bits
-nan-bits x d = subst (λ (y : Float). 0x7fc0_0000 ≡ to_bits binary32 y) (sym (differs_from_itself x (of-true d))) refl
+nan_bits x d = subst (λ (y : Float). 0x7fc0_0000 ≡ to_bits binary32 y) (sym (differs_from_itself x (of_true d))) refl
 
 -- what is made of a NaN is one; on the left by computation
 module _ (f : Format) where
-  pub add-nan : (x : Float) → add f x nan ≡ nan
+  pub add_nan : (x : Float) → add f x nan ≡ nan
   unfolding add
-  add-nan nan = refl
-  add-nan (inf s) = refl
-  add-nan (fin s m e) = refl
+  add_nan nan = refl
+  add_nan (inf s) = refl
+  add_nan (fin s m e) = refl
 
-  pub mul-nan : (x : Float) → mul f x nan ≡ nan
+  pub mul_nan : (x : Float) → mul f x nan ≡ nan
   unfolding mul
-  mul-nan nan = refl
-  mul-nan (inf s) = refl
-  mul-nan (fin s m e) = refl
+  mul_nan nan = refl
+  mul_nan (inf s) = refl
+  mul_nan (fin s m e) = refl

@@ -16,14 +16,14 @@ use lib.Pow.{pow-add, pow_pos, pow_mono}
 use Rattle.std.specs.Float.{nan, inf, fin, Format, binary32, binary64}
 use Rattle.std.specs.Float.Ieee.{prec, emax, low, up, down, size, nearest, odd, units, round, of_bits, fits, neg, ne}
 use Rattle.std.specs.Float.Ieee.Fits.{round_is, round-fits, nan-fits, inf-fits, down_pos, eq→eqb, nearest-le}
-use Rattle.std.specs.Float.Ieee.Digits.{size-le}
+use Rattle.std.specs.Float.Ieee.Digits.{size_le}
 use Rattle.std.specs.Float.Ieee.Exact.{units_val}
 use Rattle.std.specs.Float.Ieee.Bits.{of_bits-to_bits, to_bits-lt}
 use Rattle.std.specs.Float.Ieee.Compare.{differs_from_itself}
 use Rattle.std.specs.Float.Ieee.Nearest.{closest, closest_same, nearest-ge}
 use Rattle.std.specs.Float.Ieee.Scale.{round_same}
-use Rattle.floats.specs.UnitLaws.{Val, neg-neg}
-use Rattle.floats.specs.PatternLaws.{size_is, write, write-small, write-carry, read_low, read-high, pattern-neg, units-fit}
+use Rattle.floats.specs.UnitLaws.{Val, neg_neg}
+use Rattle.floats.specs.PatternLaws.{size_is, write, write_small, write_carry, read_low, read_high, pattern_neg, units_fit}
 use Rattle.floats.specs.Library.{narrow}
 
 -- at a value of n units of the f64
@@ -35,8 +35,8 @@ narrow_at (fin s m e) n v =
     round_same binary32 s (m * up e) (down e) n (2 ^ 1074) (down_pos e) (pow_pos 1074) v.1 ∙ ap (λ (b : Bool). round binary32 b n (2 ^ 1074)) v.0
 
 -- ---- `round`, in units of the f32: k digits of n / 2 ^ 925 are dropped
-round-k : (n k : ℕ) → size (n / 2 ^ 925) - 24 ≡ k → round binary32 false n (2 ^ 1074) ≡ units binary32 false (closest n (2 ^ 925 * 2 ^ k)) k
-round-k n k e =
+round_k : (n k : ℕ) → size (n / 2 ^ 925) - 24 ≡ k → round binary32 false n (2 ^ 1074) ≡ units binary32 false (closest n (2 ^ 925 * 2 ^ k)) k
+round_k n k e =
     let a : n * 2 ^ 149 / 2 ^ 1074 ≡ n / 2 ^ 925 = mul-div-mul_right n (2 ^ 925) (pow_pos 149) in
     round_is binary32 false n (2 ^ 1074)
     ∙ ap (λ (z : ℕ). units binary32 false (closest (n * 2 ^ 149) (2 ^ 1074 * 2 ^ z)) z) (ap (λ (z : ℕ). size z - 24) a ∙ e)
@@ -61,7 +61,7 @@ module _ (m e : ℕ) (lo : 2 ^ 52 ≤ m) (hi : m < 2 ^ 53) where
       (div-lt_iff_lt-mul (pow_pos 925)).1
       (lt_of_lt_of_le (mul-lt-mul_of_pos_right hi (pow_pos (e - 1))) (le_of_eq (sym (pow-add 2 53 (e - 1)) ∙
       ap (λ (y : ℕ). 2 ^ y) (high_end e h) ∙ pow-add 2 (suc z) 925))) in
-      round-k n k (ap (λ (y : ℕ). y - 24) (size_is (n / 2 ^ 925) z a b) ∙ dropped e h)
+      round_k n k (ap (λ (y : ℕ). y - 24) (size_is (n / 2 ^ 925) z a b) ∙ dropped e h)
       ∙ ap (λ (y : ℕ). units binary32 false y k)
       (closest_same n (2 ^ 925 * 2 ^ k) m (2 ^ 29) (mul-pos (pow_pos 925) (pow_pos k)) (pow_pos 29)
       (mul_assoc m (2 ^ (e - 1)) (2 ^ 29) ∙ ap (λ (y : ℕ). m * y) (sym (pow-add 2 (e - 1) 29) ∙ ap (λ (y : ℕ). 2 ^ y) (both e h) ∙ pow-add 2 925 k)))
@@ -79,13 +79,13 @@ module _ (m e : ℕ) (lo : 2 ^ 52 ≤ m) (hi : m < 2 ^ 53) where
       both e h = omega arith
 
   -- below that: the result is a whole number of the smallest value
-  pub narrow-low : 1 ≤ e → e < 897 → round binary32 false n (2 ^ 1074) ≡ units binary32 false (closest m (2 ^ (926 - e))) 0
-  narrow-low p h =
+  pub narrow_low : 1 ≤ e → e < 897 → round binary32 false n (2 ^ 1074) ≡ units binary32 false (closest m (2 ^ (926 - e))) 0
+  narrow_low p h =
       let b : n / 2 ^ 925 < 2 ^ 24 =
       (div-lt_iff_lt-mul (pow_pos 925)).1
       (lt_of_lt_of_le (mul-lt-mul_of_pos_right hi (pow_pos (e - 1)))
       (le_trans (le_of_eq (sym (pow-add 2 53 (e - 1)))) (le_trans (pow_mono (short e h)) (le_of_eq (pow-add 2 24 925))))) in
-      round-k n 0 (none (size (n / 2 ^ 925)) (size-le (n / 2 ^ 925) 24 b))
+      round_k n 0 (none (size (n / 2 ^ 925)) (size_le (n / 2 ^ 925) 24 b))
       ∙ ap (λ (y : ℕ). units binary32 false y 0)
       (closest_same n (2 ^ 925) m (2 ^ (926 - e)) (pow_pos 925) (pow_pos (926 - e))
       (mul_assoc m (2 ^ (e - 1)) (2 ^ (926 - e)) ∙ ap (λ (y : ℕ). m * y) (sym (pow-add 2 (e - 1) (926 - e)) ∙ ap (λ (y : ℕ). 2 ^ y) (both e p h))))
@@ -100,8 +100,8 @@ module _ (m e : ℕ) (lo : 2 ^ 52 ≤ m) (hi : m < 2 ^ 53) where
       both e p h = omega arith
 
 -- ---- the rounding of a fraction, by its remainder
-pub closest-up : (a b : ℕ) → b < a % b * 2 → a / b + 1 ≡ closest a b
-closest-up a b h = one (a / b) ∙ sym (go (compare (a % b * 2) b) (λ t. not-le_of_lt h (leb→le (a % b * 2) b t)))
+pub closest_up : (a b : ℕ) → b < a % b * 2 → a / b + 1 ≡ closest a b
+closest_up a b h = one (a / b) ∙ sym (go (compare (a % b * 2) b) (λ t. not-le_of_lt h (leb→le (a % b * 2) b t)))
   where
     one : (q : ℕ) → q + 1 ≡ suc q
     one q = omega arith
@@ -111,16 +111,16 @@ closest-up a b h = one (a / b) ∙ sym (go (compare (a % b * 2) b) (λ t. not-le
     go Ordering.eq n = absurd (n tt)
     go Ordering.gt n = refl
 
-pub closest-tie : (a b : ℕ) → a % b * 2 ≡ b → a / b + a / b % 2 ≡ closest a b
-closest-tie a b h = sym (go (compare (a % b * 2) b) (eq→eqb h))
+pub closest_tie : (a b : ℕ) → a % b * 2 ≡ b → a / b + a / b % 2 ≡ closest a b
+closest_tie a b h = sym (go (compare (a % b * 2) b) (eq→eqb h))
   where
     go : (o : Ordering) → T (compare_is_eq o) → nearest (a / b) o ≡ a / b + a / b % 2
     go Ordering.lt t = absurd t
     go Ordering.eq t = refl
     go Ordering.gt t = absurd t
 
-pub closest-down : (a b : ℕ) → a % b * 2 < b → a / b ≡ closest a b
-closest-down a b h =
+pub closest_down : (a b : ℕ) → a % b * 2 < b → a / b ≡ closest a b
+closest_down a b h =
     sym (go (compare (a % b * 2) b) (lib.Dec.le→leb (a % b * 2) b (le_of_lt h)) (λ t. lt_irrefl b (subst (λ (z : ℕ). z < b) (eqb→eq (a % b * 2) b t) h)))
   where
     go : (o : Ordering) → T (is_le o) → (T (compare_is_eq o) → ⊥) → nearest (a / b) o ≡ a / b
@@ -129,10 +129,10 @@ closest-down a b h =
     go Ordering.gt t n = absurd t
 
 -- less than half of b rounds to nothing
-pub closest-none : (a b : ℕ) → a * 2 < b → closest a b ≡ 0
-closest-none a b h =
+pub closest_none : (a b : ℕ) → a * 2 < b → closest a b ≡ 0
+closest_none a b h =
     let l : a < b = half a b h in
-    sym (closest-down a b (subst (λ (z : ℕ). z * 2 < b) (sym (mod-eq_of_lt l)) h)) ∙ div-eq_of_lt l
+    sym (closest_down a b (subst (λ (z : ℕ). z * 2 < b) (sym (mod-eq_of_lt l)) h)) ∙ div-eq_of_lt l
   where
     half : (a b : ℕ) → a * 2 < b → a < b
     half a b h = omega arith
@@ -147,42 +147,42 @@ over q k h = go (nat_lt (q * 2 ^ k) (2 ^ 277)) (le→nltb (q * 2 ^ k) (2 ^ 277) 
     go true t = absurd t
     go false t = refl
 
-inf-pattern : of_bits binary32 0x7f800000 ≡ inf false
+inf_pattern : of_bits binary32 0x7f800000 ≡ inf false
 unfolding of_bits
-inf-pattern = refl
+inf_pattern = refl
 
-pub pattern-high : (q k : ℕ) → 2 ^ 23 ≤ q → q ≤ 2 ^ 24 → k ≤ 253 → units binary32 false q k ≡ of_bits binary32 (k * 8388608 + q)
-pattern-high q k lo hi l = go (nat_lt (q * 2 ^ k) (2 ^ 277)) (ltb→lt (q * 2 ^ k) (2 ^ 277)) (nltb→le (q * 2 ^ k) (2 ^ 277))
+pub pattern_high : (q k : ℕ) → 2 ^ 23 ≤ q → q ≤ 2 ^ 24 → k ≤ 253 → units binary32 false q k ≡ of_bits binary32 (k * 8388608 + q)
+pattern_high q k lo hi l = go (nat_lt (q * 2 ^ k) (2 ^ 277)) (ltb→lt (q * 2 ^ k) (2 ^ 277)) (nltb→le (q * 2 ^ k) (2 ^ 277))
   where
     wrote : q * 2 ^ k < 2 ^ 277 → to_bits binary32 (units binary32 false q k) ≡ k * 8388608 + q
     wrote s = elim (eq-or-lt_of_le hi) [
-      | inl e ↦ write-carry binary32 (units binary32 false q k) q k e (units_val binary32 false q k s)
+      | inl e ↦ write_carry binary32 (units binary32 false q k) q k e (units_val binary32 false q k s)
       | inr u ↦ write binary32 (units binary32 false q k) q k lo u (units_val binary32 false q k s)
     ]
 
     -- only the largest k and q reach it
-    top-k : 2 ^ 277 ≤ q * 2 ^ k → k ≡ 253
-    top-k h = last k l (λ (g : k ≤ 252). not-le_of_lt (lt_of_le_of_lt (mul-le-mul hi (pow_mono g)) (lit< {m = 2 ^ 24 * 2 ^ 252} {n = 2 ^ 277} tt)) h)
+    top_k : 2 ^ 277 ≤ q * 2 ^ k → k ≡ 253
+    top_k h = last k l (λ (g : k ≤ 252). not-le_of_lt (lt_of_le_of_lt (mul-le-mul hi (pow_mono g)) (lit< {m = 2 ^ 24 * 2 ^ 252} {n = 2 ^ 277} tt)) h)
       where
         last : (k : ℕ) → k ≤ 253 → (k ≤ 252 → ⊥) → k ≡ 253
         last k h n = omega arith
 
-    top-q : 2 ^ 277 ≤ q * 2 ^ k → q ≡ 2 ^ 24
-    top-q h =
+    top_q : 2 ^ 277 ≤ q * 2 ^ k → q ≡ 2 ^ 24
+    top_q h =
         native.Mathlib.Nat.le_antisymm hi
-        (native.Mathlib.Nat.le_of_mul-le-mul_right (subst (λ (z : ℕ). 2 ^ 24 * 2 ^ 253 ≤ q * 2 ^ z) (top-k h) h) (pow_pos 253))
+        (native.Mathlib.Nat.le_of_mul-le-mul_right (subst (λ (z : ℕ). 2 ^ 24 * 2 ^ 253 ≤ q * 2 ^ z) (top_k h) h) (pow_pos 253))
 
     go : (b : Bool) → (T b → q * 2 ^ k < 2 ^ 277) → (T (not b) → 2 ^ 277 ≤ q * 2 ^ k) → units binary32 false q k ≡ of_bits binary32 (k * 8388608 + q)
-    go true u v = sym (of_bits-to_bits binary32 (units binary32 false q k) (units-fit binary32 q k hi)) ∙ ap (of_bits binary32) (wrote (u tt))
+    go true u v = sym (of_bits-to_bits binary32 (units binary32 false q k) (units_fit binary32 q k hi)) ∙ ap (of_bits binary32) (wrote (u tt))
     go false u v =
-        over q k (v tt) ∙ sym inf-pattern
-        ∙ ap (of_bits binary32) (sym (ap (λ (z : ℕ). z * 8388608 + q) (top-k (v tt)) ∙ ap (λ (z : ℕ). 253 * 8388608 + z) (top-q (v tt))))
+        over q k (v tt) ∙ sym inf_pattern
+        ∙ ap (of_bits binary32) (sym (ap (λ (z : ℕ). z * 8388608 + q) (top_k (v tt)) ∙ ap (λ (z : ℕ). 253 * 8388608 + z) (top_q (v tt))))
 
-pub pattern-low : (q : ℕ) → q < 2 ^ 24 → units binary32 false q 0 ≡ of_bits binary32 q
-pattern-low q h =
+pub pattern_low : (q : ℕ) → q < 2 ^ 24 → units binary32 false q 0 ≡ of_bits binary32 q
+pattern_low q h =
     let s : q * 2 ^ 0 < 2 ^ 277 = lt_of_le_of_lt (le_of_eq (mul-one q)) (lt_of_lt_of_le h (lit≤ tt)) in
-    sym (of_bits-to_bits binary32 (units binary32 false q 0) (units-fit binary32 q 0 (le_of_lt h)))
-    ∙ ap (of_bits binary32) (write-small binary32 (units binary32 false q 0) q h
+    sym (of_bits-to_bits binary32 (units binary32 false q 0) (units_fit binary32 q 0 (le_of_lt h)))
+    ∙ ap (of_bits binary32) (write_small binary32 (units binary32 false q 0) q h
     (subst (λ (z : ℕ). Val binary32 (units binary32 false q 0) false z) (mul-one q) (units_val binary32 false q 0 s)))
 
 -- ---- bounds of what is kept
@@ -218,14 +218,14 @@ module _ (b : ℕ) (top-b : b ≤ 0x7ff0000000000000) where
   abbrev m : ℕ
   m = H + b % H
 
-  m-lo : 2 ^ 52 ≤ m
-  m-lo = go (b % H)
+  m_lo : 2 ^ 52 ≤ m
+  m_lo = go (b % H)
     where
       go : (t : ℕ) → 2 ^ 52 ≤ H + t
       go t = omega arith
 
-  m-hi : m < 2 ^ 53
-  m-hi = go b
+  m_hi : m < 2 ^ 53
+  m_hi = go b
     where
       go : (b : ℕ) → H + b % H < 2 ^ 53
       go b = omega arith
@@ -233,32 +233,32 @@ module _ (b : ℕ) (top-b : b ≤ 0x7ff0000000000000) where
   -- a field from 1 up to 2046
   value : 0 < e → e < 2047 → narrow (of_bits binary64 b) ≡ round binary32 false (m * 2 ^ (e - 1)) (2 ^ 1074)
   value p l =
-      narrow_at (of_bits binary64 b) (m * 2 ^ (e - 1)) (read-high binary64 b (e - 1) under (up_one e p) (subst (λ (z : ℕ). z < 2047) (up_one e p) l))
+      narrow_at (of_bits binary64 b) (m * 2 ^ (e - 1)) (read_high binary64 b (e - 1) under (up_one e p) (subst (λ (z : ℕ). z < 2047) (up_one e p) l))
     where
       up_one : (d : ℕ) → 0 < d → d ≡ suc (d - 1)
       up_one d h = omega arith
 
-  pub narrow-mid : 897 ≤ e → e ≤ 1150 → of_bits binary32 ((e - 897) * 8388608 + closest m (2 ^ 29)) ≡ narrow (of_bits binary64 b)
-  narrow-mid h l =
-      let k = kept_high m m-lo m-hi in
-      sym (value (lt_of_lt_of_le (lit< tt) h) (lt_of_le_of_lt l (lit< tt)) ∙ narrow_high m e m-lo m-hi h ∙
-      pattern-high (closest m (2 ^ 29)) (e - 897) k.0 k.1 (room e l))
+  pub narrow_mid : 897 ≤ e → e ≤ 1150 → of_bits binary32 ((e - 897) * 8388608 + closest m (2 ^ 29)) ≡ narrow (of_bits binary64 b)
+  narrow_mid h l =
+      let k = kept_high m m_lo m_hi in
+      sym (value (lt_of_lt_of_le (lit< tt) h) (lt_of_le_of_lt l (lit< tt)) ∙ narrow_high m e m_lo m_hi h ∙
+      pattern_high (closest m (2 ^ 29)) (e - 897) k.0 k.1 (room e l))
     where
       room : (e : ℕ) → e ≤ 1150 → e - 897 ≤ 253
       room e h = omega arith
 
-  pub narrow-under : 872 ≤ e → e < 897 → of_bits binary32 (closest m (2 ^ (926 - e))) ≡ narrow (of_bits binary64 b)
-  narrow-under h l =
-      sym (value (lt_of_lt_of_le (lit< tt) h) (lt_of_lt_of_le l (lit≤ tt)) ∙ narrow-low m e m-lo m-hi (le_trans (lit≤ tt) h) l ∙
-      pattern-low (closest m (2 ^ (926 - e))) (kept_low m (926 - e) m-hi (room e l)))
+  pub narrow_under : 872 ≤ e → e < 897 → of_bits binary32 (closest m (2 ^ (926 - e))) ≡ narrow (of_bits binary64 b)
+  narrow_under h l =
+      sym (value (lt_of_lt_of_le (lit< tt) h) (lt_of_lt_of_le l (lit≤ tt)) ∙ narrow_low m e m_lo m_hi (le_trans (lit≤ tt) h) l ∙
+      pattern_low (closest m (2 ^ (926 - e))) (kept_low m (926 - e) m_hi (room e l)))
     where
       room : (e : ℕ) → e < 897 → 30 ≤ 926 - e
       room e h = omega arith
 
   tiny : (n : ℕ) → n * 2 < 2 ^ 925 → round binary32 false n (2 ^ 1074) ≡ of_bits binary32 0
   tiny n h =
-      round-k n 0 (ap (λ (z : ℕ). size z - 24) (div-eq_of_lt (half n h)) ∙ none)
-      ∙ ap (λ (z : ℕ). units binary32 false z 0) (closest-none n (2 ^ 925) h) ∙ pattern-low 0 (lit< tt)
+      round_k n 0 (ap (λ (z : ℕ). size z - 24) (div-eq_of_lt (half n h)) ∙ none)
+      ∙ ap (λ (z : ℕ). units binary32 false z 0) (closest_none n (2 ^ 925) h) ∙ pattern_low 0 (lit< tt)
     where
       none : size 0 - 24 ≡ 0
       none = unfold size in refl
@@ -266,13 +266,13 @@ module _ (b : ℕ) (top-b : b ≤ 0x7ff0000000000000) where
       half : (n : ℕ) → n * 2 < 2 ^ 925 → n < 2 ^ 925
       half n l = lt_of_le_of_lt (native.Mathlib.Nat.le-mul_of_pos_right n (zero-lt-suc 1)) l
 
-  pub narrow-zero : e < 872 → of_bits binary32 0 ≡ narrow (of_bits binary64 b)
-  narrow-zero l = elim (native.Mathlib.Nat.eq-zero-or-pos e) [
+  pub narrow_zero : e < 872 → of_bits binary32 0 ≡ narrow (of_bits binary64 b)
+  narrow_zero l = elim (native.Mathlib.Nat.eq-zero-or-pos e) [
     | inl z ↦ sym (narrow_at (of_bits binary64 b) (b % H) (read_low binary64 b under z) ∙ tiny (b % H) (lt_of_lt_of_le (small b) (lit≤ tt)))
     | inr p ↦
         sym (value p (lt_of_lt_of_le l (lit≤ tt)) ∙ tiny (m * 2 ^ (e - 1))
         (lt_of_le_of_lt (le_of_eq (mul_right_comm m (2 ^ (e - 1)) 2))
-        (lt_of_lt_of_le (mul-lt-mul_of_pos_right (twice m m-hi) (pow_pos (e - 1))) (le_trans (le_of_eq (sym (pow-add 2 54 (e - 1)))) (pow_mono (room e l))))))
+        (lt_of_lt_of_le (mul-lt-mul_of_pos_right (twice m m_hi) (pow_pos (e - 1))) (le_trans (le_of_eq (sym (pow-add 2 54 (e - 1)))) (pow_mono (room e l))))))
   ]
     where
       small : (b : ℕ) → b % H * 2 < 2 ^ 53
@@ -284,12 +284,12 @@ module _ (b : ℕ) (top-b : b ≤ 0x7ff0000000000000) where
       room : (e : ℕ) → e < 872 → 54 + (e - 1) ≤ 925
       room e h = omega arith
 
-  pub narrow-over : 1150 < e → of_bits binary32 0x7f800000 ≡ narrow (of_bits binary64 b)
-  narrow-over h = elim (eq-or-lt_of_le top-b) [
-    | inl z ↦ inf-pattern ∙ sym (ap (λ (y : ℕ). narrow (of_bits binary64 y)) z ∙ unfold narrow of_bits in refl)
+  pub narrow_over : 1150 < e → of_bits binary32 0x7f800000 ≡ narrow (of_bits binary64 b)
+  narrow_over h = elim (eq-or-lt_of_le top-b) [
+    | inl z ↦ inf_pattern ∙ sym (ap (λ (y : ℕ). narrow (of_bits binary64 y)) z ∙ unfold narrow of_bits in refl)
     | inr l ↦
-        inf-pattern ∙ sym (value (lt_of_le_of_lt zero-le h) (field b l) ∙ narrow_high m e m-lo m-hi (le_trans (lit≤ tt) (le_of_lt h))
-        ∙ over (closest m (2 ^ 29)) (e - 897) (le_trans (le_of_eq (pow-add 2 23 254)) (mul-le-mul (kept_high m m-lo m-hi).0 (pow_mono (room e h)))))
+        inf_pattern ∙ sym (value (lt_of_le_of_lt zero-le h) (field b l) ∙ narrow_high m e m_lo m_hi (le_trans (lit≤ tt) (le_of_lt h))
+        ∙ over (closest m (2 ^ 29)) (e - 897) (le_trans (le_of_eq (pow-add 2 23 254)) (mul-le-mul (kept_high m m_lo m_hi).0 (pow_mono (room e h)))))
   ]
     where
       field : (b : ℕ) → b < 0x7ff0000000000000 → b / H < 2047
@@ -299,36 +299,36 @@ module _ (b : ℕ) (top-b : b ≤ 0x7ff0000000000000) where
       room e h = omega arith
 
 -- ---- the sign
-neg-odd : (d : ℕ) (q k l : ℕ) → odd d true q k l ≡ neg (odd d false q k l)
+neg_odd : (d : ℕ) (q k l : ℕ) → odd d true q k l ≡ neg (odd d false q k l)
 unfolding odd neg
-neg-odd d zero k l = refl
-neg-odd d (suc q) k l = refl
+neg_odd d zero k l = refl
+neg_odd d (suc q) k l = refl
 
-neg-cond : (b : Bool) (x y x' y' : Float) → x ≡ neg x' → y ≡ neg y' → cond b x y ≡ neg (cond b x' y')
-neg-cond true x y x' y' p q = p
-neg-cond false x y x' y' p q = q
+neg_cond : (b : Bool) (x y x' y' : Float) → x ≡ neg x' → y ≡ neg y' → cond b x y ≡ neg (cond b x' y')
+neg_cond true x y x' y' p q = p
+neg_cond false x y x' y' p q = q
 
-neg-inf : inf true ≡ neg (inf false)
+neg_inf : inf true ≡ neg (inf false)
 unfolding neg
-neg-inf = refl
+neg_inf = refl
 
-neg-units : (f : Format) (q k : ℕ) → units f true q k ≡ neg (units f false q k)
+neg_units : (f : Format) (q k : ℕ) → units f true q k ≡ neg (units f false q k)
 unfolding units
-neg-units f q k =
-    neg-cond (nat_lt (q * 2 ^ k) (2 ^ (low f + suc (emax f)))) (odd (suc (prec f)) true q k (low f)) (inf true) (odd (suc (prec f)) false q k (low f)) (inf false)
-    (neg-odd (suc (prec f)) q k (low f)) neg-inf
+neg_units f q k =
+    neg_cond (nat_lt (q * 2 ^ k) (2 ^ (low f + suc (emax f)))) (odd (suc (prec f)) true q k (low f)) (inf true) (odd (suc (prec f)) false q k (low f)) (inf false)
+    (neg_odd (suc (prec f)) q k (low f)) neg_inf
 
-pub neg-round : (f : Format) (a c : ℕ) → round f true a c ≡ neg (round f false a c)
-neg-round f a c =
-    round_is f true a c ∙ neg-units f (closest (a * 2 ^ low f) (c * 2 ^ (size (a * 2 ^ low f / c) - prec f))) (size (a * 2 ^ low f / c) - prec f) ∙
+pub neg_round : (f : Format) (a c : ℕ) → round f true a c ≡ neg (round f false a c)
+neg_round f a c =
+    round_is f true a c ∙ neg_units f (closest (a * 2 ^ low f) (c * 2 ^ (size (a * 2 ^ low f / c) - prec f))) (size (a * 2 ^ low f / c) - prec f) ∙
     ap neg (sym (round_is f false a c))
 
-pub narrow-neg : (x : Float) → narrow (neg x) ≡ neg (narrow x)
+pub narrow_neg : (x : Float) → narrow (neg x) ≡ neg (narrow x)
 unfolding narrow neg
-narrow-neg nan = refl
-narrow-neg (inf s) = refl
-narrow-neg (fin true m e) = sym (neg-neg (round binary32 false (m * up e) (down e))) ∙ ap neg (sym (neg-round binary32 (m * up e) (down e)))
-narrow-neg (fin false m e) = neg-round binary32 (m * up e) (down e)
+narrow_neg nan = refl
+narrow_neg (inf s) = refl
+narrow_neg (fin true m e) = sym (neg_neg (round binary32 false (m * up e) (down e))) ∙ ap neg (sym (neg_round binary32 (m * up e) (down e)))
+narrow_neg (fin false m e) = neg_round binary32 (m * up e) (down e)
 
 -- ---- for the proofs of code
 pub power_in : (p s : ℕ) → p ≡ 2 ^ s → s < 62 → (0 < p) × (p < 2 ^ 62)
@@ -341,8 +341,8 @@ pub not_more : (a b : ℕ) → a ≤ b → (a ≢ b) → a < b
 not_more a b h n = omega arith
 
 -- the kept digits in the two ranges, by any names of m and of the divisor
-pub kept-high-in : (q b : ℕ) → q ≡ closest (H + b % H) 536870912 → (8388608 ≤ q) × (q ≤ 16777216)
-kept-high-in q b e =
+pub kept_high_in : (q b : ℕ) → q ≡ closest (H + b % H) 536870912 → (8388608 ≤ q) × (q ≤ 16777216)
+kept_high_in q b e =
     let k = kept_high (H + b % H) (lo (b % H)) (hi b) in
     (subst (λ (z : ℕ). 8388608 ≤ z) (sym e) k.0, subst (λ (z : ℕ). z ≤ 16777216) (sym e) k.1)
   where
@@ -352,28 +352,28 @@ kept-high-in q b e =
     hi : (b : ℕ) → H + b % H < 2 ^ 53
     hi b = omega arith
 
-pub kept-low-in : (q b d s : ℕ) → q ≡ closest (H + b % H) d → d ≡ 2 ^ s → 30 ≤ s → q < 16777216
-kept-low-in q b d s e f h = subst (λ (z : ℕ). z < 16777216) (sym (e ∙ ap (closest (H + b % H)) f)) (kept_low (H + b % H) s (hi b) h)
+pub kept_low_in : (q b d s : ℕ) → q ≡ closest (H + b % H) d → d ≡ 2 ^ s → 30 ≤ s → q < 16777216
+kept_low_in q b d s e f h = subst (λ (z : ℕ). z < 16777216) (sym (e ∙ ap (closest (H + b % H)) f)) (kept_low (H + b % H) s (hi b) h)
   where
     hi : (b : ℕ) → H + b % H < 2 ^ 53
     hi b = omega arith
 
-pub narrow-nan : (x : Float) → ne x x ≡ true → nan ≡ narrow x
+pub narrow_nan : (x : Float) → ne x x ≡ true → nan ≡ narrow x
 unfolding narrow
-narrow-nan x d = subst (λ (y : Float). nan ≡ narrow y) (sym (differs_from_itself x (subst T (sym d) tt))) refl
+narrow_nan x d = subst (λ (y : Float). nan ≡ narrow y) (sym (differs_from_itself x (subst T (sym d) tt))) refl
 
-pub narrow-fits : (x : Float) → T (fits binary32 (narrow x))
+pub narrow_fits : (x : Float) → T (fits binary32 (narrow x))
 unfolding narrow
-narrow-fits nan = nan-fits binary32
-narrow-fits (inf s) = inf-fits binary32 s
-narrow-fits (fin s m e) = round-fits binary32 s (m * up e) (down e)
+narrow_fits nan = nan-fits binary32
+narrow_fits (inf s) = inf-fits binary32 s
+narrow_fits (fin s m e) = round-fits binary32 s (m * up e) (down e)
 
 -- a pattern with the sign's bit
 pub narrow_signed : (x : Float) → T (fits binary64 x) → 2 ^ 63 ≤ to_bits binary64 x → neg (narrow (of_bits binary64 (to_bits binary64 x - 2 ^ 63))) ≡ narrow x
 narrow_signed x p h =
     let b = to_bits binary64 x in
-    sym (narrow-neg (of_bits binary64 (b - 2 ^ 63)))
-    ∙ ap narrow (sym (pattern-neg binary64 (b - 2 ^ 63) (low_part b (to_bits-lt binary64 x p))) ∙
+    sym (narrow_neg (of_bits binary64 (b - 2 ^ 63)))
+    ∙ ap narrow (sym (pattern_neg binary64 (b - 2 ^ 63) (low_part b (to_bits-lt binary64 x p))) ∙
     ap (of_bits binary64) (native.Mathlib.Nat.add-sub_of_le h) ∙ of_bits-to_bits binary64 x p)
   where
     low_part : (b : ℕ) → b < 2 ^ 64 → b - 2 ^ 63 < 2 ^ 63

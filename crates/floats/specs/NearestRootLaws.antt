@@ -10,12 +10,12 @@ use native.Mathlib.Nat.{div-mul-le_self, lt-div-mul-add, le-div_iff_mul-le, pow-
 use Rattle.std.proofs.Math.Dec.{nleb→lt}
 use Rattle.std.specs.Float.Ieee.{binary32, size}
 use Rattle.std.specs.Float.Ieee.Fits.{kept-lt}
-use Rattle.std.specs.Float.Ieee.Digits.{size-lt, size-le, size_reaches}
+use Rattle.std.specs.Float.Ieee.Digits.{size-lt, size_le, size_reaches}
 use Rattle.std.specs.Float.Ieee.Exact.{units_val}
 use Rattle.floats.specs.UnitLaws.{Val}
 use Rattle.floats.specs.RoundingLaws.{Rep}
-use Rattle.floats.specs.RootLaws.{isq-root, root-lt, sqrt-at}
-use Rattle.floats.specs.Library.{rootUnits, sqrt, wholeRoot}
+use Rattle.floats.specs.RootLaws.{isq_root, root_lt, sqrt_at}
+use Rattle.floats.specs.Library.{root_units, sqrt, whole_root}
 
 -- an odd c above m: no power of two makes the two equal
 no_tie : (m i c d : ℕ) → m < c → c % 2 ≡ 1 → m * 2 ^ i ≢ c * 2 ^ d
@@ -48,8 +48,8 @@ pub record Nearest (N q k : ℕ) : Type 0 where
   pub above : (2 * q - 1) * 2 ^ k * ((2 * q - 1) * 2 ^ k) < 4 * N
   pub below : 4 * N < (2 * q + 1) * 2 ^ k * ((2 * q + 1) * 2 ^ k)
 
-square-lt : (a b u : ℕ) → 0 < u → a < b → a * u * (a * u) < b * u * (b * u)
-square-lt a b u U h =
+square_lt : (a b u : ℕ) → 0 < u → a < b → a * u * (a * u) < b * u * (b * u)
+square_lt a b u U h =
     let v : a * u < b * u = mul-lt-mul_of_pos_right h U in
     lt_of_le_of_lt (mul-le-mul (le_refl (a * u)) (le_of_lt v)) (mul-lt-mul_of_pos_right v (lt_of_le_of_lt zero-le v))
 
@@ -62,7 +62,7 @@ module _ (n : ℕ) (r : Rep binary32 n) (p : 0 < n) where
   N = n * 2 ^ 149
 
   abbrev w : ℕ
-  w = wholeRoot 554 N
+  w = whole_root 554 N
 
   abbrev k : ℕ
   k = size w - 24
@@ -74,51 +74,51 @@ module _ (n : ℕ) (r : Rep binary32 n) (p : 0 < n) where
   mid = (2 * q + 1) * 2 ^ k * ((2 * q + 1) * 2 ^ k)
 
   roots : (w * w ≤ N) × (N < suc w * suc w)
-  roots = isq-root 554 N (lt_of_lt_of_le (mul-lt-mul_of_pos_right r.4 (pow_pos 149)) (lit≤ tt))
+  roots = isq_root 554 N (lt_of_lt_of_le (mul-lt-mul_of_pos_right r.4 (pow_pos 149)) (lit≤ tt))
 
   big : 2 ^ 74 ≤ w
   big =
-      le_of_suc-le-suc (root-lt (2 ^ 74) (suc w)
+      le_of_suc-le-suc (root_lt (2 ^ 74) (suc w)
       (lt_of_le_of_lt (le_trans (lit≤ tt) (le_trans (le_of_eq (sym (one-mul (2 ^ 149)))) (mul-le-mul_right (2 ^ 149) p))) roots.1))
 
   long : 74 < size w
   long = lt_of_not-le (λ (g : size w ≤ 74). not-le_of_lt (lt_of_lt_of_le (size-lt w) (pow_mono g)) big)
 
-  q-hi : q < 2 ^ 24
-  q-hi = kept-lt 24 w
+  q_hi : q < 2 ^ 24
+  q_hi = kept-lt 24 w
 
-  q-lo : 2 ^ 23 ≤ q
-  q-lo = (le-div_iff_mul-le (pow_pos k)).1 (le_trans (le_of_eq (sym (pow-add 2 23 k))) (size_reaches w (23 + k) (inside (size w) long)))
+  q_lo : 2 ^ 23 ≤ q
+  q_lo = (le-div_iff_mul-le (pow_pos k)).1 (le_trans (le_of_eq (sym (pow-add 2 23 k))) (size_reaches w (23 + k) (inside (size w) long)))
     where
       inside : (s : ℕ) → 74 < s → 23 + (s - 24) < s
       inside s h = omega arith
 
-  floor-lo : q * 2 ^ k * (q * 2 ^ k) ≤ N
-  floor-lo = le_trans (mul-le-mul (div-mul-le_self w (2 ^ k)) (div-mul-le_self w (2 ^ k))) roots.0
+  floor_lo : q * 2 ^ k * (q * 2 ^ k) ≤ N
+  floor_lo = le_trans (mul-le-mul (div-mul-le_self w (2 ^ k)) (div-mul-le_self w (2 ^ k))) roots.0
 
-  floor-hi : N < suc q * 2 ^ k * (suc q * 2 ^ k)
-  floor-hi =
+  floor_hi : N < suc q * 2 ^ k * (suc q * 2 ^ k)
+  floor_hi =
       let s : suc w ≤ suc q * 2 ^ k = le_trans (lt-div-mul-add (pow_pos k)) (le_of_eq (sym (suc-mul q (2 ^ k)))) in
       lt_of_lt_of_le roots.1 (mul-le-mul s s)
 
-  odd-mid : 4 * N ≡ mid → ⊥
-  odd-mid e =
+  odd_mid : 4 * N ≡ mid → ⊥
+  odd_mid e =
       no_tie r.0 (r.1 + 151) ((2 * q + 1) * (2 * q + 1)) (k + k)
-      (lt_of_lt_of_le r.2 (le_trans (lit≤ tt) (mul-le-mul wide wide))) (odd-odd (2 * q + 1) (odd-one q))
+      (lt_of_lt_of_le r.2 (le_trans (lit≤ tt) (mul-le-mul wide wide))) (odd_odd (2 * q + 1) (odd_one q))
       (pow151 r.0 r.1 n r.3 ∙ e ∙ mul-mul-mul_comm (2 * q + 1) (2 ^ k) (2 * q + 1) (2 ^ k) ∙
       ap (λ (z : ℕ). (2 * q + 1) * (2 * q + 1) * z) (sym (pow-add 2 k k)))
     where
       wide : 8388608 ≤ 2 * q + 1
-      wide = grow q q-lo
+      wide = grow q q_lo
         where
           grow : (q : ℕ) → 8388608 ≤ q → 8388608 ≤ 2 * q + 1
           grow q h = omega arith
 
-      odd-one : (q : ℕ) → (2 * q + 1) % 2 ≡ 1
-      odd-one q = omega arith
+      odd_one : (q : ℕ) → (2 * q + 1) % 2 ≡ 1
+      odd_one q = omega arith
 
-      odd-odd : (a : ℕ) → a % 2 ≡ 1 → a * a % 2 ≡ 1
-      odd-odd a h = go (a / 2) (half a h)
+      odd_odd : (a : ℕ) → a % 2 ≡ 1 → a * a % 2 ≡ 1
+      odd_odd a h = go (a / 2) (half a h)
         where
           half : (a : ℕ) → a % 2 ≡ 1 → a ≡ 2 * (a / 2) + 1
           half a h = omega arith
@@ -139,14 +139,14 @@ module _ (n : ℕ) (r : Rep binary32 n) (p : 0 < n) where
           ap (λ (z : ℕ). m * z) (pow-add 2 j 151) ∙ sym (mul_assoc m (2 ^ j) (2 ^ 151)) ∙ ap (λ (z : ℕ). z * 2 ^ 151) (sym e) ∙
           sym (mul_assoc n (2 ^ 149) 4) ∙ mul_comm (n * 2 ^ 149) 4
 
-  root-nearest-at : (b : Bool) → (T b → mid < 4 * N) → (T (not b) → 4 * N ≤ mid) → Nearest N (cond b (suc q) q) k
-  root-nearest-at true u v =
+  root_nearest_at : (b : Bool) → (T b → mid < 4 * N) → (T (not b) → 4 * N ≤ mid) → Nearest N (cond b (suc q) q) k
+  root_nearest_at true u v =
       record {
-        digits = (le_trans q-lo (native.Mathlib.Nat.le-suc q), q-hi);
+        digits = (le_trans q_lo (native.Mathlib.Nat.le-suc q), q_hi);
         above = subst (λ (z : ℕ). z * 2 ^ k * (z * 2 ^ k) < 4 * N) (sym (down q)) (u tt);
         below =
-            lt_of_le_of_lt (mul-le-mul (le_refl 4) (le_of_lt floor-hi))
-            (lt_of_le_of_lt (le_of_eq (sym (four (suc q) (2 ^ k)))) (square-lt (2 * suc q) (2 * suc q + 1) (2 ^ k) (pow_pos k) (next (suc q))));
+            lt_of_le_of_lt (mul-le-mul (le_refl 4) (le_of_lt floor_hi))
+            (lt_of_le_of_lt (le_of_eq (sym (four (suc q) (2 ^ k)))) (square_lt (2 * suc q) (2 * suc q + 1) (2 ^ k) (pow_pos k) (next (suc q))));
       }
     where
       down : (q : ℕ) → 2 * suc q - 1 ≡ 2 * q + 1
@@ -154,12 +154,12 @@ module _ (n : ℕ) (r : Rep binary32 n) (p : 0 < n) where
 
       next : (q : ℕ) → 2 * q < 2 * q + 1
       next q = omega arith
-  root-nearest-at false u v =
+  root_nearest_at false u v =
       record {
-        digits = (q-lo, le_of_lt q-hi);
+        digits = (q_lo, le_of_lt q_hi);
         above =
-            lt_of_lt_of_le (square-lt (2 * q - 1) (2 * q) (2 ^ k) (pow_pos k) (prev q (le_trans (lit≤ tt) q-lo)))
-            (le_trans (le_of_eq (four q (2 ^ k))) (mul-le-mul (le_refl 4) floor-lo));
+            lt_of_lt_of_le (square_lt (2 * q - 1) (2 * q) (2 ^ k) (pow_pos k) (prev q (le_trans (lit≤ tt) q_lo)))
+            (le_trans (le_of_eq (four q (2 ^ k))) (mul-le-mul (le_refl 4) floor_lo));
         below = strict (eq-or-lt_of_le (v tt));
       }
     where
@@ -167,18 +167,18 @@ module _ (n : ℕ) (r : Rep binary32 n) (p : 0 < n) where
       prev q h = omega arith
 
       strict : (4 * N ≡ mid) ⊎ (4 * N < mid) → 4 * N < mid
-      strict (inl e) = absurd (odd-mid e)
+      strict (inl e) = absurd (odd_mid e)
       strict (inr l) = l
 
-  pub root-nearest : (x : Float) → Val binary32 x false n → (q' : ℕ) × Val binary32 (sqrt binary32 x) false (q' * 2 ^ k) × Nearest N q' k
-  unfolding rootUnits
-  root-nearest x v =
+  pub root_nearest : (x : Float) → Val binary32 x false n → (q' : ℕ) × Val binary32 (sqrt binary32 x) false (q' * 2 ^ k) × Nearest N q' k
+  unfolding root_units
+  root_nearest x v =
       let q' = cond (nat_lt mid (4 * N)) (suc q) q in
-      let t = root-nearest-at (nat_lt mid (4 * N)) (ltb→lt mid (4 * N)) (nltb→le mid (4 * N)) in
-      (q', subst (λ (z : Float). Val binary32 z false (q' * 2 ^ k)) (sym (sqrt-at binary32 x n p v)) (units_val binary32 false q' k (top q' t.digits.1)), t)
+      let t = root_nearest_at (nat_lt mid (4 * N)) (ltb→lt mid (4 * N)) (nltb→le mid (4 * N)) in
+      (q', subst (λ (z : Float). Val binary32 z false (q' * 2 ^ k)) (sym (sqrt_at binary32 x n p v)) (units_val binary32 false q' k (top q' t.digits.1)), t)
     where
       short : size w ≤ 213
-      short = size-le w 213 (root-lt w (2 ^ 213) (lt_of_le_of_lt roots.0 (lt_of_lt_of_le (mul-lt-mul_of_pos_right r.4 (pow_pos 149)) (lit≤ tt))))
+      short = size_le w 213 (root_lt w (2 ^ 213) (lt_of_le_of_lt roots.0 (lt_of_lt_of_le (mul-lt-mul_of_pos_right r.4 (pow_pos 149)) (lit≤ tt))))
 
       room : (s : ℕ) → s ≤ 213 → s - 24 ≤ 189
       room s h = omega arith

@@ -50,8 +50,8 @@ pi = lit 0x4049_0fdb
 abbrev pub tau : Float
 tau = lit 0x40c9_0fdb
 
-abbrev pub halfPi : Float
-halfPi = lit 0x3fc9_0fdb
+abbrev pub half_pi : Float
+half_pi = lit 0x3fc9_0fdb
 
-abbrev pub quarterPi : Float
-quarterPi = lit 0x3f49_0fdb
+abbrev pub quarter_pi : Float
+quarter_pi = lit 0x3f49_0fdb

@@ -39,26 +39,26 @@ module _ (f : Format) where
       back (inf s) t = t
       back (fin s m e) t = t
 
-  pub mul-parts : (x y : Float) → T (finite (mul f x y)) → T (finite x) × T (finite y)
+  pub mul_parts : (x y : Float) → T (finite (mul f x y)) → T (finite x) × T (finite y)
   unfolding mul
-  mul-parts nan y t = absurd t
-  mul-parts (inf s) nan t = absurd t
-  mul-parts (inf s) (inf u) t = absurd t
-  mul-parts (inf s) (fin u m e) t = neither (m == 0) nan (inf (unlike s u)) tt tt t
-  mul-parts (fin s m e) nan t = absurd t
-  mul-parts (fin s m e) (inf u) t = neither (m == 0) nan (inf (unlike s u)) tt tt t
-  mul-parts (fin s m e) (fin u n d) t = (tt, tt)
+  mul_parts nan y t = absurd t
+  mul_parts (inf s) nan t = absurd t
+  mul_parts (inf s) (inf u) t = absurd t
+  mul_parts (inf s) (fin u m e) t = neither (m == 0) nan (inf (unlike s u)) tt tt t
+  mul_parts (fin s m e) nan t = absurd t
+  mul_parts (fin s m e) (inf u) t = neither (m == 0) nan (inf (unlike s u)) tt tt t
+  mul_parts (fin s m e) (fin u n d) t = (tt, tt)
 
-  pub div-part : (x y : Float) → T (finite (div f x y)) → T (finite x)
+  pub div_part : (x y : Float) → T (finite (div f x y)) → T (finite x)
   unfolding div
-  div-part nan y t = t
-  div-part (inf s) nan t = t
-  div-part (inf s) (inf u) t = t
-  div-part (inf s) (fin u m e) t = t
-  div-part (fin s m e) y t = tt
+  div_part nan y t = t
+  div_part (inf s) nan t = t
+  div_part (inf s) (inf u) t = t
+  div_part (inf s) (fin u m e) t = t
+  div_part (fin s m e) y t = tt
 
-  pub sqrt-part : (x : Float) → T (finite (sqrt f x)) → T (finite x)
+  pub sqrt_part : (x : Float) → T (finite (sqrt f x)) → T (finite x)
   unfolding sqrt
-  sqrt-part nan t = t
-  sqrt-part (inf s) t = neither s nan (inf false) tt tt t
-  sqrt-part (fin s m e) t = tt
+  sqrt_part nan t = t
+  sqrt_part (inf s) t = neither s nan (inf false) tt tt t
+  sqrt_part (fin s m e) t = tt

@@ -10,26 +10,26 @@ use Rattle.std.specs.Float.Ieee.Fits.{up_pos, down_pos}
 use Rattle.std.specs.Float.Ieee.Scale.{round_same}
 use Rattle.floats.specs.UnitLaws.{Val, no_eqb}
 use Rattle.floats.specs.RankLaws.{Sized}
-use Rattle.floats.specs.NarrowOrderLaws.{G, fraction-sized}
+use Rattle.floats.specs.NarrowOrderLaws.{G, fraction_sized}
 
 -- a product commutes, in every bit
-unlike-turned : (s t : Bool) → unlike s t ≡ unlike t s
-unlike-turned true true = refl
-unlike-turned true false = refl
-unlike-turned false true = refl
-unlike-turned false false = refl
+unlike_turned : (s t : Bool) → unlike s t ≡ unlike t s
+unlike_turned true true = refl
+unlike_turned true false = refl
+unlike_turned false true = refl
+unlike_turned false false = refl
 
-pub mul-turned : (f : Format) (x y : Float) → mul f x y ≡ mul f y x
+pub mul_turned : (f : Format) (x y : Float) → mul f x y ≡ mul f y x
 unfolding mul
-mul-turned f nan nan = refl
-mul-turned f nan (inf t) = refl
-mul-turned f nan (fin t n d) = refl
-mul-turned f (inf s) nan = refl
-mul-turned f (inf s) (inf t) = ap inf (unlike-turned s t)
-mul-turned f (inf s) (fin t n d) = ap (λ (u : Bool). cond (n == 0) nan (inf u)) (unlike-turned s t)
-mul-turned f (fin s m e) nan = refl
-mul-turned f (fin s m e) (inf t) = ap (λ (u : Bool). cond (m == 0) nan (inf u)) (unlike-turned s t)
-mul-turned f (fin s m e) (fin t n d) = rw (unlike-turned s t, mul_comm (m * up e) (n * up d), mul_comm (down e) (down d))
+mul_turned f nan nan = refl
+mul_turned f nan (inf t) = refl
+mul_turned f nan (fin t n d) = refl
+mul_turned f (inf s) nan = refl
+mul_turned f (inf s) (inf t) = ap inf (unlike_turned s t)
+mul_turned f (inf s) (fin t n d) = ap (λ (u : Bool). cond (n == 0) nan (inf u)) (unlike_turned s t)
+mul_turned f (fin s m e) nan = refl
+mul_turned f (fin s m e) (inf t) = ap (λ (u : Bool). cond (m == 0) nan (inf u)) (unlike_turned s t)
+mul_turned f (fin s m e) (fin t n d) = rw (unlike_turned s t, mul_comm (m * up e) (n * up d), mul_comm (down e) (down d))
 
 pub mul_val : (f : Format) (x y : Float) (s : Bool) (a : ℕ) (t : Bool) (b : ℕ) → Val f x s a → Val f y t b →
     mul f x y ≡ round f (unlike s t) (a * b) (2 ^ low f * 2 ^ low f)
@@ -47,13 +47,13 @@ mul_val f (fin s' m e) (fin t' n d) s a t b v w =
     ∙ ap (λ (z : Bool). round f (unlike z t') (a * b) (l * l)) v.0 ∙ ap (λ (z : Bool). round f (unlike s z) (a * b) (l * l)) w.0
 
 -- the divisor is not zero
-pub div-val : (f : Format) (x y : Float) (s : Bool) (a : ℕ) (t : Bool) (b : ℕ) → 0 < b → Val f x s a → Val f y t b → div f x y ≡ round f (unlike s t) a b
+pub div_val : (f : Format) (x y : Float) (s : Bool) (a : ℕ) (t : Bool) (b : ℕ) → 0 < b → Val f x s a → Val f y t b → div f x y ≡ round f (unlike s t) a b
 unfolding div
-div-val f nan y s a t b B v w = absurd v
-div-val f (inf s') y s a t b B v w = absurd v
-div-val f (fin s' m e) nan s a t b B v w = absurd w
-div-val f (fin s' m e) (inf t') s a t b B v w = absurd w
-div-val f (fin s' m e) (fin t' n d) s a t b B v w =
+div_val f nan y s a t b B v w = absurd v
+div_val f (inf s') y s a t b B v w = absurd v
+div_val f (fin s' m e) nan s a t b B v w = absurd w
+div_val f (fin s' m e) (inf t') s a t b B v w = absurd w
+div_val f (fin s' m e) (fin t' n d) s a t b B v w =
     let l = 2 ^ low f in
     let X = m * up e in
     let Y = n * up d in
@@ -77,8 +77,8 @@ div-val f (fin s' m e) (fin t' n d) s a t b B v w =
         u ∙ ap (λ (z : ℕ). z * (b * D)) p ∙ ap (λ (z : ℕ). a * E * z) (sym q) ∙ sym r
 
 -- ---- sizes
-pub mul-size : (f : Format) (x y : Float) (s : Bool) (a : ℕ) (t : Bool) (b : ℕ) → Val f x s a → Val f y t b →
+pub mul_size : (f : Format) (x y : Float) (s : Bool) (a : ℕ) (t : Bool) (b : ℕ) → Val f x s a → Val f y t b →
     Sized f (mul f x y) (unlike s t) (G f (2 ^ low f * 2 ^ low f) (a * b))
-mul-size f x y s a t b v w =
+mul_size f x y s a t b v w =
     subst (λ (z : Float). Sized f z (unlike s t) (G f (2 ^ low f * 2 ^ low f) (a * b))) (sym (mul_val f x y s a t b v w))
-    (fraction-sized f (unlike s t) (a * b) (2 ^ low f * 2 ^ low f))
+    (fraction_sized f (unlike s t) (a * b) (2 ^ low f * 2 ^ low f))

@@ -13,38 +13,38 @@ use Rattle.std.specs.Float.Ieee.Scale.{finite}
 use Rattle.floats.specs.Ops.{nought}
 use Rattle.floats.specs.Library.{before, max, narrow}
 use Rattle.floats.specs.FiniteLaws.{zero32}
-use Rattle.floats.specs.UnitLaws.{Val, zero_val, count-val}
+use Rattle.floats.specs.UnitLaws.{Val, zero_val, count_val}
 use Rattle.floats.specs.RoundingLaws.{rep_zero, counted}
-use Rattle.floats.specs.ProductLaws.{div-val}
-use Rattle.floats.specs.SquareSumLaws.{Upright, clear-upright, round-clear}
-use Rattle.floats.specs.WithinLaws.{Within, within-finite, round-within}
+use Rattle.floats.specs.ProductLaws.{div_val}
+use Rattle.floats.specs.SquareSumLaws.{Upright, clear_upright, round_clear}
+use Rattle.floats.specs.WithinLaws.{Within, within_finite, round_within}
 
 -- ---- a fraction, rounded
-none-upright : (f : Format) (x : Float) → Within f 0 x → Upright x
-none-upright f nan w = absurd w.val
-none-upright f (inf s) w = absurd w.val
-none-upright f (fin s zero e) w = λ t. refl
-none-upright f (fin s (suc m) e) w =
+none_upright : (f : Format) (x : Float) → Within f 0 x → Upright x
+none_upright f nan w = absurd w.val
+none_upright f (inf s) w = absurd w.val
+none_upright f (fin s zero e) w = λ t. refl
+none_upright f (fin s (suc m) e) w =
     absurd (never w.count w.most (suc m * up e * 2 ^ low f) (mul-pos (mul-pos (zero-lt-suc m) (up_pos e)) (pow_pos (low f))) w.val.1)
   where
     never : (c : ℕ) → c ≤ 0 → (n : ℕ) → 0 < n → n ≢ c * down e
     never zero h n p q = lt_irrefl 0 (subst (λ (z : ℕ). 0 < z) (q ∙ zero-mul (down e)) p)
 
-round-upright : (f : Format) (s : Bool) (a c : ℕ) → 0 < c → (T s → a ≡ 0) → Upright (round f s a c)
-round-upright f false a c p h = clear-upright (round f false a c) (round-clear f a c)
-round-upright f true a c p h =
-    none-upright f (round f true a c)
-    (round-within f true a c 0 p (rep_zero f) (le_of_eq (rw (h tt) (zero-mul (2 ^ low f) ∙ sym (zero-mul c)))))
+round_upright : (f : Format) (s : Bool) (a c : ℕ) → 0 < c → (T s → a ≡ 0) → Upright (round f s a c)
+round_upright f false a c p h = clear_upright (round f false a c) (round_clear f a c)
+round_upright f true a c p h =
+    none_upright f (round f true a c)
+    (round_within f true a c 0 p (rep_zero f) (le_of_eq (rw (h tt) (zero-mul (2 ^ low f) ∙ sym (zero-mul c)))))
 
 -- ---- products
-pub mul-upright : (f : Format) (x y : Float) → T (finite x) → T (finite y) → Upright x → Upright y → Upright (mul f x y)
+pub mul_upright : (f : Format) (x y : Float) → T (finite x) → T (finite y) → Upright x → Upright y → Upright (mul f x y)
 unfolding mul
-mul-upright f nan y p q h k = absurd p
-mul-upright f (inf s) y p q h k = absurd p
-mul-upright f (fin s m e) nan p q h k = absurd q
-mul-upright f (fin s m e) (inf t) p q h k = absurd q
-mul-upright f (fin s m e) (fin t n d) p q h k =
-    round-upright f (unlike s t) (m * up e * (n * up d)) (down e * down d) (mul-pos (down_pos e) (down_pos d)) (none s t h k)
+mul_upright f nan y p q h k = absurd p
+mul_upright f (inf s) y p q h k = absurd p
+mul_upright f (fin s m e) nan p q h k = absurd q
+mul_upright f (fin s m e) (inf t) p q h k = absurd q
+mul_upright f (fin s m e) (fin t n d) p q h k =
+    round_upright f (unlike s t) (m * up e * (n * up d)) (down e * down d) (mul-pos (down_pos e) (down_pos d)) (none s t h k)
   where
     none : (s t : Bool) → (T s → m ≡ 0) → (T t → n ≡ 0) → T (unlike s t) → m * up e * (n * up d) ≡ 0
     none true t h k u = rw (h tt, zero-mul (up e)) (zero-mul (n * up d))
@@ -52,10 +52,10 @@ mul-upright f (fin s m e) (fin t n d) p q h k =
     none false false h k u = absurd u
 
 -- ---- shares: of a finite value that the format holds and a count that it holds, the quotient is finite too, since it is no larger
-upright-none : (f : Format) (x : Float) (s : Bool) (a : ℕ) → Upright x → Val f x s a → T s → a ≡ 0
-upright-none f nan s a h v t = absurd h
-upright-none f (inf u) s a h v t = absurd v
-upright-none f (fin u m e) s a h v t =
+upright_none : (f : Format) (x : Float) (s : Bool) (a : ℕ) → Upright x → Val f x s a → T s → a ≡ 0
+upright_none f nan s a h v t = absurd h
+upright_none f (inf u) s a h v t = absurd v
+upright_none f (fin u m e) s a h v t =
     eq_of_mul-eq-mul_right (down e) (down_pos e) a 0
     (sym v.1 ∙ subst (λ (k : ℕ). k * up e * 2 ^ low f ≡ 0 * down e) (sym (h (subst T (sym v.0) t))) (zero_val f u e).1)
 
@@ -63,20 +63,20 @@ pub record FiniteUpright (x : Float) : Type 0 where
   pub size : T (finite x)
   pub sign : Upright x
 
-pub share-upright : (f : Format) (x : Float) (n : ℕ) → T (fits f x) → T (finite x) → Upright x → 0 < n → n ≤ 2 ^ prec f →
+pub share_upright : (f : Format) (x : Float) (n : ℕ) → T (fits f x) → T (finite x) → Upright x → 0 < n → n ≤ 2 ^ prec f →
     FiniteUpright (div f x (of_int f (pos n)))
-share-upright f x n p q h N few =
+share_upright f x n p q h N few =
     let c = counted f x p q in
     let l = 2 ^ low f in
     let some : 0 < n * l = mul-pos N (pow_pos (low f)) in
     let s = unlike c.sign false in
-    let is = div-val f x (of_int f (pos n)) c.sign c.count false (n * l) some c.val (count-val f n few) in
+    let is = div_val f x (of_int f (pos n)) c.sign c.count false (n * l) some c.val (count_val f n few) in
     let one : l ≤ n * l = le_trans (le_of_eq (sym (one-mul l))) (mul-le-mul_right l N) in
-    let less = round-within f s c.count (n * l) c.count some c.rep (mul-le-mul_left c.count one) in
+    let less = round_within f s c.count (n * l) c.count some c.rep (mul-le-mul_left c.count one) in
     record {
-      size = subst (λ (z : Float). T (finite z)) (sym is) (within-finite less);
+      size = subst (λ (z : Float). T (finite z)) (sym is) (within_finite less);
       sign = subst Upright (sym is)
-          (round-upright f s c.count (n * l) some (λ t. upright-none f x c.sign c.count h c.val (signed c.sign t)));
+          (round_upright f s c.count (n * l) some (λ t. upright_none f x c.sign c.count h c.val (signed c.sign t)));
     }
   where
     signed : (s : Bool) → T (unlike s false) → T s
@@ -84,11 +84,11 @@ share-upright f x n p q h N few =
     signed false t = t
 
 -- ---- narrowed
-pub narrow-upright : (x : Float) → Upright x → Upright (narrow x)
+pub narrow_upright : (x : Float) → Upright x → Upright (narrow x)
 unfolding narrow
-narrow-upright nan h = absurd h
-narrow-upright (inf s) h = h
-narrow-upright (fin s m e) h = round-upright binary32 s (m * up e) (down e) (down_pos e) (λ t. rw (h t) (zero-mul (up e)))
+narrow_upright nan h = absurd h
+narrow_upright (inf s) h = h
+narrow_upright (fin s m e) h = round_upright binary32 s (m * up e) (down e) (down_pos e) (λ t. rw (h t) (zero-mul (up e)))
 
 -- ---- the greater of a value and 0
 abbrev zero0 : Float
@@ -126,12 +126,12 @@ raised (fin true (suc m) e) = go (before (fin true (suc m) e) zero0) below
     go true q = λ t. absurd t
     go false q = absurd (false≢true q)
 
-pub max-upright : (x : Float) → Upright (max x nought)
-max-upright x = subst (λ (z : Float). Upright (max x z)) (sym zero32) (raised x)
+pub max_upright : (x : Float) → Upright (max x nought)
+max_upright x = subst (λ (z : Float). Upright (max x z)) (sym zero32) (raised x)
 
-pub max-finite : (x : Float) → T (finite x) → T (finite (max x nought))
+pub max_finite : (x : Float) → T (finite x) → T (finite (max x nought))
 unfolding max
-max-finite x p = subst (λ (z : Float). T (finite (cond (is_nan x) z (cond (is_nan z) x (cond (before x z) z x))))) (sym zero32)
+max_finite x p = subst (λ (z : Float). T (finite (cond (is_nan x) z (cond (is_nan z) x (cond (before x z) z x))))) (sym zero32)
     (go (is_nan x) (is_nan zero0) (before x zero0))
   where
     go : (a b c : Bool) → T (finite (cond a zero0 (cond b x (cond c zero0 x))))

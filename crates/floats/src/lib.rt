@@ -119,14 +119,14 @@ pub fn min(x: f32, y: f32) -> f32
 }
 
 pub fn to_radians(x: f32) -> f32
-    ensures { result ≡ L.toRadians x }
+    ensures { result ≡ L.to_radians x }
 {
     x * 0.0174532924
 }
 
 // `a.total_cmp(&b)` is the order of `total_key(a)` and `total_key(b)`.
 pub fn total_key(x: f32) -> u32
-    ensures { result ≡ L.totalKey x }
+    ensures { result ≡ L.total_key x }
 {
     if x != x {
         return 0xffc00000;
@@ -142,7 +142,7 @@ pub fn total_key(x: f32) -> u32
 // before it.
 pub fn bin_of(angle: f32) -> usize
     ensures value { result ≡ L.bin angle }
-    ensures upper_bound { result < L.histBins }
+    ensures upper_bound { result < L.hist_bins }
 {
     let v = angle / PI * count_f32(HIST_BINS);
     if v > -1.0 {

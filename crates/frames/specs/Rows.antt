@@ -3,34 +3,34 @@ use Rattle.std.specs.Prelude.{◌≡◌, refl, Bool, false, cond, ℕ, ◌*◌, 
 use mathlib.Core.List.{List, [], ◌∷◌, ◌++◌, map, zip_with}
 use Rattle.std.specs.Float.{nan, inf, binary32}
 use Rattle.std.specs.Float.Ieee.{add, sub, mul, div, rem, neg, lt, le, eq, is_nan, of_bits, to_bits, of_int, to_unsigned, round, size}
-use Rattle.floats.specs.Ops.{lit, nought, one, pi, halfPi, quarterPi}
-use Rattle.floats.specs.Library.{negative, before, abs, max, min, toRadians, remEuclid, sqrt, rootUnits, wholeRoot, floor, bin}
+use Rattle.floats.specs.Ops.{lit, nought, one, pi, half_pi, quarter_pi}
+use Rattle.floats.specs.Library.{negative, before, abs, max, min, to_radians, rem_euclid, sqrt, root_units, whole_root, floor, bin}
 use Rattle.loops.specs.Loops.{iter, range, tab}
-use Rattle.elementary.specs.Elementary.{whole, sinRest, cosRest, quadrant, sinCosNear, turn, sinCos}
-use Rattle.geometry.specs.Geometry.{signedLineDelta, lineDelta, lineSeparation, validPair}
-use Rattle.solver_axes.specs.Canonical.{wrapToTau, arc, placed, axesSettled, canonicalizeTrackingSwap}
+use Rattle.elementary.specs.Elementary.{whole, sin_rest, cos_rest, quadrant, sin_cos_near, turn, sin_cos}
+use Rattle.geometry.specs.Geometry.{signed_line_delta, line_delta, line_separation, valid_pair}
+use Rattle.solver_axes.specs.Canonical.{wrap_to_tau, arc, placed, axes_settled, canonicalize_tracking_swap}
 use Rattle.solver_axes.specs.declared.Axes.{Axes}
-use Rattle.solver_elimination.specs.Solve.{Matrix, augmented, larger, pivotRow, unusable, reduced, cleared, clear}
+use Rattle.solver_elimination.specs.Solve.{Matrix, augmented, larger, pivot_row, unusable, reduced, cleared, clear}
 use Rattle.floats.specs.Rows.{Row}
-use Rattle.solver_elimination.specs.Solve.{topRow, columned, stopped, solve4x4}
-use Rattle.solver_errors.specs.StdErrors.{axisError, bothErrors, axisStdErrors}
-use Rattle.solver_errors.specs.StdErrors.{standingBy, bothStanding, standing, estimate}
+use Rattle.solver_elimination.specs.Solve.{top_row, columned, stopped, solve4x4}
+use Rattle.solver_errors.specs.StdErrors.{axis_error, both_errors, axis_std_errors}
+use Rattle.solver_errors.specs.StdErrors.{standing_by, both_standing, standing, estimate}
 use Rattle.solver_elimination.specs.declared.Solved.{Solved}
 use Rattle.solver_elimination.specs.declared.Solved.TheVariants.{Values, Failed}
 use Rattle.solver_errors.specs.declared.Estimate.{Estimate}
-use Rattle.solver_record.specs.Fit.{degenerateFit, degenerate}
-use Rattle.solver_record.specs.Record.{degenerateRecord}
-use Rattle.solver.specs.Solver.{fitWithSeed}
-use Rattle.solver.specs.Record.{recordWithSeed}
-use Rattle.seed.specs.Seed.{wavedBy, waves, harmonic, secondHarmonic}
-use Rattle.robust_grid.specs.Grid.{gridAngle}
-use Rattle.robust.specs.Robust.{total, deviations, fitIsSuspicious, start, ring}
-use Rattle.robust.specs.Record.{recordRing}
-use Rattle.checked.specs.Checked.{wildFrom, firstWild, ringLooked, checkedRing}
-use Rattle.candidates.specs.Candidates.{combineEdgePair}
-use Rattle.hex.specs.Hex.{isHex, allHex, byte_of, word_of, values_of, byteText, countText, wordText, wordsText, codes, bytes}
-use Rattle.shapes.specs.Shapes.{shape_of, typedShape, ringShape, diskShape, countedShape}
-use Rattle.frames.specs.Frames.{answer_of, ringText, refusalText, text_of}
+use Rattle.solver_record.specs.Fit.{degenerate_fit, degenerate}
+use Rattle.solver_record.specs.Record.{degenerate_record}
+use Rattle.solver.specs.Solver.{fit_with_seed}
+use Rattle.solver.specs.Record.{record_with_seed}
+use Rattle.seed.specs.Seed.{waved_by, waves, harmonic, second_harmonic}
+use Rattle.robust_grid.specs.Grid.{grid_angle}
+use Rattle.robust.specs.Robust.{total, deviations, fit_is_suspicious, start, ring}
+use Rattle.robust.specs.Record.{record_ring}
+use Rattle.checked.specs.Checked.{wild_from, first_wild, ring_looked, checked_ring}
+use Rattle.candidates.specs.Candidates.{combine_edge_pair}
+use Rattle.hex.specs.Hex.{is_hex, all_hex, byte_of, word_of, values_of, byte_text, count_text, word_text, words_text, codes, bytes}
+use Rattle.shapes.specs.Shapes.{shape_of, typed_shape, ring_shape, disk_shape, counted_shape}
+use Rattle.frames.specs.Frames.{answer_of, ring_text, refusal_text, text_of}
 
 abbrev bits : Float → ℕ
 bits = to_bits binary32
@@ -38,15 +38,15 @@ bits = to_bits binary32
 abbrev flag : Bool → ℕ
 flag b = cond b 1 0
 
-abbrev axesBits : Axes → List ℕ
-axesBits a = bits a.theta1 ∷ bits a.theta2 ∷ bits a.amp ∷ flag a.swapped ∷ []
+abbrev axes_bits : Axes → List ℕ
+axes_bits a = bits a.theta1 ∷ bits a.theta2 ∷ bits a.amp ∷ flag a.swapped ∷ []
 
-abbrev solvedBits : Solved → List ℕ
-solvedBits Failed = []
-solvedBits (Values a b c d) = bits a ∷ bits b ∷ bits c ∷ bits d ∷ []
+abbrev solved_bits : Solved → List ℕ
+solved_bits Failed = []
+solved_bits (Values a b c d) = bits a ∷ bits b ∷ bits c ∷ bits d ∷ []
 
-abbrev estimateBits : Estimate → List ℕ
-estimateBits e = bits e.errors.error1 ∷ bits e.errors.error2 ∷ flag e.standing.known ∷ []
+abbrev estimate_bits : Estimate → List ℕ
+estimate_bits e = bits e.errors.error1 ∷ bits e.errors.error2 ∷ flag e.standing.known ∷ []
 
 abbrev row : List ℕ → Row
 row = map (of_bits binary32)
@@ -64,25 +64,25 @@ abbrev two : Float
 two = lit 0x4000_0000
 
 -- the characters 01 and 256 zeros, 03 and 384
-abbrev zeroLine : List ℕ → ℕ → List ℕ
-zeroLine type n = type ++ replicate (16 * n) 48
+abbrev zero_line : List ℕ → ℕ → List ℕ
+zero_line type n = type ++ replicate (16 * n) 48
 
 -- the thirteen rows in their order; row 5 has two parts, and rows 6, 9, 10 and 11 have theirs side by side
-pub rows-to-prove : (
-    axesBits (canonicalizeTrackingSwap nought pi one)
-    ∷ axesBits (canonicalizeTrackingSwap nought halfPi (lit 0xbf80_0000))
-    ∷ axesBits (canonicalizeTrackingSwap (lit 0x7fc0_0000) halfPi one)
-    ∷ (bits (remEuclid binary32 (lit 0xb089_705f) pi) ∷ [])
-    ∷ solvedBits (solve4x4 (diagonal 0) (row (replicate 4 0x3f80_0000)))
-    ∷ solvedBits (solve4x4 (diagonal 0x1e3c_e508) (row (replicate 4 0)))
-    ∷ (estimateBits (estimate (diagonal 0x3f80_0000) one 4) ++ estimateBits (estimate (diagonal 0x3f80_0000) one 5))
-    ∷ estimateBits (estimate spoilt one 5)
-    ∷ (bits (degenerateFit nan).rms ∷ [])
+pub rows_to_prove : (
+    axes_bits (canonicalize_tracking_swap nought pi one)
+    ∷ axes_bits (canonicalize_tracking_swap nought half_pi (lit 0xbf80_0000))
+    ∷ axes_bits (canonicalize_tracking_swap (lit 0x7fc0_0000) half_pi one)
+    ∷ (bits (rem_euclid binary32 (lit 0xb089_705f) pi) ∷ [])
+    ∷ solved_bits (solve4x4 (diagonal 0) (row (replicate 4 0x3f80_0000)))
+    ∷ solved_bits (solve4x4 (diagonal 0x1e3c_e508) (row (replicate 4 0)))
+    ∷ (estimate_bits (estimate (diagonal 0x3f80_0000) one 4) ++ estimate_bits (estimate (diagonal 0x3f80_0000) one 5))
+    ∷ estimate_bits (estimate spoilt one 5)
+    ∷ (bits (degenerate_fit nan).rms ∷ [])
     ∷ (bin pi ∷ bin (lit 0xbf80_0000) ∷ bin nan ∷ bin (inf false) ∷ [])
-    ∷ (flag (validPair nought nought) ∷ flag (validPair nought halfPi) ∷ flag (validPair nought quarterPi) ∷ [])
-    ∷ (bits (combineEdgePair one one two) ∷ bits (combineEdgePair nought two two) ∷ [])
-    ∷ text_of (answer_of (zeroLine (bytes "01") 16))
-    ∷ text_of (answer_of (zeroLine (bytes "03") 24))
+    ∷ (flag (valid_pair nought nought) ∷ flag (valid_pair nought half_pi) ∷ flag (valid_pair nought quarter_pi) ∷ [])
+    ∷ (bits (combine_edge_pair one one two) ∷ bits (combine_edge_pair nought two two) ∷ [])
+    ∷ text_of (answer_of (zero_line (bytes "01") 16))
+    ∷ text_of (answer_of (zero_line (bytes "03") 24))
     ∷ []
     )
     ≡ (
@@ -102,28 +102,28 @@ pub rows-to-prove : (
     ∷ bytes "830000000000000000003fc90fdb40490fdb40490fdb0000000001000000"
     ∷ []
     )
-unfolding combineEdgePair canonicalizeTrackingSwap axesSettled placed wrapToTau arc remEuclid validPair lineSeparation lineDelta signedLineDelta abs
-    negative before max min sqrt rootUnits wholeRoot degenerateFit iter range solve4x4 augmented larger pivotRow unusable reduced cleared clear topRow
-    columned stopped axisError bothErrors axisStdErrors standingBy bothStanding standing
-    floor bin tab whole sinRest cosRest quadrant sinCosNear turn sinCos degenerate fitWithSeed recordWithSeed degenerateRecord
-    wavedBy waves harmonic secondHarmonic total deviations fitIsSuspicious recordRing wildFrom firstWild checkedRing isHex allHex
-    byte_of word_of values_of byteText countText wordText wordsText answer_of shape_of typedShape ringShape ringText to_unsigned of_bits to_bits of_int add sub
-    mul div rem neg lt le eq is_nan round size toRadians ringLooked bytes codes zip_with
+unfolding combine_edge_pair canonicalize_tracking_swap axes_settled placed wrap_to_tau arc rem_euclid valid_pair line_separation line_delta signed_line_delta abs
+    negative before max min sqrt root_units whole_root degenerate_fit iter range solve4x4 augmented larger pivot_row unusable reduced cleared clear top_row
+    columned stopped axis_error both_errors axis_std_errors standing_by both_standing standing
+    floor bin tab whole sin_rest cos_rest quadrant sin_cos_near turn sin_cos degenerate fit_with_seed record_with_seed degenerate_record
+    waved_by waves harmonic second_harmonic total deviations fit_is_suspicious record_ring wild_from first_wild checked_ring is_hex all_hex
+    byte_of word_of values_of byte_text count_text word_text words_text answer_of shape_of typed_shape ring_shape ring_text to_unsigned of_bits to_bits of_int add sub
+    mul div rem neg lt le eq is_nan round size to_radians ring_looked bytes codes zip_with
     start ring
-rows-to-prove = refl
+rows_to_prove = refl
 
 -- the two pairs of the grid that stand at 12 degrees: both are allowed
-pub grid-edges : (flag (validPair (gridAngle 0) (gridAngle 21)) ∷ flag (validPair (gridAngle 1) (gridAngle 22)) ∷ []) ≡ (1 ∷ 1 ∷ [])
-unfolding toRadians remEuclid validPair lineSeparation lineDelta signedLineDelta abs negative before max min add sub mul div rem neg lt le eq is_nan
+pub grid_edges : (flag (valid_pair (grid_angle 0) (grid_angle 21)) ∷ flag (valid_pair (grid_angle 1) (grid_angle 22)) ∷ []) ≡ (1 ∷ 1 ∷ [])
+unfolding to_radians rem_euclid valid_pair line_separation line_delta signed_line_delta abs negative before max min add sub mul div rem neg lt le eq is_nan
     of_bits of_int round size
-grid-edges = refl
+grid_edges = refl
 
 -- the line with 321 pixels of docs/RULES.md, Frame lines: 020141 and 24 zeros, answered 82020000
-pub pixels-321 : text_of (answer_of (bytes "020141" ++ replicate 24 48)) ≡ bytes "82020000"
-unfolding answer_of shape_of typedShape diskShape countedShape refusalText isHex allHex byte_of byteText countText iter bytes codes
-pixels-321 = refl
+pub pixels_321 : text_of (answer_of (bytes "020141" ++ replicate 24 48)) ≡ bytes "82020000"
+unfolding answer_of shape_of typed_shape disk_shape counted_shape refusal_text is_hex all_hex byte_of byte_text count_text iter bytes codes
+pixels_321 = refl
 
 -- an empty line, answered ff050000
-pub empty-line : text_of (answer_of []) ≡ bytes "ff050000"
-unfolding answer_of shape_of refusalText isHex allHex byteText countText iter bytes codes
-empty-line = refl
+pub empty_line : text_of (answer_of []) ≡ bytes "ff050000"
+unfolding answer_of shape_of refusal_text is_hex all_hex byte_text count_text iter bytes codes
+empty_line = refl

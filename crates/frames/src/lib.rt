@@ -1,11 +1,11 @@
 // Frame lines: a line of text in, the answer's text into a lent buffer, and the number back.
 ghost use Rattle.std.specs.Prelude.{◌≡◌, ◌+◌, ◌*◌, ◌≤◌, length};
-ghost use Rattle.data.specs.Data.{maxTanhPixels};
+ghost use Rattle.data.specs.Data.{max_tanh_pixels};
 ghost use Rattle.hex.specs.Hex.{put, Written};
-ghost use Rattle.shapes.specs.Shapes.{ringLength, samplesOf, RingType};
-ghost use Rattle.checked.specs.Checked.{checkedDisk, fitCounts, flag};
+ghost use Rattle.shapes.specs.Shapes.{ring_length, samples_of, RingType};
+ghost use Rattle.checked.specs.Checked.{checked_disk, fit_counts, flag};
 ghost use Rattle.frames.specs.Frames as F;
-ghost use Rattle.frames.specs.RunsLaws.{diskOfRuns};
+ghost use Rattle.frames.specs.RunsLaws.{disk_of_runs};
 
 use checked::{DiskAnswer, Measured, RingAnswer};
 use robust_choice::RingFit;
@@ -26,7 +26,7 @@ pub fn malformed() -> Answer
 }
 
 fn ring_answered(kind: u8, a: RingAnswer) -> Answer
-    ensures { result ≡ F.ringAnswered kind a }
+    ensures { result ≡ F.ring_answered kind a }
 {
     match a {
         RingAnswer::Fitted(r) => Answer::Ring(kind, r),
@@ -36,8 +36,8 @@ fn ring_answered(kind: u8, a: RingAnswer) -> Answer
 
 // The samples and the angles of a ring of type 01, behind the type.
 fn ring_line(line: &[u8]) -> RingAnswer
-    requires { length line.now ≡ ringLength 16 }
-    ensures { result ≡ F.ringOfLine line.now 16 }
+    requires { length line.now ≡ ring_length 16 }
+    ensures { result ≡ F.ring_of_line line.now 16 }
 {
     let mut samples = [0.0f32; 16];
     let mut angles = [0.0f32; 16];
@@ -48,8 +48,8 @@ fn ring_line(line: &[u8]) -> RingAnswer
 
 // The same of type 03.
 fn ring24_line(line: &[u8]) -> RingAnswer
-    requires { length line.now ≡ ringLength 24 }
-    ensures { result ≡ F.ringOfLine line.now 24 }
+    requires { length line.now ≡ ring_length 24 }
+    ensures { result ≡ F.ring_of_line line.now 24 }
 {
     let mut samples = [0.0f32; 24];
     let mut angles = [0.0f32; 24];
@@ -59,8 +59,8 @@ fn ring24_line(line: &[u8]) -> RingAnswer
 }
 
 fn typed_ring(line: &[u8], kind: u32) -> Answer
-    requires { RingType kind × (length line.now ≡ ringLength (samplesOf kind)) }
-    ensures { result ≡ F.ringAnswer line.now kind }
+    requires { RingType kind × (length line.now ≡ ring_length (samples_of kind)) }
+    ensures { result ≡ F.ring_answer line.now kind }
 {
     let answer = shapes::answer_type(kind) as u8;
     if kind == 3 {
@@ -70,7 +70,7 @@ fn typed_ring(line: &[u8], kind: u32) -> Answer
 }
 
 fn disk_answered(a: DiskAnswer) -> Answer
-    ensures { result ≡ F.diskAnswered a }
+    ensures { result ≡ F.disk_answered a }
 {
     match a {
         DiskAnswer::Fitted(m) => Answer::Sector(m),
@@ -80,8 +80,8 @@ fn disk_answered(a: DiskAnswer) -> Answer
 
 // The answer to a disk's values: five runs of n in one slice.
 fn runs_answered(energy: f32, base0: f32, base1: f32, vs: &[f32], n: usize) -> Answer
-    requires { (n ≤ maxTanhPixels) × (length vs.now ≡ 5 * n) }
-    ensures { result ≡ F.diskAnswered (checkedDisk (diskOfRuns energy vs.now n) base0 base1) }
+    requires { (n ≤ max_tanh_pixels) × (length vs.now ≡ 5 * n) }
+    ensures { result ≡ F.disk_answered (checked_disk (disk_of_runs energy vs.now n) base0 base1) }
 {
     let a = 0usize;
     let b = n;
@@ -103,8 +103,8 @@ fn runs_answered(energy: f32, base0: f32, base1: f32, vs: &[f32], n: usize) -> A
 
 // The values of a disk whose line has the right length, read into a lent row of 5 n places.
 fn runs_line(line: &[u8], n: usize, vs: &mut [f32]) -> Answer
-    requires { (n ≤ maxTanhPixels) × (length line.now ≡ 30 + 40 * n) × (length vs.old ≡ 5 * n) }
-    ensures { result ≡ F.diskAnswer line.now n }
+    requires { (n ≤ max_tanh_pixels) × (length line.now ≡ 30 + 40 * n) × (length vs.old ≡ 5 * n) }
+    ensures { result ≡ F.disk_answer line.now n }
 {
     let energy = hex::value_at(line, 6);
     let base0 = hex::value_at(line, 14);
@@ -115,8 +115,8 @@ fn runs_line(line: &[u8], n: usize, vs: &mut [f32]) -> Answer
 
 // The same, with the row on this call's stack.
 fn disk_line(line: &[u8], n: usize) -> Answer
-    requires { (n ≤ maxTanhPixels) × (length line.now ≡ 30 + 40 * n) }
-    ensures { result ≡ F.diskAnswer line.now n }
+    requires { (n ≤ max_tanh_pixels) × (length line.now ≡ 30 + 40 * n) }
+    ensures { result ≡ F.disk_answer line.now n }
 {
     let mut vs = [0.0f32; 5 * data::MAX_TANH_PIXELS];
     let from = 0usize;
@@ -147,7 +147,7 @@ fn as_number(b: bool) -> u32
 }
 
 fn counts_word(r: RingFit) -> u32
-    ensures { result ≡ F.countsWord (fitCounts r) }
+    ensures { result ≡ F.counts_word (fit_counts r) }
 {
     let s = r.standing;
     let starts = (r.starts % 256) as u32;
@@ -158,7 +158,7 @@ fn counts_word(r: RingFit) -> u32
 
 // The words of a ring's fit, after its first four digits.
 fn ring_words(r: RingFit) -> [u32; 7]
-    ensures { (result ≡ F.ringWords r) × (7 ≡ length result) }
+    ensures { (result ≡ F.ring_words r) × (7 ≡ length result) }
 {
     let f = r.fit;
     let a = floats::to_bits(f.amp);
@@ -173,7 +173,7 @@ fn ring_words(r: RingFit) -> [u32; 7]
 
 fn write_ring(kind: u8, r: RingFit, out: &mut [u8], at: usize) -> u32
     requires { at + 98 ≤ length out.old }
-    ensures { (result ≡ 0) × (out.new ≡ put out.old at (F.ringText kind r)) }
+    ensures { (result ≡ 0) × (out.new ≡ put out.old at (F.ring_text kind r)) }
 {
     let ws = ring_words(r);
     hex::put_count(out, at, kind as u32 * 256);
@@ -183,7 +183,7 @@ fn write_ring(kind: u8, r: RingFit, out: &mut [u8], at: usize) -> u32
 
 // The words of a disk's fit, after its first four digits.
 fn disk_words(m: Measured) -> [u32; 11]
-    ensures { (result ≡ F.diskWords m) × (11 ≡ length result) }
+    ensures { (result ≡ F.disk_words m) × (11 ≡ length result) }
 {
     let f = m.fit;
     let estimate = m.estimate;
@@ -204,7 +204,7 @@ fn disk_words(m: Measured) -> [u32; 11]
 
 fn write_disk(m: Measured, out: &mut [u8], at: usize) -> u32
     requires { at + 98 ≤ length out.old }
-    ensures { (result ≡ 0) × (out.new ≡ put out.old at (F.diskText m)) }
+    ensures { (result ≡ 0) × (out.new ≡ put out.old at (F.disk_text m)) }
 {
     let ws = disk_words(m);
     let trials = (m.trials % 65536) as u32;
@@ -220,7 +220,7 @@ fn write_disk(m: Measured, out: &mut [u8], at: usize) -> u32
 
 fn write_refusal(kind: u8, number: u8, place: u16, out: &mut [u8], at: usize) -> u32
     requires { at + 98 ≤ length out.old }
-    ensures { (result ≡ number) × (out.new ≡ put out.old at (F.refusalText kind number place)) }
+    ensures { (result ≡ number) × (out.new ≡ put out.old at (F.refusal_text kind number place)) }
 {
     hex::put_byte(out, at, kind as u32);
     hex::put_byte(out, at + 2, number as u32);
@@ -241,7 +241,7 @@ pub fn write_answer(a: Answer, out: &mut [u8], at: usize) -> u32
 
 // The line call. A buffer under 98 bytes keeps every byte.
 pub fn answer_line(line: &[u8], out: &mut [u8]) -> u32
-    ensures { ◌≡◌ {A = F.Reply} (record { number = result; buffer = out.new }) (F.replyOf line.now out.old) }
+    ensures { ◌≡◌ {A = F.Reply} (record { number = result; buffer = out.new }) (F.reply_of line.now out.old) }
 {
     if out.len() < 98 {
         return 1;
@@ -250,7 +250,7 @@ pub fn answer_line(line: &[u8], out: &mut [u8]) -> u32
 }
 
 fn kept_answer(skip: bool, line: &[u8]) -> Answer
-    ensures { result ≡ F.keptAnswer skip line.now }
+    ensures { result ≡ F.kept_answer skip line.now }
 {
     if skip {
         return malformed();
@@ -271,7 +271,7 @@ fn text_len(a: Answer) -> usize
 // The answer to a line and a line feed, at a place of the output; the place after them.
 pub fn append(skip: bool, line: &[u8], out: &mut [u8], at: usize) -> usize
     requires { at + 99 ≤ length out.old }
-    ensures { (result ≤ at + 99) × Written out.old at (F.lineText skip line.now) out.new result }
+    ensures { (result ≤ at + 99) × Written out.old at (F.line_text skip line.now) out.new result }
 {
     let a = kept_answer(skip, line);
     let n = text_len(a);

@@ -1,8 +1,8 @@
 // The test instrument's half of the disk: libfunclines_disk.a, one export for each function that a
 // function line 70 to 95 calls; crates/funclines has the other half, and says what both are for.
 ghost use Rattle.std.specs.Prelude.{◌≡◌, ◌≤◌, length};
-ghost use Rattle.data.specs.Data.{DiskSized, maxTanhPixels};
-ghost use Rattle.candidates.specs.Candidates.{maxCandidates, maxPaired, maxPairs};
+ghost use Rattle.data.specs.Data.{DiskSized, max_tanh_pixels};
+ghost use Rattle.candidates.specs.Candidates.{max_candidates, max_paired, max_pairs};
 ghost use Rattle.search_rows.specs.Rows.{Outlined};
 
 use candidates::{CandidateSet, Closest, Forced, PairScore, Pool};
@@ -226,7 +226,7 @@ fn ranked_of(top: Ranked) -> Pairs {
 
 #[unsafe(no_mangle)]
 pub extern "C" fn fl_push_unique(set: Set, angle: f32, min_sep: f32) -> Set
-    requires { set.n ≤ maxCandidates }
+    requires { set.n ≤ max_candidates }
 {
     let s = candidates_of(set);
     set_of(s.push_unique(angle, min_sep))
@@ -246,7 +246,7 @@ pub extern "C" fn fl_histogram_candidates(
 
 #[unsafe(no_mangle)]
 pub extern "C" fn fl_forced_seed_pair(set: Set, base0: f32, base1: f32) -> Pair
-    requires { set.n ≤ maxCandidates }
+    requires { set.n ≤ max_candidates }
 {
     pair_of(candidates::forced_seed_pair(candidates_of(set), base0, base1))
 }
@@ -260,7 +260,7 @@ pub extern "C" fn fl_forced_histogram_pair(set: Set, edges: &[f32]) -> Pair
 
 #[unsafe(no_mangle)]
 pub extern "C" fn fl_closest_candidate(set: Set, target: f32) -> Index
-    requires { set.n ≤ maxCandidates }
+    requires { set.n ≤ max_candidates }
 {
     match candidates::closest_candidate(candidates_of(set), target) {
         Closest::At(i) => Index { some: true, i },
@@ -281,7 +281,7 @@ pub extern "C" fn fl_build_pair_pool(
     seed: Pair,
     histogram: Pair,
 ) -> Pairs
-    requires n_le_max_paired { set.n ≤ maxPaired }
+    requires n_le_max_paired { set.n ≤ max_paired }
     requires n_in_bounds { set.n ≤ length edges.now }
 {
     pairs_of(candidates::build_pair_pool(
@@ -313,7 +313,7 @@ pub extern "C" fn fl_score_pair_cached(
 ) -> Fit9
     requires h0_len { length h0.now ≡ length vals_centered.now }
     requires h1_len { length h1.now ≡ length vals_centered.now }
-    requires vals_centered_len_bound { length vals_centered.now ≤ maxTanhPixels }
+    requires vals_centered_len_bound { length vals_centered.now ≤ max_tanh_pixels }
 {
     optional_of(score::score_pair_cached(
         val_energy,
@@ -334,8 +334,8 @@ pub extern "C" fn fl_precompute_edge_alignments(
     set: Set,
 ) -> Sums
     requires grad_weights_len { length grad_weights.now ≡ length grad_angles.now }
-    requires grad_angles_len_bound { length grad_angles.now ≤ maxTanhPixels }
-    requires n_le_max_candidates { set.n ≤ maxCandidates }
+    requires grad_angles_len_bound { length grad_angles.now ≤ max_tanh_pixels }
+    requires n_le_max_candidates { set.n ≤ max_candidates }
 {
     let mut terms = [0.0f32; data::MAX_TANH_PIXELS];
     let mut sums = [0.0f32; candidates::MAX_CANDIDATES];
@@ -365,7 +365,7 @@ pub extern "C" fn fl_fit_std_errors(
 ) -> Two
     requires ys_len { length ys.now ≡ length xs.now }
     requires vals_centered_len { length vals_centered.now ≡ length xs.now }
-    requires xs_len_bound { length xs.now ≤ maxTanhPixels }
+    requires xs_len_bound { length xs.now ≤ max_tanh_pixels }
 {
     let e = score::fit_std_errors(xs, ys, vals_centered, fit_of(*fit));
     let errors = e.errors;
@@ -413,7 +413,7 @@ pub extern "C" fn fl_best_disk_fit(
 
 #[unsafe(no_mangle)]
 pub extern "C" fn fl_rank(pool: Pairs) -> Pairs
-    requires { pool.n ≤ maxPairs }
+    requires { pool.n ≤ max_pairs }
 {
     ranked_of(search_ranking::rank(pool_of(pool)))
 }

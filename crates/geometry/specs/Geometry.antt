@@ -3,46 +3,46 @@ use Rattle.std.specs.Prelude.{◌≡◌, Bool, not, ◌&&◌, T, Float}
 use Rattle.std.specs.Float.{nan, binary32}
 use Rattle.std.specs.Float.Ieee.{le}
 use Rattle.std.specs.Float.Ieee.Scale.{finite}
-use Rattle.floats.specs.Ops.{◌⊕◌, ◌⊖◌, lit, pi, halfPi}
-use Rattle.floats.specs.Library.{abs, max, min, remEuclid, toRadians}
+use Rattle.floats.specs.Ops.{◌⊕◌, ◌⊖◌, lit, pi, half_pi}
+use Rattle.floats.specs.Library.{abs, max, min, rem_euclid, to_radians}
 
 -- geometry.rs: wrap_pi
-unfoldable pub wrapPi : Float → Float
-wrapPi a = remEuclid binary32 a pi
+unfoldable pub wrap_pi : Float → Float
+wrap_pi a = rem_euclid binary32 a pi
 
 -- geometry.rs: signed_line_delta. PI * 0.5 is exact.
-unfoldable pub signedLineDelta : Float → Float → Float
-signedLineDelta a b = remEuclid binary32 (a ⊖ b ⊕ halfPi) pi ⊖ halfPi
+unfoldable pub signed_line_delta : Float → Float → Float
+signed_line_delta a b = rem_euclid binary32 (a ⊖ b ⊕ half_pi) pi ⊖ half_pi
 
 -- geometry.rs: line_delta
-unfoldable pub lineDelta : Float → Float → Float
-unfolding signedLineDelta
-lineDelta a b = abs (signedLineDelta a b)
+unfoldable pub line_delta : Float → Float → Float
+unfolding signed_line_delta
+line_delta a b = abs (signed_line_delta a b)
 
 -- geometry.rs and seed.rs: line_separation
-unfoldable pub lineSeparation : Float → Float → Float
-unfolding lineDelta
-lineSeparation a0 a1 = lineDelta a0 a1
+unfoldable pub line_separation : Float → Float → Float
+unfolding line_delta
+line_separation a0 a1 = line_delta a0 a1
 
 -- geometry.rs: pair_disagreement
-unfoldable pub pairDisagreement : Float → Float → Float → Float → Float
-unfolding lineDelta
-pairDisagreement a0 a1 b0 b1 =
-    let direct = max (lineDelta a0 b0) (lineDelta a1 b1) in
-    let swapped = max (lineDelta a0 b1) (lineDelta a1 b0) in
+unfoldable pub pair_disagreement : Float → Float → Float → Float → Float
+unfolding line_delta
+pair_disagreement a0 a1 b0 b1 =
+    let direct = max (line_delta a0 b0) (line_delta a1 b1) in
+    let swapped = max (line_delta a0 b1) (line_delta a1 b0) in
     min direct swapped
 
 -- 12 and 89.5 degrees
-abbrev pub minSeparation : Float
-minSeparation = toRadians (lit 0x4140_0000)
+abbrev pub min_separation : Float
+min_separation = to_radians (lit 0x4140_0000)
 
-abbrev pub maxSeparation : Float
-maxSeparation = toRadians (lit 0x42b3_0000)
+abbrev pub max_separation : Float
+max_separation = to_radians (lit 0x42b3_0000)
 
 -- geometry.rs: valid_pair; seed.rs: valid_seed_pair
-unfoldable pub validPair : Float → Float → Bool
-unfolding lineSeparation
-validPair a0 a1 = let sep = lineSeparation a0 a1 in le minSeparation sep && le sep maxSeparation
+unfoldable pub valid_pair : Float → Float → Bool
+unfolding line_separation
+valid_pair a0 a1 = let sep = line_separation a0 a1 in le min_separation sep && le sep max_separation
 
 -- What the contracts say of ranges, beside their equations: r, made of x, lies from low to high, both included, where x is a number that is finite,
 -- and is NaN where x is NaN or an infinity.

@@ -6,26 +6,26 @@ use Rattle.std.specs.Float.{binary32}
 use Rattle.std.specs.Float.Ieee.{of_bits}
 use Rattle.loops.specs.Loops.{iter, tab}
 
-unfoldable pub isHex : ℕ → Bool
-isHex b = cond (ltb b 48) false (cond (ltb b 58) true (cond (ltb b 97) false (ltb b 103)))
+unfoldable pub is_hex : ℕ → Bool
+is_hex b = cond (ltb b 48) false (cond (ltb b 58) true (cond (ltb b 97) false (ltb b 103)))
 
 -- each of the first n characters is a digit
-unfoldable pub allHex : List ℕ → ℕ → Bool
-allHex l n = iter (λ i ok. ok && isHex (get_or l i 0)) true n
+unfoldable pub all_hex : List ℕ → ℕ → Bool
+all_hex l n = iter (λ i ok. ok && is_hex (get_or l i 0)) true n
 
 -- the value of a digit; of another character some number below 16
-abbrev pub digitOf : ℕ → ℕ
-digitOf b = (b % 16 + 9 * (b / 64)) % 16
+abbrev pub digit_of : ℕ → ℕ
+digit_of b = (b % 16 + 9 * (b / 64)) % 16
 
 unfoldable pub byte_of : List ℕ → ℕ → ℕ
-byte_of l at = digitOf (get_or l at 0) * 16 + digitOf (get_or l (at + 1) 0)
+byte_of l at = digit_of (get_or l at 0) * 16 + digit_of (get_or l (at + 1) 0)
 
 unfoldable pub word_of : List ℕ → ℕ → ℕ
 word_of l at = byte_of l at * 16777216 + byte_of l (at + 2) * 65536 + byte_of l (at + 4) * 256 + byte_of l (at + 6)
 
 -- the words from a place on
-unfoldable pub wordListOf : List ℕ → ℕ → ℕ → List ℕ
-wordListOf l at n = tab (λ k. word_of l (at + 8 * k)) n
+unfoldable pub word_list_of : List ℕ → ℕ → ℕ → List ℕ
+word_list_of l at n = tab (λ k. word_of l (at + 8 * k)) n
 
 -- the value whose bits a word is, and those from a place on
 abbrev pub value_of : List ℕ → ℕ → Float
@@ -35,21 +35,21 @@ unfoldable pub values_of : List ℕ → ℕ → ℕ → List Float
 values_of l at n = tab (λ k. value_of l (at + 8 * k)) n
 
 -- the character of a digit, and the text of a byte, of four digits, of a word and of words
-abbrev pub hexOf : ℕ → ℕ
-hexOf n = cond (ltb n 10) (n + 48) (n + 87)
+abbrev pub hex_of : ℕ → ℕ
+hex_of n = cond (ltb n 10) (n + 48) (n + 87)
 
-unfoldable pub byteText : ℕ → List ℕ
-byteText b = hexOf (b / 16) ∷ hexOf (b % 16) ∷ []
+unfoldable pub byte_text : ℕ → List ℕ
+byte_text b = hex_of (b / 16) ∷ hex_of (b % 16) ∷ []
 
-unfoldable pub countText : ℕ → List ℕ
-countText n = byteText (n / 256) ++ byteText (n % 256)
+unfoldable pub count_text : ℕ → List ℕ
+count_text n = byte_text (n / 256) ++ byte_text (n % 256)
 
-unfoldable pub wordText : ℕ → List ℕ
-wordText w = countText (w / 65536) ++ countText (w % 65536)
+unfoldable pub word_text : ℕ → List ℕ
+word_text w = count_text (w / 65536) ++ count_text (w % 65536)
 
-unfoldable pub wordsText : List ℕ → ℕ → List ℕ
-wordsText ws zero = []
-wordsText ws (suc n) = wordsText ws n ++ wordText (get_or ws n 0)
+unfoldable pub words_text : List ℕ → ℕ → List ℕ
+words_text ws zero = []
+words_text ws (suc n) = words_text ws n ++ word_text (get_or ws n 0)
 
 -- xs written over l at the place `at`
 unfoldable pub put : List ℕ → ℕ → List ℕ → List ℕ

@@ -7,16 +7,16 @@ use Prim.Native.Nat.{ℕ, zero, suc, ◌+◌, ◌*◌, ◌≤◌, ◌<◌}
 use native.Mathlib.Omega.{arith}
 use Rattle.std.proofs.Math.ListN.{length, take, drop, length-append, length-take}
 use Rattle.std.proofs.Math.Seq.{set_split, take_at, drop-drop}
-use Rattle.hex.specs.Hex.{byteText, countText, wordText, wordsText, put, Written}
+use Rattle.hex.specs.Hex.{byte_text, count_text, word_text, words_text, put, Written}
 
 module _ (l : List ℕ) (at : ℕ) where
-  pub put-length : (xs : List ℕ) → at + length xs ≤ length l → length (put l at xs) ≡ length l
+  pub put_length : (xs : List ℕ) → at + length xs ≤ length l → length (put l at xs) ≡ length l
   unfolding put
-  put-length xs h = simp (length-append, length-take, length-drop) (omega arith)
+  put_length xs h = simp (length-append, length-take, length-drop) (omega arith)
 
-  pub put-put : (xs ys : List ℕ) (k : ℕ) → k ≡ at + length xs → k + length ys ≤ length l → put (put l at xs) k ys ≡ put l at (xs ++ ys)
+  pub put_put : (xs ys : List ℕ) (k : ℕ) → k ≡ at + length xs → k + length ys ≤ length l → put (put l at xs) k ys ≡ put l at (xs ++ ys)
   unfolding put
-  put-put xs ys k e h =
+  put_put xs ys k e h =
       let r = drop (at + length xs) l in
       let n : length (take at l ++ xs) ≡ k = simp (length-append, length-take) (omega arith) in
       let s : take at l ++ (xs ++ r) ≡ (take at l ++ xs) ++ r = sym (append_assoc (take at l) xs r) in
@@ -28,22 +28,22 @@ module _ (l : List ℕ) (at : ℕ) where
       rw (s, take_at (take at l ++ xs) r k n, d, z, append_assoc (take at l) xs (ys ++ e), append_assoc xs ys e)
 
   -- nothing written; what is written at 0
-  pub put-none : at ≤ length l → put l at [] ≡ l
+  pub put_none : at ≤ length l → put l at [] ≡ l
   unfolding put
-  put-none h = let z : at + length {A = ℕ} [] ≡ at = omega arith in rw z (take-append-drop at l)
+  put_none h = let z : at + length {A = ℕ} [] ≡ at = omega arith in rw z (take-append-drop at l)
 
   pub put_one : (x : ℕ) → at < length l → set l at x ≡ put l at (x ∷ [])
   unfolding put
   put_one x h = let z : at + length (x ∷ []) ≡ suc at = omega arith in rw (z, set_split l at x h)
 
-pub put-zero : (l xs : List ℕ) → put l 0 xs ≡ xs ++ drop (length xs) l
+pub put_zero : (l xs : List ℕ) → put l 0 xs ≡ xs ++ drop (length xs) l
 unfolding put
-put-zero l xs = let z : 0 + length xs ≡ length xs = omega arith in rw z
+put_zero l xs = let z : 0 + length xs ≡ length xs = omega arith in rw z
 
 -- ---- what is written side by side is written as one
 module _ {l : List ℕ} {at : ℕ} where
   pub written_none : at ≤ length l → Written l at [] l at
-  written_none h = record { text = sym (put-none l at h); place = omega arith }
+  written_none h = record { text = sym (put_none l at h); place = omega arith }
 
   pub written_one : (c : ℕ) → at < length l → Written l at (c ∷ []) (set l at c) (at + 1)
   written_one c h = record { text = put_one l at c h; place = omega arith }
@@ -53,22 +53,22 @@ module _ {l : List ℕ} {at : ℕ} where
 
   pub written_then : {a b m n : List ℕ} {p r : ℕ} → Written l at a m p → Written m p b n r → r ≤ length l → Written l at (a ++ b) n r
   written_then {a} {b} {m} {n} {p} {r} s t h =
-      let e : put (put l at a) p b ≡ put l at (a ++ b) = put-put l at a b p s.place (omega (arith, t.place)) in
+      let e : put (put l at a) p b ≡ put l at (a ++ b) = put_put l at a b p s.place (omega (arith, t.place)) in
       record { text = t.text ∙ ap (λ (k : List ℕ). put k p b) s.text ∙ e; place = simp length-append (omega (arith, s.place, t.place)) }
 
-pub word-length : (w : ℕ) → length (wordText w) ≡ 8
-unfolding wordText countText byteText
-word-length w = refl
+pub word_length : (w : ℕ) → length (word_text w) ≡ 8
+unfolding word_text count_text byte_text
+word_length w = refl
 
-pub words-length : (ws : List ℕ) (n : ℕ) → length (wordsText ws n) ≡ 8 * n
-unfolding wordsText wordText countText byteText
-words-length ws zero = refl
-words-length ws (suc n) = let h = words-length ws n in simp length-append (omega arith)
+pub words_length : (ws : List ℕ) (n : ℕ) → length (words_text ws n) ≡ 8 * n
+unfolding words_text word_text count_text byte_text
+words_length ws zero = refl
+words_length ws (suc n) = let h = words_length ws n in simp length-append (omega arith)
 
-pub words-none : (ws : List ℕ) → wordsText ws 0 ≡ []
-unfolding wordsText
-words-none ws = refl
+pub words_none : (ws : List ℕ) → words_text ws 0 ≡ []
+unfolding words_text
+words_none ws = refl
 
-pub words-next : (ws : List ℕ) (n : ℕ) → wordsText ws (n + 1) ≡ wordsText ws n ++ wordText (get_or ws n 0)
-unfolding wordsText
-words-next ws n = rw add-one
+pub words_next : (ws : List ℕ) (n : ℕ) → words_text ws (n + 1) ≡ words_text ws n ++ word_text (get_or ws n 0)
+unfolding words_text
+words_next ws n = rw add-one

@@ -1,10 +1,10 @@
 // Hexadecimal digits, words and values: reading them from a slice, and writing them into a lent one.
 ghost use Rattle.std.specs.Prelude.{◌≡◌, ◌+◌, ◌*◌, ◌<◌, ◌≤◌, length};
-ghost use Rattle.hex.specs.Hex.{isHex, allHex, digitOf, byte_of, word_of, wordListOf, value_of, values_of};
-ghost use Rattle.hex.specs.Hex.{hexOf, byteText, countText, wordText, wordsText, put};
+ghost use Rattle.hex.specs.Hex.{is_hex, all_hex, digit_of, byte_of, word_of, word_list_of, value_of, values_of};
+ghost use Rattle.hex.specs.Hex.{hex_of, byte_text, count_text, word_text, words_text, put};
 
 pub fn is_hex(b: u8) -> bool
-    ensures { result ≡ isHex b }
+    ensures { result ≡ is_hex b }
 {
     if b < 48 {
         return false;
@@ -20,7 +20,7 @@ pub fn is_hex(b: u8) -> bool
 
 // Whether every character of a line is a digit.
 pub fn all_hex(s: &[u8]) -> bool
-    ensures { result ≡ allHex s.now (length s.now) }
+    ensures { result ≡ all_hex s.now (length s.now) }
 {
     let n = s.len();
     let mut ok = true;
@@ -32,7 +32,7 @@ pub fn all_hex(s: &[u8]) -> bool
 
 // No table: a const array is built anew on the stack at each use.
 fn digit(b: u8) -> u32
-    ensures { (result < 16) × (result ≡ digitOf b) }
+    ensures { (result < 16) × (result ≡ digit_of b) }
 {
     let x = b as u32;
     (x % 16 + 9 * (x / 64)) % 16
@@ -68,7 +68,7 @@ pub fn value_at(s: &[u8], at: usize) -> f32
 // The words from `at` on, as many as the buffer holds.
 pub fn words(s: &[u8], at: usize, out: &mut [u32])
     requires { (length out.old < 4096) × (at + 8 * length out.old ≤ length s.now) }
-    ensures { out.new ≡ wordListOf s.now at (length out.old) }
+    ensures { out.new ≡ word_list_of s.now at (length out.old) }
 {
     let n = out.len();
     for k in 0..n {
@@ -92,7 +92,7 @@ pub fn values(s: &[u8], at: usize, out: &mut [f32])
 // The character of a digit.
 fn hex(n: u32) -> u8
     requires { n < 16 }
-    ensures { result ≡ hexOf n }
+    ensures { result ≡ hex_of n }
 {
     if n < 10 {
         return (n + 48) as u8;
@@ -100,10 +100,10 @@ fn hex(n: u32) -> u8
     (n + 87) as u8
 }
 
-// Each writer puts its text over the buffer at a place: `put`. Two writes next to each other are one (`put-put`).
+// Each writer puts its text over the buffer at a place: `put`. Two writes next to each other are one (`put_put`).
 pub fn put_byte(out: &mut [u8], at: usize, b: u32)
     requires { (b < 256) × (at + 2 ≤ length out.old) }
-    ensures { out.new ≡ put out.old at (byteText b) }
+    ensures { out.new ≡ put out.old at (byte_text b) }
 {
     let h = hex(b / 16);
     let l = hex(b % 16);
@@ -113,7 +113,7 @@ pub fn put_byte(out: &mut [u8], at: usize, b: u32)
 
 pub fn put_count(out: &mut [u8], at: usize, n: u32)
     requires { (n < 65536) × (at + 4 ≤ length out.old) }
-    ensures { out.new ≡ put out.old at (countText n) }
+    ensures { out.new ≡ put out.old at (count_text n) }
 {
     put_byte(out, at, n / 256);
     put_byte(out, at + 2, n % 256);
@@ -121,7 +121,7 @@ pub fn put_count(out: &mut [u8], at: usize, n: u32)
 
 pub fn put_word(out: &mut [u8], at: usize, w: u32)
     requires { at + 8 ≤ length out.old }
-    ensures { out.new ≡ put out.old at (wordText w) }
+    ensures { out.new ≡ put out.old at (word_text w) }
 {
     put_count(out, at, w / 65536);
     put_count(out, at + 4, w % 65536);
@@ -130,7 +130,7 @@ pub fn put_word(out: &mut [u8], at: usize, w: u32)
 // All words of ws, one after the other.
 pub fn put_words(out: &mut [u8], at: usize, ws: &[u32])
     requires { (length ws.now < 4096) × (at + 8 * length ws.now ≤ length out.old) }
-    ensures { out.new ≡ put out.old at (wordsText ws.now (length ws.now)) }
+    ensures { out.new ≡ put out.old at (words_text ws.now (length ws.now)) }
 {
     let n = ws.len();
     for k in 0..n {

@@ -6,81 +6,81 @@ use Rattle.std.proofs.Math.Bool.{true, false}
 use Rattle.std.proofs.Common.{arith}
 use borrow.Author.Tests.{le-ltb, ne_eqb}
 use Rattle.data.specs.Data.{DiskData}
-use Rattle.checked.specs.Checked.{checkedRing, checkedDisk, ringNumber, ringPlace, ringValues, ringRecord, ringCounts, diskNumber}
-use Rattle.checked.specs.Checked.{diskPlace, diskValues, diskCounts, flag, fitCounts}
+use Rattle.checked.specs.Checked.{checked_ring, checked_disk, ring_number, ring_place, ring_values, ring_record, ring_counts, disk_number}
+use Rattle.checked.specs.Checked.{disk_place, disk_values, disk_counts, flag, fit_counts}
 use Rattle.seed_models.specs.Models.{Table}
 use Rattle.seed_models.specs.HeldLaws.{TablesHeld}
-use Rattle.robust.specs.Record.{recordRing}
-use Rattle.score.specs.Score.{fitStanding}
-use Rattle.checked.specs.Promises.{answered-is-the-fit, answered-values, ring-bill, disk-answered-is-the-fit, disk-answered-values, disk-trials}
+use Rattle.robust.specs.Record.{record_ring}
+use Rattle.score.specs.Score.{fit_standing}
+use Rattle.checked.specs.Promises.{answered_is_the_fit, answered_values, ring_bill, disk_answered_is_the_fit, disk_answered_values, disk_trials}
 use Rattle.checked.specs.declared.DiskAnswer.{DiskAnswer}
 use Rattle.checked.specs.declared.DiskAnswer.TheVariants as Disks
 use Rattle.checked.specs.declared.RingAnswer.{RingAnswer}
 use Rattle.checked.specs.declared.RingAnswer.TheVariants.{Fitted, Refused}
-use Rattle.jengubool.specs.Calls.{Form, theSix, theRecord, ringSize, Stored, putFrom, wide, ringStored, ringCall, diskStored, diskCall}
+use Rattle.jengubool.specs.Calls.{Form, the_six, the_record, ring_size, Stored, put_from, wide, ring_stored, ring_call, disk_stored, disk_call}
 
 module _ (fit : List Float) (counts : List ℕ) where
   -- the code c, and every float and every count as it was
   abbrev refusal : ℕ → Stored
   refusal c = record { code = c; fit = fit; counts = counts }
 
-  stored-keeps : (w : Form) (a : RingAnswer) → ((ringStored w a fit counts).code ≡ 0 → ⊥)
-      → ringStored w a fit counts ≡ refusal (ringStored w a fit counts).code
-  unfolding ringStored
-  stored-keeps w (Fitted r) h = absurd (h refl)
-  stored-keeps w (Refused number place) h = refl
+  stored_keeps : (w : Form) (a : RingAnswer) → ((ring_stored w a fit counts).code ≡ 0 → ⊥)
+      → ring_stored w a fit counts ≡ refusal (ring_stored w a fit counts).code
+  unfolding ring_stored
+  stored_keeps w (Fitted r) h = absurd (h refl)
+  stored_keeps w (Refused number place) h = refl
 
-  short-keeps : (a b : Bool) (r : Stored) → ((r.code ≡ 0 → ⊥) → r ≡ refusal r.code) →
+  short_keeps : (a b : Bool) (r : Stored) → ((r.code ≡ 0 → ⊥) → r ≡ refusal r.code) →
       let s = cond a (refusal 65536) (cond b (refusal 65536) r) in (s.code ≡ 0 → ⊥) → s ≡ refusal s.code
-  short-keeps true b r f h = refl
-  short-keeps false true r f h = refl
-  short-keeps false false r f h = f h
+  short_keeps true b r f h = refl
+  short_keeps false true r f h = refl
+  short_keeps false false r f h = f h
 
   -- a call that returns anything but 0 leaves every byte of the fit and of the counts
-  pub refused-keeps : (w : Form) (tables : List Table) (n : ℕ) (samples angles : List Float) →
-      let s = ringCall w tables n samples angles fit counts in (s.code ≡ 0 → ⊥) → s ≡ refusal s.code
-  unfolding ringCall
-  refused-keeps w tables n samples angles =
-      short-keeps (ltb (length fit) w.room) (ltb (length counts) 4) _ (stored-keeps w (checkedRing tables n samples angles))
+  pub refused_keeps : (w : Form) (tables : List Table) (n : ℕ) (samples angles : List Float) →
+      let s = ring_call w tables n samples angles fit counts in (s.code ≡ 0 → ⊥) → s ≡ refusal s.code
+  unfolding ring_call
+  refused_keeps w tables n samples angles =
+      short_keeps (ltb (length fit) w.room) (ltb (length counts) 4) _ (stored_keeps w (checked_ring tables n samples angles))
 
-  disk-stored-keeps : (a : DiskAnswer) → ((diskStored a fit counts).code ≡ 0 → ⊥) → diskStored a fit counts ≡ refusal (diskStored a fit counts).code
-  unfolding diskStored
-  disk-stored-keeps (Disks.Fitted m) h = absurd (h refl)
-  disk-stored-keeps (Disks.Refused number place) h = refl
+  disk_stored_keeps : (a : DiskAnswer) → ((disk_stored a fit counts).code ≡ 0 → ⊥) → disk_stored a fit counts ≡ refusal (disk_stored a fit counts).code
+  unfolding disk_stored
+  disk_stored_keeps (Disks.Fitted m) h = absurd (h refl)
+  disk_stored_keeps (Disks.Refused number place) h = refl
 
   -- the same of the disk's call
-  pub disk-refused-keeps : (D : DiskData) (base0 base1 : Float) → let s = diskCall D base0 base1 fit counts in (s.code ≡ 0 → ⊥) → s ≡ refusal s.code
-  unfolding diskCall
-  disk-refused-keeps D base0 base1 = short-keeps (ltb (length fit) 11) (ltb (length counts) 2) _ (disk-stored-keeps (checkedDisk D base0 base1))
+  pub disk_refused_keeps : (D : DiskData) (base0 base1 : Float) → let s = disk_call D base0 base1 fit counts in (s.code ≡ 0 → ⊥) → s ≡ refusal s.code
+  unfolding disk_call
+  disk_refused_keeps D base0 base1 = short_keeps (ltb (length fit) 11) (ltb (length counts) 2) _ (disk_stored_keeps (checked_disk D base0 base1))
 
   -- ---- what is returned, and what is written with 0
-  ring-stored-code : (w : Form) (a : RingAnswer) → (ringStored w a fit counts).code ≡ ringNumber a * 65536 + ringPlace a
-  unfolding ringStored ringNumber ringPlace
-  ring-stored-code w (Fitted r) = refl
-  ring-stored-code w (Refused number place) = refl
+  ring_stored_code : (w : Form) (a : RingAnswer) → (ring_stored w a fit counts).code ≡ ring_number a * 65536 + ring_place a
+  unfolding ring_stored ring_number ring_place
+  ring_stored_code w (Fitted r) = refl
+  ring_stored_code w (Refused number place) = refl
 
-  disk-stored-code : (a : DiskAnswer) → (diskStored a fit counts).code ≡ diskNumber a * 65536 + diskPlace a
-  unfolding diskStored diskNumber diskPlace
-  disk-stored-code (Disks.Fitted m) = refl
-  disk-stored-code (Disks.Refused number place) = refl
+  disk_stored_code : (a : DiskAnswer) → (disk_stored a fit counts).code ≡ disk_number a * 65536 + disk_place a
+  unfolding disk_stored disk_number disk_place
+  disk_stored_code (Disks.Fitted m) = refl
+  disk_stored_code (Disks.Refused number place) = refl
 
   -- with buffers that are long enough the code is the answer's number and place
-  pub ring-code : (w : Form) (tables : List Table) (n : ℕ) (samples angles : List Float) → w.room ≤ length fit → 4 ≤ length counts →
-      let a = checkedRing tables n samples angles in (ringCall w tables n samples angles fit counts).code ≡ ringNumber a * 65536 + ringPlace a
-  unfolding ringCall
-  ring-code w tables n samples angles f c = rw (le-ltb _ _ f, le-ltb _ _ c) (ring-stored-code w (checkedRing tables n samples angles))
+  pub ring_code : (w : Form) (tables : List Table) (n : ℕ) (samples angles : List Float) → w.room ≤ length fit → 4 ≤ length counts →
+      let a = checked_ring tables n samples angles in (ring_call w tables n samples angles fit counts).code ≡ ring_number a * 65536 + ring_place a
+  unfolding ring_call
+  ring_code w tables n samples angles f c = rw (le-ltb _ _ f, le-ltb _ _ c) (ring_stored_code w (checked_ring tables n samples angles))
 
-  pub disk-code : (D : DiskData) (base0 base1 : Float) → 11 ≤ length fit → 2 ≤ length counts →
-      (diskCall D base0 base1 fit counts).code ≡ diskNumber (checkedDisk D base0 base1) * 65536 + diskPlace (checkedDisk D base0 base1)
-  unfolding diskCall
-  disk-code D base0 base1 f c = rw (le-ltb _ _ f, le-ltb _ _ c) (disk-stored-code (checkedDisk D base0 base1))
+  pub disk_code : (D : DiskData) (base0 base1 : Float) → 11 ≤ length fit → 2 ≤ length counts →
+      (disk_call D base0 base1 fit counts).code ≡ disk_number (checked_disk D base0 base1) * 65536 + disk_place (checked_disk D base0 base1)
+  unfolding disk_call
+  disk_code D base0 base1 f c = rw (le-ltb _ _ f, le-ltb _ _ c) (disk_stored_code (checked_disk D base0 base1))
 
   -- a record is of 16 samples or of 24, and any other number is refused with 1, whatever the buffers
-  pub record-sizes : (samples angles : List Float) →
-      (length samples ≡ 16 → ringSize samples ≡ 16) × (length samples ≡ 24 → ringSize samples ≡ 24) ×
-      ((length samples ≡ 16 → ⊥) → (length samples ≡ 24 → ⊥) → (ringCall theRecord [] (ringSize samples) samples angles fit counts).code ≡ 65536)
-  unfolding ringCall ringStored checkedRing
-  record-sizes samples angles = (
+  pub record_sizes : (samples angles : List Float) →
+      (length samples ≡ 16 → ring_size samples ≡ 16) × (length samples ≡ 24 → ring_size samples ≡ 24) ×
+      ((length samples ≡ 16 → ⊥) → (length samples ≡ 24 → ⊥) → (ring_call the_record [] (ring_size samples) samples angles fit counts).code ≡ 65536)
+  unfolding ring_call ring_stored checked_ring
+  record_sizes samples angles = (
     λ e. rw e refl,
     λ e. rw e refl,
     λ no16 no24. rw (ne_eqb (length samples) 24 no24, ne_eqb (length samples) 16 no16) (short (ltb (length fit) 7) (ltb (length counts) 4)),
@@ -101,19 +101,19 @@ module _ (fit : List Float) (counts : List ℕ) where
 
   -- with number 0 the values and the true counts stand in front, and all behind them is as it was
   module _ (tables : List Table) (held : TablesHeld tables) (n : ℕ) (samples angles : List Float)
-      (zero_number : ringNumber (checkedRing tables n samples angles) ≡ 0) where
+      (zero_number : ring_number (checked_ring tables n samples angles) ≡ 0) where
     abbrev fitted : RingAnswer
-    fitted = checkedRing tables n samples angles
+    fitted = checked_ring tables n samples angles
 
     written : (w : Form) → w.room ≤ length fit → 4 ≤ length counts →
-        let r = recordRing tables n samples angles in
-        ringCall w tables n samples angles fit counts ≡
-        record { code = 0; fit = putFrom (w.values r.fit) 0 fit; counts = putFrom (fitCounts r) 0 counts }
-    unfolding ringCall ringStored
+        let r = record_ring tables n samples angles in
+        ring_call w tables n samples angles fit counts ≡
+        record { code = 0; fit = put_from (w.values r.fit) 0 fit; counts = put_from (fit_counts r) 0 counts }
+    unfolding ring_call ring_stored
     written w f c =
-        let r = recordRing tables n samples angles in
-        let v = answered-values tables held n samples angles zero_number in
-        let b = rw v.1 at (ring-bill tables held n samples angles zero_number) in
+        let r = record_ring tables n samples angles in
+        let v = answered_values tables held n samples angles zero_number in
+        let b = rw v.1 at (ring_bill tables held n samples angles zero_number) in
         let k = r.standing.known in
         let known : flag k ≤ 1000 = omega (arith, flagged k) in
         let starts : r.starts ≤ 1000 = omega (arith, b.1) in
@@ -122,7 +122,7 @@ module _ (fit : List Float) (counts : List ℕ) where
         rw (
           le-ltb _ _ f,
           le-ltb _ _ c,
-          (answered-is-the-fit tables held n samples angles zero_number).answer,
+          (answered_is_the_fit tables held n samples angles zero_number).answer,
           small r.starts starts,
           small r.first first,
           small r.second second,
@@ -130,30 +130,30 @@ module _ (fit : List Float) (counts : List ℕ) where
         )
 
     -- the six values
-    pub ring-written : 6 ≤ length fit → 4 ≤ length counts →
-        ringCall theSix tables n samples angles fit counts ≡
-        record { code = 0; fit = putFrom (ringValues fitted) 0 fit; counts = putFrom (ringCounts fitted) 0 counts }
-    unfolding ringValues ringCounts
-    ring-written f c = rw (answered-is-the-fit tables held n samples angles zero_number).answer (written theSix f c)
+    pub ring_written : 6 ≤ length fit → 4 ≤ length counts →
+        ring_call the_six tables n samples angles fit counts ≡
+        record { code = 0; fit = put_from (ring_values fitted) 0 fit; counts = put_from (ring_counts fitted) 0 counts }
+    unfolding ring_values ring_counts
+    ring_written f c = rw (answered_is_the_fit tables held n samples angles zero_number).answer (written the_six f c)
 
     -- the record: the six and the mean
-    pub record-written : 7 ≤ length fit → 4 ≤ length counts →
-        ringCall theRecord tables n samples angles fit counts ≡
-        record { code = 0; fit = putFrom (ringRecord fitted) 0 fit; counts = putFrom (ringCounts fitted) 0 counts }
-    unfolding ringRecord ringCounts
-    record-written f c = rw (answered-is-the-fit tables held n samples angles zero_number).answer (written theRecord f c)
+    pub record_written : 7 ≤ length fit → 4 ≤ length counts →
+        ring_call the_record tables n samples angles fit counts ≡
+        record { code = 0; fit = put_from (ring_record fitted) 0 fit; counts = put_from (ring_counts fitted) 0 counts }
+    unfolding ring_record ring_counts
+    record_written f c = rw (answered_is_the_fit tables held n samples angles zero_number).answer (written the_record f c)
 
-  module _ (D : DiskData) (base0 base1 : Float) (zero_number : diskNumber (checkedDisk D base0 base1) ≡ 0) where
+  module _ (D : DiskData) (base0 base1 : Float) (zero_number : disk_number (checked_disk D base0 base1) ≡ 0) where
     -- the same of a disk: eleven values, the trials and known
-    pub disk-written : 11 ≤ length fit → 2 ≤ length counts →
-        diskCall D base0 base1 fit counts ≡
-        record { code = 0; fit = putFrom (diskValues (checkedDisk D base0 base1)) 0 fit; counts = putFrom (diskCounts (checkedDisk D base0 base1)) 0 counts }
-    unfolding diskCall diskStored
-    disk-written f c =
-        let a = disk-answered-is-the-fit D base0 base1 zero_number in
-        let v = disk-answered-values D base0 base1 zero_number in
-        let b = rw v.1 at (disk-trials D base0 base1 zero_number) in
-        let k = (fitStanding D a.fit).known in
+    pub disk_written : 11 ≤ length fit → 2 ≤ length counts →
+        disk_call D base0 base1 fit counts ≡
+        record { code = 0; fit = put_from (disk_values (checked_disk D base0 base1)) 0 fit; counts = put_from (disk_counts (checked_disk D base0 base1)) 0 counts }
+    unfolding disk_call disk_stored
+    disk_written f c =
+        let a = disk_answered_is_the_fit D base0 base1 zero_number in
+        let v = disk_answered_values D base0 base1 zero_number in
+        let b = rw v.1 at (disk_trials D base0 base1 zero_number) in
+        let k = (fit_standing D a.fit).known in
         let known : flag k ≤ 1000 = omega (arith, flagged k) in
         let trials : a.trials ≤ 1000 = omega (arith, b.1) in
         rw (le-ltb _ _ f, le-ltb _ _ c, v.0, v.1, a.answer, small a.trials trials, small (flag k) known)

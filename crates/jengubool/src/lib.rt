@@ -2,10 +2,10 @@
 // include/jengubool.h declares them, with what each promises.
 ghost use Rattle.std.specs.Prelude.{◌≡◌, ◌≤◌, [], map, length};
 ghost use Rattle.std.specs.Float.{binary32};
-ghost use Rattle.data.specs.Data.{lentDisk};
-ghost use Rattle.solver_record.specs.Record.{withoutMean};
-ghost use Rattle.checked.specs.Checked.{fitValues, recordValues, fitCounts, measuredValues, measuredCounts, flag};
-ghost use Rattle.checked_tables.specs.Tables.{refusalCode, tableRefusal, wordsWith};
+ghost use Rattle.data.specs.Data.{lent_disk};
+ghost use Rattle.solver_record.specs.Record.{without_mean};
+ghost use Rattle.checked.specs.Checked.{fit_values, record_values, fit_counts, measured_values, measured_counts, flag};
+ghost use Rattle.checked_tables.specs.Tables.{refusal_code, table_refusal, words_with};
 ghost use Rattle.seed_models.specs.Words as W;
 ghost use Rattle.frames.specs.Frames as F;
 ghost use Rattle.jengubool.specs.Calls as J;
@@ -68,7 +68,7 @@ pub extern "C" fn jb_narrow(x: f64) -> f32
 // The line call: any line, any buffer.
 #[unsafe(no_mangle)]
 pub extern "C" fn jb_answer_line(line: &[u8], out: &mut [u8]) -> u32
-    ensures { ◌≡◌ {A = F.Reply} (record { number = result; buffer = out.new }) (F.replyOf line.now out.old) }
+    ensures { ◌≡◌ {A = F.Reply} (record { number = result; buffer = out.new }) (F.reply_of line.now out.old) }
 {
     frames::answer_line(line, out)
 }
@@ -76,7 +76,7 @@ pub extern "C" fn jb_answer_line(line: &[u8], out: &mut [u8]) -> u32
 // The six values of a fit, in front of whatever the buffer holds behind them.
 fn put_fit(f: TwoAxisFit, fit: &mut [f32])
     requires { 6 ≤ length fit.old }
-    ensures { fit.new ≡ J.putFrom (fitValues (withoutMean f)) 0 fit.old }
+    ensures { fit.new ≡ J.put_from (fit_values (without_mean f)) 0 fit.old }
 {
     fit[0] = f.amp;
     fit[1] = f.theta1;
@@ -97,7 +97,7 @@ fn as_number(b: bool) -> u32
 
 fn put_counts(r: RingFit, counts: &mut [u32])
     requires { 4 ≤ length counts.old }
-    ensures { counts.new ≡ J.putFrom (map J.wide (fitCounts r)) 0 counts.old }
+    ensures { counts.new ≡ J.put_from (map J.wide (fit_counts r)) 0 counts.old }
 {
     let s = r.standing;
     let k = as_number(s.known);
@@ -110,7 +110,7 @@ fn put_counts(r: RingFit, counts: &mut [u32])
 fn ring_stored(a: RingAnswer, fit: &mut [f32], counts: &mut [u32]) -> u32
     requires { (6 ≤ length fit.old) × (4 ≤ length counts.old) }
     ensures { ◌≡◌ {A = J.Stored} (record { code = result; fit = fit.new; counts = counts.new })
-        (J.ringStored J.theSix a fit.old counts.old) }
+        (J.ring_stored J.the_six a fit.old counts.old) }
 {
     match a {
         RingAnswer::Fitted(r) => {
@@ -131,7 +131,7 @@ pub extern "C" fn jb_fit_ring(
     counts: &mut [u32],
 ) -> u32
     ensures { ◌≡◌ {A = J.Stored} (record { code = result; fit = fit.new; counts = counts.new })
-        (J.ringCall J.theSix [] 16 samples.now angles.now fit.old counts.old) }
+        (J.ring_call J.the_six [] 16 samples.now angles.now fit.old counts.old) }
 {
     if fit.len() < 6 {
         return 65536;
@@ -151,7 +151,7 @@ pub extern "C" fn jb_fit_ring24(
     counts: &mut [u32],
 ) -> u32
     ensures { ◌≡◌ {A = J.Stored} (record { code = result; fit = fit.new; counts = counts.new })
-        (J.ringCall J.theSix [] 24 samples.now angles.now fit.old counts.old) }
+        (J.ring_call J.the_six [] 24 samples.now angles.now fit.old counts.old) }
 {
     if fit.len() < 6 {
         return 65536;
@@ -165,7 +165,7 @@ pub extern "C" fn jb_fit_ring24(
 // The seven values of a fit's record: the six, and the mean.
 fn put_record(f: TwoAxisFit, fit: &mut [f32])
     requires { 7 ≤ length fit.old }
-    ensures { fit.new ≡ J.putFrom (recordValues f) 0 fit.old }
+    ensures { fit.new ≡ J.put_from (record_values f) 0 fit.old }
 {
     put_fit(f, fit);
     fit[6] = f.mean;
@@ -174,7 +174,7 @@ fn put_record(f: TwoAxisFit, fit: &mut [f32])
 fn record_stored(a: RingAnswer, fit: &mut [f32], counts: &mut [u32]) -> u32
     requires { (7 ≤ length fit.old) × (4 ≤ length counts.old) }
     ensures { ◌≡◌ {A = J.Stored} (record { code = result; fit = fit.new; counts = counts.new })
-        (J.ringStored J.theRecord a fit.old counts.old) }
+        (J.ring_stored J.the_record a fit.old counts.old) }
 {
     match a {
         RingAnswer::Fitted(r) => {
@@ -195,7 +195,7 @@ pub extern "C" fn jb_ring_record(
     counts: &mut [u32],
 ) -> u32
     ensures { ◌≡◌ {A = J.Stored} (record { code = result; fit = fit.new; counts = counts.new })
-        (J.ringCall J.theRecord [] (J.ringSize samples.now) samples.now angles.now
+        (J.ring_call J.the_record [] (J.ring_size samples.now) samples.now angles.now
         fit.old counts.old) }
 {
     if fit.len() < 7 {
@@ -213,13 +213,13 @@ pub extern "C" fn jb_ring_record(
 // Words that hold no table, whatever they held.
 #[unsafe(no_mangle)]
 pub extern "C" fn jb_tables_fresh(tables: &mut [f32; seed_models::STATE_SIZE])
-    ensures { tables.new ≡ W.freshIn tables.old }
+    ensures { tables.new ≡ W.fresh_in tables.old }
 {
     checked_tables::fresh_tables(tables);
 }
 
 fn refusal_code(r: Refusal) -> u32
-    ensures { result ≡ refusalCode r }
+    ensures { result ≡ refusal_code r }
 {
     match r {
         Refusal::By(number, place) => (number as u32) * 65536 + place as u32,
@@ -233,8 +233,8 @@ pub extern "C" fn jb_tables_store(
     tables: &mut [f32; seed_models::STATE_SIZE],
     angles: &[f32],
 ) -> u32
-    ensures { (result ≡ refusalCode (tableRefusal tables.old angles.now))
-        × (tables.new ≡ wordsWith tables.old angles.now) }
+    ensures { (result ≡ refusal_code (table_refusal tables.old angles.now))
+        × (tables.new ≡ words_with tables.old angles.now) }
 {
     refusal_code(checked_tables::store_table(tables, angles))
 }
@@ -249,7 +249,7 @@ pub extern "C" fn jb_tables_fit(
     counts: &mut [u32],
 ) -> u32
     ensures { ◌≡◌ {A = J.Stored} (record { code = result; fit = fit.new; counts = counts.new })
-        (J.ringCall J.theRecord (W.tablesIn tables.now) 16 samples.now angles.now
+        (J.ring_call J.the_record (W.tables_in tables.now) 16 samples.now angles.now
         fit.old counts.old) }
 {
     if fit.len() < 7 {
@@ -264,7 +264,7 @@ pub extern "C" fn jb_tables_fit(
 // The eleven values of a disk's fit.
 fn put_disk(m: Measured, fit: &mut [f32])
     requires { 11 ≤ length fit.old }
-    ensures { fit.new ≡ J.putFrom (measuredValues m) 0 fit.old }
+    ensures { fit.new ≡ J.put_from (measured_values m) 0 fit.old }
 {
     let f = m.fit;
     let e = m.estimate;
@@ -284,7 +284,7 @@ fn put_disk(m: Measured, fit: &mut [f32])
 
 fn put_trials(m: Measured, counts: &mut [u32])
     requires { 2 ≤ length counts.old }
-    ensures { counts.new ≡ J.putFrom (map J.wide (measuredCounts m)) 0 counts.old }
+    ensures { counts.new ≡ J.put_from (map J.wide (measured_counts m)) 0 counts.old }
 {
     let e = m.estimate;
     let s = e.standing;
@@ -296,7 +296,7 @@ fn put_trials(m: Measured, counts: &mut [u32])
 fn disk_stored(a: DiskAnswer, fit: &mut [f32], counts: &mut [u32]) -> u32
     requires { (11 ≤ length fit.old) × (2 ≤ length counts.old) }
     ensures { ◌≡◌ {A = J.Stored} (record { code = result; fit = fit.new; counts = counts.new })
-        (J.diskStored a fit.old counts.old) }
+        (J.disk_stored a fit.old counts.old) }
 {
     match a {
         DiskAnswer::Fitted(m) => {
@@ -323,7 +323,7 @@ pub extern "C" fn jb_fit_disk(
     counts: &mut [u32],
 ) -> u32
     ensures { ◌≡◌ {A = J.Stored} (record { code = result; fit = fit.new; counts = counts.new })
-        (J.diskCall (lentDisk val_energy xs ys vals_centered grad_angles grad_weights) base0 base1
+        (J.disk_call (lent_disk val_energy xs ys vals_centered grad_angles grad_weights) base0 base1
         fit.old counts.old) }
 {
     if fit.len() < 11 {

@@ -5,15 +5,15 @@ use Rattle.lines.specs.declared.Found.{Found}
 use Rattle.lines.specs.declared.Found.TheVariants.{Line, More, Done}
 
 -- the first line feed among `left` places from i on, or the place after them
-unfoldable pub endFrom : List ℕ → ℕ → ℕ → ℕ
-endFrom l zero i = i
-endFrom l (suc left) i = cond (eqb (get_or l i 0) 10) i (endFrom l left (i + 1))
+unfoldable pub end_from : List ℕ → ℕ → ℕ → ℕ
+end_from l zero i = i
+end_from l (suc left) i = cond (eqb (get_or l i 0) 10) i (end_from l left (i + 1))
 
 -- a line feed ends a line, and the next one starts behind it; the input's end ends the last one, where there is any of it
-unfoldable pub foundOf : List ℕ → Feed → Found
-unfolding endFrom
-foundOf l f =
-    let e = endFrom l (f.total - f.from) f.from in
+unfoldable pub found_of : List ℕ → Feed → Found
+unfolding end_from
+found_of l f =
+    let e = end_from l (f.total - f.from) f.from in
     cond (ltb e f.total) (Line e (e + 1)) (cond (not f.ended) More (cond (ltb f.from f.total || f.skip) (Line f.total f.total) Done))
 
 -- nothing read yet; and the line before a place answered
@@ -24,15 +24,15 @@ unfoldable pub passed : Feed → ℕ → Feed
 passed f at = record { from = at; total = f.total; skip = false; ended = f.ended }
 
 -- an unfinished line over the limit loses its start; of any other every byte is kept
-unfoldable pub isGone : Feed → ℕ → Bool
-isGone f limit = f.skip || ltb limit (f.total - f.from)
+unfoldable pub is_gone : Feed → ℕ → Bool
+is_gone f limit = f.skip || ltb limit (f.total - f.from)
 
-unfoldable pub keptOf : Feed → ℕ → ℕ
-keptOf f limit = cond (isGone f limit) 0 (f.total - f.from)
+unfoldable pub kept_of : Feed → ℕ → ℕ
+kept_of f limit = cond (is_gone f limit) 0 (f.total - f.from)
 
 -- n bytes have come behind what is kept; none is the input's end
-unfoldable pub withBlock : Feed → ℕ → ℕ → Feed
-withBlock f limit n = record { from = 0; total = keptOf f limit + n; skip = isGone f limit; ended = eqb n 0 }
+unfoldable pub with_block : Feed → ℕ → ℕ → Feed
+with_block f limit n = record { from = 0; total = kept_of f limit + n; skip = is_gone f limit; ended = eqb n 0 }
 
 -- the first n bytes of m are those of l from `from` on
 abbrev pub Front : ℕ → ℕ → List ℕ → List ℕ → Type 0
@@ -41,8 +41,8 @@ Front n from l m = take n m ≡ take n (drop from l)
 -- a block came into the buffer l, which is m now: some n bytes, and in front of them what was kept
 pub record Filled (f : Feed) (limit : ℕ) (l m : List ℕ) (r : Feed) : Type 0 where
   pub came : ℕ
-  pub feed : r ≡ withBlock f limit came
-  pub front : Front (keptOf f limit) f.from l m
+  pub feed : r ≡ with_block f limit came
+  pub front : Front (kept_of f limit) f.from l m
 
 -- where a found line ends
 abbrev pub FoundWithin : Feed → Found → Type 0

@@ -8,8 +8,8 @@ use Rattle.lines.specs.declared.State.{State}
 use Rattle.lines.specs.Lines.{Filled, begun, passed}
 
 -- the place for `need` bytes in a text of `size`: the same where there is room, and else the start, once the text is written out
-abbrev pub roomOf : ℕ → ℕ → ℕ → ℕ
-roomOf at need size = cond (leb (at + need) size) at 0
+abbrev pub room_of : ℕ → ℕ → ℕ → ℕ
+room_of at need size = cond (leb (at + need) size) at 0
 
 -- the sizes of a program's buffers; what holds of its state from turn to turn; where a line lies that ends at e, before the next at `from`
 abbrev pub input : ℕ
@@ -27,8 +27,8 @@ Lies s e from = (s.feed.from ≤ e) × (e ≤ from) × (from ≤ s.feed.total)
 abbrev pub opening : State
 opening = record { feed = begun; put = 0; more = true }
 
-abbrev pub answeredOf : State → ℕ → ℕ → State
-answeredOf s from at = record { feed = passed s.feed from; put = at; more = true }
+abbrev pub answered_of : State → ℕ → ℕ → State
+answered_of s from at = record { feed = passed s.feed from; put = at; more = true }
 
 abbrev pub closed : State → State
 closed s = record { feed = s.feed; put = 0; more = false }
@@ -41,12 +41,12 @@ pub record Read (s : State) (limit : ℕ) (b c : List ℕ) (r : State) : Type 0 
 
 -- a line was answered by t: of the text l, which is m now, t stands at the place that `room` gives, and the state is past the line and past t
 pub record Answered (need : ℕ) (s : State) (from : ℕ) (t : List ℕ) (l m : List ℕ) (r : State) : Type 0 where
-  pub text : m ≡ put l (roomOf s.put need (length l)) t
-  pub state : r ≡ answeredOf s from (roomOf s.put need (length l) + length t)
+  pub text : m ≡ put l (room_of s.put need (length l)) t
+  pub state : r ≡ answered_of s from (room_of s.put need (length l) + length t)
 
 -- the line of the buffer b that ends at e
-abbrev pub lineTo : List ℕ → Feed → ℕ → List ℕ
-lineTo b f e = take (e - f.from) (drop f.from b)
+abbrev pub line_to : List ℕ → Feed → ℕ → List ℕ
+line_to b f e = take (e - f.from) (drop f.from b)
 
 -- a turn that finds `found`, of a program that answers the line up to e by `text e`, each answer in at most `need` bytes
 abbrev pub Turned : ℕ → ℕ → (ℕ → List ℕ) → Found → State → List ℕ → List ℕ → List ℕ → List ℕ → State → Type 0
@@ -61,11 +61,11 @@ pub data Turns (S : Type 0) (Turn : S → List ℕ → List ℕ → List ℕ →
   then : {n : ℕ} {s t r : S} {b c d l m o : List ℕ} → Turns S Turn n s b l t c m → Turn t c d m o r → Turns S Turn (n + 1) s b l r d o
 
 -- it ends where there is nothing more to do, or after 2^64 - 1 turns
-abbrev pub mostTurns : ℕ
-mostTurns = 18_446_744_073_709_551_615
+abbrev pub most_turns : ℕ
+most_turns = 18_446_744_073_709_551_615
 
 pub record Run (S : Type 0) (Turn : S → List ℕ → List ℕ → List ℕ → List ℕ → S → Type 0) (more : S → Bool)
     (s : S) (b l : List ℕ) (r : S) (c m : List ℕ) : Type 0 where
   pub number : ℕ
   pub turns : Turns S Turn number s b l r c m
-  pub ends : more r ≡ true → number ≡ mostTurns
+  pub ends : more r ≡ true → number ≡ most_turns

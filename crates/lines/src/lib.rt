@@ -3,7 +3,7 @@
 // told by `skip`. The turns of a program that answers line by line are here too, but for the answer:
 // a turn finds a line, asks `room` for its answer's place and calls `answered`, or reads on, or ends.
 ghost use Rattle.std.specs.Prelude.{◌≡◌, ◌+◌, ◌-◌, ◌≤◌, ◌<◌, length};
-ghost use Rattle.lines.specs.Lines.{Filled, Front, begun, endFrom, foundOf, isGone, keptOf, passed, FoundWithin};
+ghost use Rattle.lines.specs.Lines.{Filled, Front, begun, end_from, found_of, is_gone, kept_of, passed, FoundWithin};
 ghost use Rattle.lines.specs.Turns as T;
 
 use libc::{STDIN_FILENO, STDOUT_FILENO};
@@ -45,7 +45,7 @@ pub fn start() -> Feed
 // Where the line that starts at `at` ends: its line feed, or `total` where it has none yet.
 pub fn line_end(s: &[u8], at: usize, total: usize) -> usize
     requires { (at ≤ total) × (total ≤ length s.now) }
-    ensures { (at ≤ result) × (result ≤ total) × (result ≡ endFrom s.now (total - at) at) }
+    ensures { (at ≤ result) × (result ≤ total) × (result ≡ end_from s.now (total - at) at) }
 {
     for i in at..total {
         if s[i] == 10 {
@@ -58,7 +58,7 @@ pub fn line_end(s: &[u8], at: usize, total: usize) -> usize
 // The next line of the buffer.
 pub fn find(buf: &[u8], f: Feed) -> Found
     requires { (f.from ≤ f.total) × (f.total ≤ length buf.now) }
-    ensures { (result ≡ foundOf buf.now f) × FoundWithin f result }
+    ensures { (result ≡ found_of buf.now f) × FoundWithin f result }
 {
     let from = f.from;
     let total = f.total;
@@ -105,7 +105,7 @@ fn keep(buf: &mut [u8], at: usize, total: usize) -> usize
 // already or its start is gone.
 fn kept(buf: &mut [u8], f: Feed, limit: usize) -> usize
     requires { (f.from ≤ f.total) × (f.total ≤ length buf.old) }
-    ensures { (result ≤ limit) × (result ≤ length buf.old) × (result ≡ keptOf f limit) × Front result f.from buf.old buf.new }
+    ensures { (result ≤ limit) × (result ≤ length buf.old) × (result ≡ kept_of f limit) × Front result f.from buf.old buf.new }
 {
     let from = f.from;
     let total = f.total;
@@ -120,7 +120,7 @@ fn kept(buf: &mut [u8], f: Feed, limit: usize) -> usize
 
 fn gone(f: Feed, limit: usize) -> bool
     requires { f.from ≤ f.total }
-    ensures { result ≡ isGone f limit }
+    ensures { result ≡ is_gone f limit }
 {
     if f.skip {
         return true;
@@ -159,7 +159,7 @@ pub fn flush(text: &[u8], put: usize)
 // written out, its start.
 pub fn room(text: &[u8], put: usize, need: usize) -> usize
     requires { (put ≤ length text.now) × (need ≤ length text.now) × (length text.now < 1000000) }
-    ensures { (result + need ≤ length text.now) × (result ≡ T.roomOf put need (length text.now)) }
+    ensures { (result + need ≤ length text.now) × (result ≡ T.room_of put need (length text.now)) }
 {
     if put + need <= text.len() {
         return put;
@@ -191,7 +191,7 @@ pub fn begin() -> State
 // A line has been answered: the text stands up to `put`, and the next line starts at `from`.
 pub fn answered(s: State, from: usize, put: usize) -> State
     requires { T.StateKept s × (from ≤ s.feed.total) × (put ≤ T.output) }
-    ensures { T.StateKept result × (result ≡ T.answeredOf s from put) }
+    ensures { T.StateKept result × (result ≡ T.answered_of s from put) }
 {
     let f = s.feed;
     let feed = past(f, from);

@@ -4,7 +4,7 @@ ghost use Rattle.std.specs.Prelude.{◌≡◌, false, ◌+◌, ◌*◌, ◌%◌,
 ghost use Rattle.std.specs.Float.{binary32};
 ghost use Rattle.std.specs.Float.Ieee.{lt, rem};
 ghost use Rattle.floats.specs.Ops.{nought, pi, tau};
-ghost use Rattle.floats.specs.Library.{remEuclid};
+ghost use Rattle.floats.specs.Library.{rem_euclid};
 ghost use Rattle.floats.specs.UnitLaws.{Val};
 ghost use Rattle.remainders.specs.RemainderLaws.{within, modulus};
 
@@ -74,7 +74,7 @@ pub fn rem_tau(x: f32) -> f32
 }
 
 pub fn rem_euclid_pi(x: f32) -> f32
-    ensures { result ≡ remEuclid binary32 x pi }
+    ensures { result ≡ rem_euclid binary32 x pi }
 {
     let r = rem_pi(x);
     if r < 0.0 {
@@ -84,7 +84,7 @@ pub fn rem_euclid_pi(x: f32) -> f32
 }
 
 pub fn rem_euclid_tau(x: f32) -> f32
-    ensures { result ≡ remEuclid binary32 x tau }
+    ensures { result ≡ rem_euclid binary32 x tau }
 {
     let r = rem_tau(x);
     if r < 0.0 {

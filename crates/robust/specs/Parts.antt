@@ -4,14 +4,14 @@ use Rattle.std.specs.Float.Ieee.{lt}
 use Rattle.floats.specs.Ops.{lit}
 use Rattle.floats.specs.Rows.{Row}
 use Rattle.solver.specs.Solver.{sines, cosines}
-use Rattle.solver.specs.Record.{recordWithSeed}
-use Rattle.solver.specs.Buffers.{Prepared, maxSamples}
-use Rattle.seed.specs.Seed.{secondHarmonic, flat}
+use Rattle.solver.specs.Record.{record_with_seed}
+use Rattle.solver.specs.Buffers.{Prepared, max_samples}
+use Rattle.seed.specs.Seed.{second_harmonic, flat}
 use Rattle.seed.specs.declared.Seed.{Seed}
-use Rattle.robust_lanes.specs.Lanes.{gridPlaces}
-use Rattle.robust_grid.specs.Grid.{bestSeed}
-use Rattle.seed_models.specs.Models.{Table, bestCached}
-use Rattle.seed_models.specs.Words.{ringSamples, modelsIn}
+use Rattle.robust_lanes.specs.Lanes.{grid_places}
+use Rattle.robust_grid.specs.Grid.{best_seed}
+use Rattle.seed_models.specs.Models.{Table, best_cached}
+use Rattle.seed_models.specs.Words.{ring_samples, models_in}
 use Rattle.robust.specs.declared.First.{First}
 use Rattle.robust.specs.declared.Centered.{Centered}
 use Rattle.robust.specs.declared.Centered.TheVariants.{Sum, Flat}
@@ -20,56 +20,56 @@ use Rattle.robust_choice.specs.declared.RingFit.{RingFit}
 use Rattle.robust.specs.Robust as R
 
 -- ---- the buffers: an angle, a sine and a cosine for each sample, and four places in js
-pub record Lent (samples ringPhi sphi cphi js : Row) : Type 0 where
-  pub few : length samples ≤ maxSamples
-  pub phi : length ringPhi ≡ length samples
+pub record Lent (samples ring_phi sphi cphi js : Row) : Type 0 where
+  pub few : length samples ≤ max_samples
+  pub phi : length ring_phi ≡ length samples
   pub s : length sphi ≡ length samples
   pub c : length cphi ≡ length samples
   pub j : length js ≡ 4 * length samples
 
 -- the same, with the sines and cosines of the angles in their buffers
-pub record Ready (samples ringPhi sphi cphi js : Row) : Type 0 where
-  pub few : length samples ≤ maxSamples
-  pub phi : length ringPhi ≡ length samples
-  pub sines : Prepared ringPhi sphi cphi
+pub record Ready (samples ring_phi sphi cphi js : Row) : Type 0 where
+  pub few : length samples ≤ max_samples
+  pub phi : length ring_phi ≡ length samples
+  pub sines : Prepared ring_phi sphi cphi
   pub j : length js ≡ 4 * length samples
 
 -- the grid's rows: their places for each sample, and two
 pub record Rows (samples h : Row) : Type 0 where
-  pub places : length h ≡ gridPlaces * length samples + 2
+  pub places : length h ≡ grid_places * length samples + 2
 
 -- the first start, with the mean and the variance
 abbrev pub first_of : ℕ → Row → Row → First
-first_of n samples ringPhi =
-    let mean = R.meanOf n samples in
-    let centeredVar = R.varianceOf n samples mean in
-    let seed = R.firstSeed (secondHarmonic n samples ringPhi mean) mean in
-    record { primary = recordWithSeed n samples ringPhi seed centeredVar; mean = mean; centered_var = centeredVar }
+first_of n samples ring_phi =
+    let mean = R.mean_of n samples in
+    let centered_var = R.variance_of n samples mean in
+    let seed = R.first_seed (second_harmonic n samples ring_phi mean) mean in
+    record { primary = record_with_seed n samples ring_phi seed centered_var; mean = mean; centered_var = centered_var }
 
 -- r is the answer of the first start f and of the grid's
 abbrev pub WithGrid : List Table → Row → Row → First → RingFit → Type 0
-WithGrid tables samples ringPhi f r =
-    r ≡ chosen_of f.primary (second_of (R.robustGridFit tables (length samples) samples ringPhi f.mean f.centered_var))
+WithGrid tables samples ring_phi f r =
+    r ≡ chosen_of f.primary (second_of (R.robust_grid_fit tables (length samples) samples ring_phi f.mean f.centered_var))
 
 -- whether the grid is worth its search: the variance, or the sum of squares of the centred samples, is too small
-abbrev pub noGrid : ℕ → Row → Float → Float → Bool
-noGrid n samples mean centeredVar = lt centeredVar (lit 0x3586_37bd) || flat (R.squares n (R.centeredOf n samples mean))
+abbrev pub no_grid : ℕ → Row → Float → Float → Bool
+no_grid n samples mean centered_var = lt centered_var (lit 0x3586_37bd) || flat (R.squares n (R.centered_of n samples mean))
 
 -- if it is, that sum, and the centred samples stand in front of js
 abbrev pub CenteredIn : ℕ → Row → Float → Float → Row → Centered → Type 0
-CenteredIn n samples mean centeredVar js Flat = noGrid n samples mean centeredVar ≡ true
-CenteredIn n samples mean centeredVar js (Sum s) =
-    (noGrid n samples mean centeredVar ≡ false) × (take (n - 0) (drop 0 js) ≡ R.centeredOf n samples mean) × (s ≡ R.squares n (R.centeredOf n samples mean))
+CenteredIn n samples mean centered_var js Flat = no_grid n samples mean centered_var ≡ true
+CenteredIn n samples mean centered_var js (Sum s) =
+    (no_grid n samples mean centered_var ≡ false) × (take (n - 0) (drop 0 js) ≡ R.centered_of n samples mean) × (s ≡ R.squares n (R.centered_of n samples mean))
 
 -- the best seed of the table in these words
-abbrev pub cachedSeed : Row → Float → Row → Float → Seed
-cachedSeed table mean centered centeredSs = bestCached ringSamples centered centeredSs mean (modelsIn table)
+abbrev pub cached_seed : Row → Float → Row → Float → Seed
+cached_seed table mean centered centered_ss = best_cached ring_samples centered centered_ss mean (models_in table)
 
 -- the best seed of the grid
-abbrev pub directSeed : ℕ → Row → Float → Row → Float → Seed
-directSeed n ringPhi mean centered centeredSs = bestSeed n (sines n ringPhi) (cosines n ringPhi) centered centeredSs mean
+abbrev pub direct_seed : ℕ → Row → Float → Row → Float → Seed
+direct_seed n ring_phi mean centered centered_ss = best_seed n (sines n ring_phi) (cosines n ring_phi) centered centered_ss mean
 
 -- r is the answer of the first start f and of the table in these words
 abbrev pub WithTable : Row → Row → Row → First → RingFit → Type 0
-WithTable table samples ringPhi f r =
-    r ≡ chosen_of f.primary (second_of (R.gridFitBy (cachedSeed table f.mean) ringSamples samples ringPhi f.mean f.centered_var))
+WithTable table samples ring_phi f r =
+    r ≡ chosen_of f.primary (second_of (R.grid_fit_by (cached_seed table f.mean) ring_samples samples ring_phi f.mean f.centered_var))

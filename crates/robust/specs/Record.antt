@@ -2,9 +2,9 @@
 use Rattle.std.specs.Prelude.{List, ℕ}
 use Rattle.floats.specs.Rows.{Row}
 use Rattle.seed_models.specs.Models.{Table}
-use Rattle.robust_choice.specs.Record.{ringFitOf}
+use Rattle.robust_choice.specs.Record.{ring_fit_of}
 use Rattle.robust_choice.specs.declared.RingFit.{RingFit}
 use Rattle.robust.specs.Robust.{ring}
 
-unfoldable pub recordRing : List Table → ℕ → Row → Row → RingFit
-recordRing tables n samples ringPhi = ringFitOf (ring tables n samples ringPhi)
+unfoldable pub record_ring : List Table → ℕ → Row → Row → RingFit
+record_ring tables n samples ring_phi = ring_fit_of (ring tables n samples ring_phi)

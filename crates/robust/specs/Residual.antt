@@ -6,12 +6,12 @@ use Rattle.floats.specs.Ops.{◌⊘◌, lit, nought}
 use Rattle.floats.specs.Rows.{count}
 use Rattle.floats.specs.UnitLaws.{Val}
 use Rattle.floats.specs.Library.{max, sqrt}
-use Rattle.robust_choice.specs.Choice.{Source, ofPass, ofSeed}
+use Rattle.robust_choice.specs.Choice.{Source, of_pass, of_seed}
 
 -- the root of the mean square of a pass, or of the variance, one below zero taken as 0
 abbrev pub MadeOf : ℕ → Float → Float → Source → Type 0
-MadeOf n centeredVar rms (ofPass end) = rms ≡ sqrt binary32 (end.last.ssr ⊘ count n)
-MadeOf n centeredVar rms (ofSeed seed) = rms ≡ sqrt binary32 (max centeredVar nought)
+MadeOf n centered_var rms (of_pass end) = rms ≡ sqrt binary32 (end.last.ssr ⊘ count n)
+MadeOf n centered_var rms (of_seed seed) = rms ≡ sqrt binary32 (max centered_var nought)
 
 -- half of n units of 2 ^ -149, the smallest f32 above 0: 2 ^ -146 of 16 samples
 abbrev pub half : ℕ → Float
@@ -24,8 +24,8 @@ pub record Tiny (n : ℕ) (s : Float) : Type 0 where
   pub small : T (le s (half n))
 
 -- one unit
-abbrev pub oneUnit : Float
-oneUnit = fin false 1 (negsuc 148)
+abbrev pub one_unit : Float
+one_unit = fin false 1 (negsuc 148)
 
 -- what makes half of n units the bound: n and its half are floats as they are, an n-th part of half of n units has the root 0, and an n-th part of
 -- one unit more rounds to one unit
@@ -34,4 +34,4 @@ pub record Share (n : ℕ) : Type 0 where
   pub whole : Val binary32 (count n) false (n * 2 ^ 149)
   pub halves : Val binary32 (half n) false (n / 2)
   pub met : eq (sqrt binary32 (half n ⊘ count n)) nought ≡ true
-  pub over : round binary32 false (n / 2 + 1) (n * 2 ^ 149) ≡ oneUnit
+  pub over : round binary32 false (n / 2 + 1) (n * 2 ^ 149) ≡ one_unit

@@ -8,33 +8,33 @@ use native.Mathlib.Omega.{arith}
 use Rattle.std.specs.Float.Ieee.{binary32, lt, fits}
 use Rattle.std.specs.Float.Ieee.Scale.{finite}
 use Rattle.std.specs.Float.Ieee.Fits.{add-fits, mul-fits, div-fits}
-use Rattle.floats.specs.Ops.{◌⊖◌, ◌⊗◌, ◌⊘◌, lit, quarterPi}
+use Rattle.floats.specs.Ops.{◌⊖◌, ◌⊗◌, ◌⊘◌, lit, quarter_pi}
 use Rattle.floats.specs.Rows.{Row, count}
-use Rattle.floats.specs.FiniteLaws.{of-true}
-use Rattle.floats.specs.Library.{toRadians}
-use Rattle.loops.specs.IterLaws.{iter-keeps, range-keeps}
-use Rattle.geometry.specs.Geometry.{validPair}
+use Rattle.floats.specs.FiniteLaws.{of_true}
+use Rattle.floats.specs.Library.{to_radians}
+use Rattle.loops.specs.IterLaws.{iter_keeps, range_keeps}
+use Rattle.geometry.specs.Geometry.{valid_pair}
 use Rattle.solver.specs.Solver.{sines, cosines}
-use Rattle.solver_record.specs.Record.{withoutMean}
+use Rattle.solver_record.specs.Record.{without_mean}
 use Rattle.solver_record.specs.FitLaws.{ParamsHeld, Sound}
-use Rattle.solver.specs.SoundLaws.{start-sound, start-most}
+use Rattle.solver.specs.SoundLaws.{start_sound, start_most}
 use Rattle.solver_record.specs.declared.Params.{Params}
-use Rattle.seed.specs.Seed.{robustGridStepDeg, flat, kept, seedFrom, scoredFrom, scored, scoreSeedPair, pair_sums, insertSeedCandidate, secondHarmonic, harmonic}
+use Rattle.seed.specs.Seed.{robust_grid_step_deg, flat, kept, seed_from, scored_from, scored, score_seed_pair, pair_sums, insert_seed_candidate, second_harmonic, harmonic}
 use Rattle.seed.specs.declared.Sums.{Sums}
 use Rattle.seed.specs.declared.Seed.{Seed}
 use Rattle.seed.specs.declared.Seed.TheVariants.{Found, Nothing}
 use Rattle.seed.specs.declared.SeedCandidate.{SeedCandidate}
 use Rattle.robust_lanes.specs.Lanes.{inserted}
-use Rattle.robust_grid.specs.Grid.{gridAngle, gridRow, pair_at, pairsFrom, allPairs, tries, bestOf, bestSeed}
-use Rattle.seed_models.specs.Models.{SeedModel, Table, table_at, firstTable, scoreCachedSeedModel, bestFrom, bestCached}
-use Rattle.seed_models.specs.HeldLaws.{All, AnglesHeld, TablesHeld, table-held}
+use Rattle.robust_grid.specs.Grid.{grid_angle, grid_row, pair_at, pairs_from, all_pairs, tries, best_of, best_seed}
+use Rattle.seed_models.specs.Models.{SeedModel, Table, table_at, first_table, score_cached_seed_model, best_from, best_cached}
+use Rattle.seed_models.specs.HeldLaws.{All, AnglesHeld, TablesHeld, table_held}
 use Rattle.seed_models.specs.declared.Matched.{Matched}
 use Rattle.seed_models.specs.declared.Matched.TheVariants.{At, Missing}
 use Rattle.robust_choice.specs.declared.RingFit.{RingFit}
 use Rattle.robust.specs.Robust as R
-use Rattle.robust_choice.specs.Choice.{Start, Ring, single, isLower, chosen}
-use Rattle.robust_choice.specs.Record.{ringFitOf}
-use Rattle.robust.specs.Record.{recordRing}
+use Rattle.robust_choice.specs.Choice.{Start, Ring, single, is_lower, chosen}
+use Rattle.robust_choice.specs.Record.{ring_fit_of}
+use Rattle.robust.specs.Record.{record_ring}
 
 -- ---- a seed that f32 holds and whose mean is finite, or none
 abbrev Held : SeedCandidate → Type 0
@@ -44,83 +44,83 @@ abbrev SeedHeld : Seed → Type 0
 SeedHeld Nothing = 0 ≤ 0
 SeedHeld (Found s) = Held s
 
-kept-held : (s : SeedCandidate) → ParamsHeld (R.seeded s) → SeedHeld (kept s)
+kept_held : (s : SeedCandidate) → ParamsHeld (R.seeded s) → SeedHeld (kept s)
 unfolding kept
-kept-held s h = go (finite s.rms) (finite s.amp) (finite s.mu) refl
+kept_held s h = go (finite s.rms) (finite s.amp) (finite s.mu) refl
   where
     go : (a b c : Bool) → finite s.mu ≡ c → SeedHeld (cond (a && (b && c)) (Found s) Nothing)
-    go true true true e = (h, of-true e)
+    go true true true e = (h, of_true e)
     go true true false e = omega arith
     go true false c e = omega arith
     go false b c e = omega arith
 
-from-held : (n css mean num qMean denom theta1 theta2 : Float) → T (fits binary32 theta1) → T (fits binary32 theta2)
-    → SeedHeld (seedFrom n css mean num qMean denom theta1 theta2)
-unfolding seedFrom
-from-held n css mean num qMean denom theta1 theta2 one two = kept-held _ (record { amp = div-fits binary32 num denom; one = one; two = two })
+from_held : (n css mean num q_mean denom theta1 theta2 : Float) → T (fits binary32 theta1) → T (fits binary32 theta2)
+    → SeedHeld (seed_from n css mean num q_mean denom theta1 theta2)
+unfolding seed_from
+from_held n css mean num q_mean denom theta1 theta2 one two = kept_held _ (record { amp = div-fits binary32 num denom; one = one; two = two })
 
-scored-held : (n css mean : Float) (s : Sums) (a b : ℕ) → SeedHeld (scored n css mean s (gridAngle a) (gridAngle b))
-unfolding scored scoredFrom
-scored-held n css mean s a b =
-    let qMean = s.q_sum ⊘ n in
-    let denom = s.q2_sum ⊖ s.q_sum ⊗ qMean in
-    let step = toRadians robustGridStepDeg in
-    go (flat denom) _ (from-held n css mean s.num qMean denom _ _ (mul-fits binary32 (count a) step) (mul-fits binary32 (count b) step))
+scored_held : (n css mean : Float) (s : Sums) (a b : ℕ) → SeedHeld (scored n css mean s (grid_angle a) (grid_angle b))
+unfolding scored scored_from
+scored_held n css mean s a b =
+    let q_mean = s.q_sum ⊘ n in
+    let denom = s.q2_sum ⊖ s.q_sum ⊗ q_mean in
+    let step = to_radians robust_grid_step_deg in
+    go (flat denom) _ (from_held n css mean s.num q_mean denom _ _ (mul-fits binary32 (count a) step) (mul-fits binary32 (count b) step))
   where
     go : (f : Bool) (x : Seed) → SeedHeld x → SeedHeld (cond f Nothing x)
     go true x h = omega arith
     go false x h = h
 
-insert-held : (top : Seed) (c : SeedCandidate) → SeedHeld top → Held c → SeedHeld (insertSeedCandidate top c)
-unfolding insertSeedCandidate
-insert-held Nothing c h g = g
-insert-held (Found s) c h g = go (lt c.rms s.rms)
+insert_held : (top : Seed) (c : SeedCandidate) → SeedHeld top → Held c → SeedHeld (insert_seed_candidate top c)
+unfolding insert_seed_candidate
+insert_held Nothing c h g = g
+insert_held (Found s) c h g = go (lt c.rms s.rms)
   where
     go : (b : Bool) → SeedHeld (cond b (Found c) (Found s))
     go true = g
     go false = h
 
-inserted-held : (top s : Seed) → SeedHeld top → SeedHeld s → SeedHeld (inserted top s)
+inserted_held : (top s : Seed) → SeedHeld top → SeedHeld s → SeedHeld (inserted top s)
 unfolding inserted
-inserted-held top Nothing h g = h
-inserted-held top (Found c) h g = insert-held top c h g
+inserted_held top Nothing h g = h
+inserted_held top (Found c) h g = insert_held top c h g
 
 module _ (score : ℕ → ℕ → Seed) (sound : (a b : ℕ) → SeedHeld (score a b)) where
   pair_held : (a b : ℕ) (top : Seed) → SeedHeld top → SeedHeld (pair_at (tries score) a b top)
   unfolding pair_at
-  pair_held a b top h = go (validPair (gridAngle a) (gridAngle b))
+  pair_held a b top h = go (valid_pair (grid_angle a) (grid_angle b))
     where
       go : (v : Bool) → SeedHeld (cond v (inserted top (score a b)) top)
-      go true = inserted-held top (score a b) h (sound a b)
+      go true = inserted_held top (score a b) h (sound a b)
       go false = h
 
-  pairs-held : (a : ℕ) (top : Seed) → SeedHeld top → SeedHeld (pairsFrom (tries score) a top)
-  unfolding pairsFrom
-  pairs-held a top h = range-keeps SeedHeld (pair_at (tries score) a) top (a + 1) 23 h (λ b x g. pair_held a b x g)
+  pairs_held : (a : ℕ) (top : Seed) → SeedHeld top → SeedHeld (pairs_from (tries score) a top)
+  unfolding pairs_from
+  pairs_held a top h = range_keeps SeedHeld (pair_at (tries score) a) top (a + 1) 23 h (λ b x g. pair_held a b x g)
 
-  best-held : SeedHeld (bestOf score)
-  unfolding bestOf allPairs
-  best-held = iter-keeps SeedHeld (pairsFrom (tries score)) Nothing 23 (omega arith) (λ a x g. pairs-held a x g)
+  best_held : SeedHeld (best_of score)
+  unfolding best_of all_pairs
+  best_held = iter_keeps SeedHeld (pairs_from (tries score)) Nothing 23 (omega arith) (λ a x g. pairs_held a x g)
 
-seed-held : (n : ℕ) (sphi cphi centered : Row) (centeredSs mean : Float) → SeedHeld (bestSeed n sphi cphi centered centeredSs mean)
-unfolding bestSeed scoreSeedPair
-seed-held n sphi cphi centered centeredSs mean =
-    best-held _ (λ a b. scored-held (count n) centeredSs mean (pair_sums n centered (gridRow n sphi cphi a) (gridRow n sphi cphi b)) a b)
+seed_held : (n : ℕ) (sphi cphi centered : Row) (centered_ss mean : Float) → SeedHeld (best_seed n sphi cphi centered centered_ss mean)
+unfolding best_seed score_seed_pair
+seed_held n sphi cphi centered centered_ss mean =
+    best_held _ (λ a b. scored_held (count n) centered_ss mean (pair_sums n centered (grid_row n sphi cphi a) (grid_row n sphi cphi b)) a b)
 
 -- the same of a table's models
-cached-held : (score : SeedModel → Seed) (top : Seed) (models : List SeedModel) → ((m : SeedModel) → AnglesHeld m → SeedHeld (score m))
-    → SeedHeld top → All AnglesHeld models → SeedHeld (bestFrom score top models)
-unfolding bestFrom
-cached-held score top [] sound h all = h
-cached-held score top (m ∷ models) sound h all =
-    cached-held score (inserted top (score m)) models sound (inserted-held top (score m) h (sound m all.0)) all.1
+cached_held : (score : SeedModel → Seed) (top : Seed) (models : List SeedModel) → ((m : SeedModel) → AnglesHeld m → SeedHeld (score m))
+    → SeedHeld top → All AnglesHeld models → SeedHeld (best_from score top models)
+unfolding best_from
+cached_held score top [] sound h all = h
+cached_held score top (m ∷ models) sound h all =
+    cached_held score (inserted top (score m)) models sound (inserted_held top (score m) h (sound m all.0)) all.1
 
-grid-held : (tables : List Table) (w : Matched) (n : ℕ) (ringPhi : Row) (mean : Float) (centered : Row) (centeredSs : Float) → TablesHeld tables
-    → SeedHeld (R.gridSeed tables w n ringPhi mean centered centeredSs)
-unfolding R.gridSeed bestCached scoreCachedSeedModel
-grid-held tables Missing n ringPhi mean centered centeredSs h = seed-held n (sines n ringPhi) (cosines n ringPhi) centered centeredSs mean
-grid-held tables (At t) n ringPhi mean centered centeredSs h =
-    cached-held _ Nothing (table_at tables t).models (λ m a. from-held _ _ _ _ _ _ _ _ a.0 a.1) (omega arith) (table-held tables t h)
+grid_held : (tables : List Table) (w : Matched) (n : ℕ) (ring_phi : Row) (mean : Float) (centered : Row) (centered_ss : Float) → TablesHeld tables
+    → SeedHeld (R.grid_seed tables w n ring_phi mean centered centered_ss)
+unfolding R.grid_seed best_cached score_cached_seed_model
+grid_held tables Missing n ring_phi mean centered centered_ss h = seed_held n (sines n ring_phi) (cosines n ring_phi) centered centered_ss mean
+grid_held tables (At t) n ring_phi mean centered centered_ss h =
+    cached_held _ Nothing (table_at tables t).models (λ m a. from_held _ _ _ _ _ _ _ _ a.0 a.1) (omega arith) (table_held tables t h)
 
 -- a first seed has the mean of the samples, and one of the grid a mean that is finite
 abbrev pub MeanHeld : Float → Params → Type 0
@@ -132,58 +132,58 @@ module _ (P : Start → Type 0) where
   Each none = 0 ≤ 0
   Each (some s) = P s
 
-  chosen-each : (f : Start) (o : Option Start) → P f → Each o → P (chosen f o).answered
+  chosen_each : (f : Start) (o : Option Start) → P f → Each o → P (chosen f o).answered
   unfolding chosen
-  chosen-each f none h k = h
-  chosen-each f (some g) h k = go (isLower g.fit f.fit)
+  chosen_each f none h k = h
+  chosen_each f (some g) h k = go (is_lower g.fit f.fit)
     where
       go : (b : Bool) → P (cond b g f)
       go true = k
       go false = h
 
-  module _ (tables : List Table) (held : TablesHeld tables) (n : ℕ) (samples ringPhi : Row) where
+  module _ (tables : List Table) (held : TablesHeld tables) (n : ℕ) (samples ring_phi : Row) where
     abbrev mean : Float
-    mean = R.meanOf n samples
+    mean = R.mean_of n samples
 
-    abbrev centeredVar : Float
-    centeredVar = R.varianceOf n samples mean
+    abbrev centered_var : Float
+    centered_var = R.variance_of n samples mean
 
     abbrev primary : Start
-    primary = R.start n samples ringPhi (R.firstSeed (secondHarmonic n samples ringPhi mean) mean) centeredVar
+    primary = R.start n samples ring_phi (R.first_seed (second_harmonic n samples ring_phi mean) mean) centered_var
 
-    module _ (all : (seed : Params) → ParamsHeld seed → MeanHeld mean seed → P (R.start n samples ringPhi seed centeredVar)) where
-      primary-each : P primary
-      unfolding secondHarmonic harmonic
-      primary-each =
-          let h = secondHarmonic n samples ringPhi mean in
-          let one = add-fits binary32 h.theta quarterPi in
-          let two = add-fits binary32 h.theta (lit 0x4040_0000 ⊗ quarterPi) in
-          all (R.firstSeed h mean) (record { amp = div-fits binary32 _ (count (n / 2)); one = one; two = two }) (inl refl)
+    module _ (all : (seed : Params) → ParamsHeld seed → MeanHeld mean seed → P (R.start n samples ring_phi seed centered_var)) where
+      primary_each : P primary
+      unfolding second_harmonic harmonic
+      primary_each =
+          let h = second_harmonic n samples ring_phi mean in
+          let one = add-fits binary32 h.theta quarter_pi in
+          let two = add-fits binary32 h.theta (lit 0x4040_0000 ⊗ quarter_pi) in
+          all (R.first_seed h mean) (record { amp = div-fits binary32 _ (count (n / 2)); one = one; two = two }) (inl refl)
 
-      refined-each : (s : Seed) → SeedHeld s → Each (R.refineSeedCandidates n samples ringPhi centeredVar s)
-      unfolding R.refineSeedCandidates
-      refined-each Nothing h = omega arith
-      refined-each (Found s) h = all (R.seeded s) h.0 (inr h.1)
+      refined_each : (s : Seed) → SeedHeld s → Each (R.refine_seed_candidates n samples ring_phi centered_var s)
+      unfolding R.refine_seed_candidates
+      refined_each Nothing h = omega arith
+      refined_each (Found s) h = all (R.seeded s) h.0 (inr h.1)
 
-      grid-each : Each (R.robustGridFit tables n samples ringPhi mean centeredVar)
-      unfolding R.robustGridFit R.gridFitBy
-      grid-each =
-          let centered = R.centeredOf n samples mean in
-          let centeredSs = R.squares n centered in
-          let seed = grid-held tables (firstTable n tables ringPhi) n ringPhi mean centered centeredSs held in
-          go (lt centeredVar (lit 0x3586_37bd) || flat centeredSs) _ (refined-each _ seed)
+      grid_each : Each (R.robust_grid_fit tables n samples ring_phi mean centered_var)
+      unfolding R.robust_grid_fit R.grid_fit_by
+      grid_each =
+          let centered = R.centered_of n samples mean in
+          let centered_ss = R.squares n centered in
+          let seed = grid_held tables (first_table n tables ring_phi) n ring_phi mean centered centered_ss held in
+          go (lt centered_var (lit 0x3586_37bd) || flat centered_ss) _ (refined_each _ seed)
         where
           go : (b : Bool) (o : Option Start) → Each o → Each (cond b none o)
           go true o h = omega arith
           go false o h = h
 
-      pub ring-each : P (R.ring tables n samples ringPhi).answered
+      pub ring_each : P (R.ring tables n samples ring_phi).answered
       unfolding R.ring
-      ring-each = go (R.fitIsSuspicious primary.fit) _ (chosen-each primary _ primary-each grid-each)
+      ring_each = go (R.fit_is_suspicious primary.fit) _ (chosen_each primary _ primary_each grid_each)
         where
           go : (b : Bool) (x : Ring) → P x.answered → P (cond b x (single primary)).answered
           go true x h = h
-          go false x h = primary-each
+          go false x h = primary_each
 
 -- ---- the bill
 pub record Billed (r : RingFit) : Type 0 where
@@ -196,42 +196,42 @@ pub record Billed (r : RingFit) : Type 0 where
 abbrev Few : Start → Type 0
 Few s = s.updates ≤ 6
 
-single-billed : (f : Start) → Few f → Billed (ringFitOf (single f))
-single-billed f h = record { some = omega arith; most = omega arith; first = h; second = omega arith; alone = λ e. refl }
+single_billed : (f : Start) → Few f → Billed (ring_fit_of (single f))
+single_billed f h = record { some = omega arith; most = omega arith; first = h; second = omega arith; alone = λ e. refl }
 
-chosen-billed : (f : Start) (o : Option Start) → Few f → Each Few o → Billed (ringFitOf (chosen f o))
+chosen_billed : (f : Start) (o : Option Start) → Few f → Each Few o → Billed (ring_fit_of (chosen f o))
 unfolding chosen
-chosen-billed f none h k = single-billed f h
-chosen-billed f (some g) h k = record { some = omega arith; most = omega arith; first = h; second = k; alone = λ e. absurd (two e) }
+chosen_billed f none h k = single_billed f h
+chosen_billed f (some g) h k = record { some = omega arith; most = omega arith; first = h; second = k; alone = λ e. absurd (two e) }
   where
     two : ◌≡◌ {A = ℕ} 2 1 → ⊥
     two e = omega arith
 
 pub record SoundRing (r : RingFit) : Type 0 where
-  pub fit : Sound (withoutMean r.fit)
+  pub fit : Sound (without_mean r.fit)
   pub bill : Billed r
 
 -- for every number of samples and all values, non-numbers included
-module _ (tables : List Table) (held : TablesHeld tables) (n : ℕ) (samples ringPhi : Row) where
-  few : (seed : Params) → ParamsHeld seed → MeanHeld (R.meanOf n samples) seed
-      → Few (R.start n samples ringPhi seed (R.varianceOf n samples (R.meanOf n samples)))
+module _ (tables : List Table) (held : TablesHeld tables) (n : ℕ) (samples ring_phi : Row) where
+  few : (seed : Params) → ParamsHeld seed → MeanHeld (R.mean_of n samples) seed
+      → Few (R.start n samples ring_phi seed (R.variance_of n samples (R.mean_of n samples)))
   unfolding R.start
-  few seed h m = start-most n samples ringPhi seed _
+  few seed h m = start_most n samples ring_phi seed _
 
-  ring-billed : Billed (ringFitOf (R.ring tables n samples ringPhi))
+  ring_billed : Billed (ring_fit_of (R.ring tables n samples ring_phi))
   unfolding R.ring
-  ring-billed =
-      let one = primary-each Few tables held n samples ringPhi few in
-      let two = grid-each Few tables held n samples ringPhi few in
-      let f = primary Few tables held n samples ringPhi in
-      let o = R.robustGridFit tables n samples ringPhi (mean Few tables held n samples ringPhi) (centeredVar Few tables held n samples ringPhi) in
-      go (R.fitIsSuspicious f.fit) (chosen f o) (single f) (chosen-billed f o one two) (single-billed f one)
+  ring_billed =
+      let one = primary_each Few tables held n samples ring_phi few in
+      let two = grid_each Few tables held n samples ring_phi few in
+      let f = primary Few tables held n samples ring_phi in
+      let o = R.robust_grid_fit tables n samples ring_phi (mean Few tables held n samples ring_phi) (centered_var Few tables held n samples ring_phi) in
+      go (R.fit_is_suspicious f.fit) (chosen f o) (single f) (chosen_billed f o one two) (single_billed f one)
     where
-      go : (b : Bool) (x y : Ring) → Billed (ringFitOf x) → Billed (ringFitOf y) → Billed (ringFitOf (cond b x y))
+      go : (b : Bool) (x y : Ring) → Billed (ring_fit_of x) → Billed (ring_fit_of y) → Billed (ring_fit_of (cond b x y))
       go true x y h k = h
       go false x y h k = k
 
-  pub ring-sound : SoundRing (recordRing tables n samples ringPhi)
-  unfolding recordRing R.start
-  ring-sound =
-      record { fit = ring-each (λ s. Sound s.fit) tables held n samples ringPhi (λ seed h m. start-sound n samples ringPhi seed _ h); bill = ring-billed }
+  pub ring_sound : SoundRing (record_ring tables n samples ring_phi)
+  unfolding record_ring R.start
+  ring_sound =
+      record { fit = ring_each (λ s. Sound s.fit) tables held n samples ring_phi (λ seed h m. start_sound n samples ring_phi seed _ h); bill = ring_billed }

@@ -1,11 +1,11 @@
 // The whole ring fit: ring_fit/robust.rs, the suspicion gate and the grid search behind it. The grid itself is the crate
 // robust_grid.
 ghost use Rattle.std.specs.Prelude.{◌≡◌, true, [], ◌*◌, ◌<◌, length};
-ghost use Rattle.solver_record.specs.Record.{withoutMean};
-ghost use Rattle.solver.specs.Record.{recordWithSeed};
+ghost use Rattle.solver_record.specs.Record.{without_mean};
+ghost use Rattle.solver.specs.Record.{record_with_seed};
 ghost use Rattle.solver.specs.Buffers.{Prepared};
 ghost use Rattle.robust.specs.Robust as R;
-ghost use Rattle.robust.specs.Record.{recordRing};
+ghost use Rattle.robust.specs.Record.{record_ring};
 ghost use Rattle.robust_choice.specs.Parts.{second_of};
 ghost use Rattle.robust.specs.Parts as P;
 ghost use Rattle.seed_models.specs.Words as W;
@@ -53,7 +53,7 @@ fn deviations(samples: &[f32], mean: f32) -> f32
 }
 
 pub fn relative_rms(f: TwoAxisFit) -> f32
-    ensures { result ≡ R.relativeRms (withoutMean f) }
+    ensures { result ≡ R.relative_rms (without_mean f) }
 {
     if floats::is_finite(f.rms) {
         return floats::max(f.rms, 0.0) / floats::max(f.amp, AMP_FLOOR);
@@ -69,7 +69,7 @@ fn is_outside(sep: f32) -> bool
 
 // The two triggers of the grid.
 fn is_triggered(f: TwoAxisFit) -> bool
-    ensures { result ≡ R.triggered (withoutMean f) }
+    ensures { result ≡ R.triggered (without_mean f) }
 {
     if is_outside(geometry::line_separation(f.theta1, f.theta2)) {
         return true;
@@ -78,7 +78,7 @@ fn is_triggered(f: TwoAxisFit) -> bool
 }
 
 pub fn fit_is_suspicious(f: TwoAxisFit) -> bool
-    ensures { result ≡ R.fitIsSuspicious (withoutMean f) }
+    ensures { result ≡ R.fit_is_suspicious (without_mean f) }
 {
     if !floats::is_finite(f.amp) || !floats::is_finite(f.rms) || f.amp < AMP_FLOOR {
         return false;
@@ -88,7 +88,7 @@ pub fn fit_is_suspicious(f: TwoAxisFit) -> bool
 
 fn center(samples: &[f32], mean: f32, centered: &mut [f32])
     requires { length centered.old ≡ length samples.now }
-    ensures { centered.new ≡ R.centeredOf (length samples.now) samples.now mean }
+    ensures { centered.new ≡ R.centered_of (length samples.now) samples.now mean }
 {
     let n = samples.len();
     for i in 0..n {
@@ -118,7 +118,7 @@ fn started(
     js: &mut [f32],
 ) -> Started
     requires { P.Ready samples.now ring_phi.now sphi.now cphi.now js.old }
-    ensures { result ≡ recordWithSeed (length samples.now) samples.now ring_phi.now seed centered_var }
+    ensures { result ≡ record_with_seed (length samples.now) samples.now ring_phi.now seed centered_var }
 {
     if solver_record::is_degenerate(seed.amp, centered_var) {
         return solver_record::refused(centered_var, seed.mu);
@@ -137,7 +137,7 @@ fn refined(
     js: &mut [f32],
 ) -> Second
     requires { P.Ready samples.now ring_phi.now sphi.now cphi.now js.old }
-    ensures { result ≡ second_of (R.refineSeedCandidates (length samples.now) samples.now ring_phi.now
+    ensures { result ≡ second_of (R.refine_seed_candidates (length samples.now) samples.now ring_phi.now
         centered_var top) }
 {
     let Seed::Found(s) = top else {
@@ -189,7 +189,7 @@ fn grid_fit(
     h: &mut [f32],
 ) -> Second
     requires { P.Ready samples.now ring_phi.now sphi.now cphi.now js.old × P.Rows samples.now h.old }
-    ensures { result ≡ second_of (R.robustGridFit [] (length samples.now) samples.now ring_phi.now
+    ensures { result ≡ second_of (R.robust_grid_fit [] (length samples.now) samples.now ring_phi.now
         mean centered_var) }
 {
     let Centered::Sum(centered_ss) = centered_sum(samples, mean, centered_var, js) else {
@@ -212,9 +212,9 @@ fn cached_fit(
     cphi: &[f32],
     js: &mut [f32],
 ) -> Second
-    requires { (length table.now ≡ W.tableSize) × (length samples.now ≡ W.ringSamples)
+    requires { (length table.now ≡ W.table_size) × (length samples.now ≡ W.ring_samples)
         × P.Ready samples.now ring_phi.now sphi.now cphi.now js.old }
-    ensures { result ≡ second_of (R.gridFitBy (P.cachedSeed table.now mean) W.ringSamples samples.now ring_phi.now
+    ensures { result ≡ second_of (R.grid_fit_by (P.cached_seed table.now mean) W.ring_samples samples.now ring_phi.now
         mean centered_var) }
 {
     let Centered::Sum(centered_ss) = centered_sum(samples, mean, centered_var, js) else {
@@ -236,7 +236,7 @@ pub fn refine_seed_candidates(
     js: &mut [f32],
 ) -> Second
     requires { P.Lent samples.now ring_phi.now sphi.old cphi.old js.old }
-    ensures { result ≡ second_of (R.refineSeedCandidates (length samples.now) samples.now ring_phi.now
+    ensures { result ≡ second_of (R.refine_seed_candidates (length samples.now) samples.now ring_phi.now
         centered_var top) }
 {
     let n = ring_phi.len();
@@ -256,7 +256,7 @@ pub fn robust_grid_fit(
     h: &mut [f32],
 ) -> Second
     requires { P.Lent samples.now ring_phi.now sphi.old cphi.old js.old × P.Rows samples.now h.old }
-    ensures { result ≡ second_of (R.robustGridFit [] (length samples.now) samples.now ring_phi.now
+    ensures { result ≡ second_of (R.robust_grid_fit [] (length samples.now) samples.now ring_phi.now
         mean centered_var) }
 {
     let n = ring_phi.len();
@@ -266,7 +266,7 @@ pub fn robust_grid_fit(
 
 // The axes lie PI/4 on either side of the sector's midpoint.
 fn first_seed(h: Harmonic, mean: f32) -> Params
-    ensures { result ≡ R.firstSeed h mean }
+    ensures { result ≡ R.first_seed h mean }
 {
     Params {
         mu: mean,
@@ -296,8 +296,8 @@ fn start(
     js: &mut [f32],
 ) -> Started
     requires { P.Lent samples.now ring_phi.now sphi.old cphi.old js.old }
-    ensures value { result ≡ recordWithSeed (length samples.now) samples.now ring_phi.now seed centered_var }
-    ensures prepared { R.fitIsSuspicious (withoutMean result.fit) ≡ true → Prepared ring_phi.now sphi.new cphi.new }
+    ensures value { result ≡ record_with_seed (length samples.now) samples.now ring_phi.now seed centered_var }
+    ensures prepared { R.fit_is_suspicious (without_mean result.fit) ≡ true → Prepared ring_phi.now sphi.new cphi.new }
 {
     if solver_record::is_degenerate(seed.amp, centered_var) {
         return solver_record::refused(centered_var, seed.mu);
@@ -316,7 +316,7 @@ fn first_start(
 ) -> First
     requires { P.Lent samples.now ring_phi.now sphi.old cphi.old js.old }
     ensures value { result ≡ P.first_of (length samples.now) samples.now ring_phi.now }
-    ensures prepared { R.fitIsSuspicious (withoutMean result.primary.fit) ≡ true →
+    ensures prepared { R.fit_is_suspicious (without_mean result.primary.fit) ≡ true →
         Prepared ring_phi.now sphi.new cphi.new }
 {
     let n = samples.len();
@@ -385,7 +385,7 @@ fn with_grid_24(
 // samples, so each number has its own two functions, and all that they call serves both.
 pub fn fit_ring(samples: &[f32], ring_phi: &[f32]) -> RingFit
     requires { (length samples.now ≡ 16) × (length ring_phi.now ≡ 16) }
-    ensures { result ≡ recordRing [] (length samples.now) samples.now ring_phi.now }
+    ensures { result ≡ record_ring [] (length samples.now) samples.now ring_phi.now }
 {
     let mut sphi = [0.0f32; 16];
     let mut cphi = [0.0f32; 16];
@@ -409,9 +409,9 @@ fn with_table(
     cphi: &[f32],
     js: &mut [f32],
 ) -> RingFit
-    requires { (length words.now ≡ W.stateSize) × (t < W.mostTables) × (length samples.now ≡ W.ringSamples)
+    requires { (length words.now ≡ W.state_size) × (t < W.most_tables) × (length samples.now ≡ W.ring_samples)
         × P.Ready samples.now ring_phi.now sphi.now cphi.now js.old }
-    ensures { P.WithTable (W.tablePart words.now t) samples.now ring_phi.now f result }
+    ensures { P.WithTable (W.table_part words.now t) samples.now ring_phi.now f result }
 {
     let b = 1 + t * seed_models::TABLE_SIZE;
     let e = b + seed_models::TABLE_SIZE;
@@ -438,9 +438,9 @@ fn with_tables(
     cphi: &[f32],
     js: &mut [f32],
 ) -> RingFit
-    requires { (length words.now ≡ W.stateSize) × (length samples.now ≡ 16)
+    requires { (length words.now ≡ W.state_size) × (length samples.now ≡ 16)
         × P.Ready samples.now ring_phi.now sphi.now cphi.now js.old }
-    ensures { P.WithGrid (W.tablesIn words.now) samples.now ring_phi.now f result }
+    ensures { P.WithGrid (W.tables_in words.now) samples.now ring_phi.now f result }
 {
     let Matched::At(t) = seed_models::first_table(words, ring_phi) else {
         return with_grid_16(samples, ring_phi, f, sphi, cphi, js);
@@ -449,8 +449,8 @@ fn with_tables(
 }
 
 pub fn fit_ring_with(words: &[f32], samples: &[f32], ring_phi: &[f32]) -> RingFit
-    requires { (length words.now ≡ W.stateSize) × (length samples.now ≡ 16) × (length ring_phi.now ≡ 16) }
-    ensures { result ≡ recordRing (W.tablesIn words.now) (length samples.now) samples.now
+    requires { (length words.now ≡ W.state_size) × (length samples.now ≡ 16) × (length ring_phi.now ≡ 16) }
+    ensures { result ≡ record_ring (W.tables_in words.now) (length samples.now) samples.now
         ring_phi.now }
 {
     let mut sphi = [0.0f32; 16];
@@ -467,7 +467,7 @@ pub fn fit_ring_with(words: &[f32], samples: &[f32], ring_phi: &[f32]) -> RingFi
 // The fit of 24 samples: ours, without a counterpart in the Rust.
 pub fn fit_ring24(samples: &[f32], ring_phi: &[f32]) -> RingFit
     requires { (length samples.now ≡ 24) × (length ring_phi.now ≡ 24) }
-    ensures { result ≡ recordRing [] (length samples.now) samples.now ring_phi.now }
+    ensures { result ≡ record_ring [] (length samples.now) samples.now ring_phi.now }
 {
     let mut sphi = [0.0f32; 24];
     let mut cphi = [0.0f32; 24];

@@ -11,8 +11,8 @@ use Rattle.solver.specs.Solver.{Final}
 -- ---- a start: fit_with_seed's fit, the standing of its errors and its number of updates, and what they were made of: where the updates stopped,
 -- with the sums of the last pass, or, where the start is degenerate, the seed alone
 pub data Source : Type 0 where
-  ofPass : Final → Source
-  ofSeed : Params → Source
+  of_pass : Final → Source
+  of_seed : Params → Source
 
 pub record Start : Type 0 where
   pub fit : RustFit
@@ -32,9 +32,9 @@ abbrev pub single : Start → Ring
 single f = record { answered = f; starts = 1; first = f.updates; second = 0 }
 
 -- the second start is answered only where its residual is lower by more than 1e-3
-abbrev pub isLower : RustFit → RustFit → Bool
-isLower candidate primary = lt candidate.rms (primary.rms ⊖ lit 0x3a83_126f)
+abbrev pub is_lower : RustFit → RustFit → Bool
+is_lower candidate primary = lt candidate.rms (primary.rms ⊖ lit 0x3a83_126f)
 
 unfoldable pub chosen : Start → Option Start → Ring
 chosen f none = single f
-chosen f (some g) = record { answered = cond (isLower g.fit f.fit) g f; starts = 2; first = f.updates; second = g.updates }
+chosen f (some g) = record { answered = cond (is_lower g.fit f.fit) g f; starts = 2; first = f.updates; second = g.updates }

@@ -24,7 +24,7 @@ pub struct RingFit {
 
 // The answer without the grid.
 pub fn alone(primary: Started) -> RingFit
-    ensures { result ≡ P.aloneOf primary }
+    ensures { result ≡ P.alone_of primary }
 {
     let fit = primary.fit;
     let standing = primary.standing;
@@ -39,7 +39,7 @@ pub fn alone(primary: Started) -> RingFit
 
 // Of two starts the second is answered only where its residual is lower by more than 1e-3.
 fn lower(primary: Started, candidate: Started) -> Started
-    ensures { result ≡ P.lowerOf primary candidate }
+    ensures { result ≡ P.lower_of primary candidate }
 {
     let f = primary.fit;
     let g = candidate.fit;

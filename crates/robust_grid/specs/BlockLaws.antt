@@ -11,72 +11,72 @@ use Rattle.std.proofs.Math.Dec.{leb, eqb-suc-zero}
 use Rattle.std.specs.Float.Ieee.{le}
 use Rattle.floats.specs.Rows.{Row, at, count}
 use Rattle.loops.specs.Loops.{iter}
-use Rattle.loops.specs.IterLaws.{iter-same, iter-idle}
+use Rattle.loops.specs.IterLaws.{iter_same, iter_idle}
 use Rattle.seed.specs.Seed.{scored}
 use Rattle.seed.specs.declared.Seed.{Seed}
 use Rattle.robust_lanes.specs.declared.Models.{Models}
-use Rattle.robust_lanes.specs.Lanes.{inserted, laneSums, modelsOf, meanSquare, meanSquares, Squared, BestBound}
-use Rattle.robust_lanes.specs.LaneLaws.{four-at}
-use Rattle.robust_lanes.specs.SkipLaws.{scored-squared, skipped}
+use Rattle.robust_lanes.specs.Lanes.{inserted, lane_sums, models_of, mean_square, mean_squares, Squared, BestBound}
+use Rattle.robust_lanes.specs.LaneLaws.{four_at}
+use Rattle.robust_lanes.specs.SkipLaws.{scored_squared, skipped}
 use Rattle.robust_grid.specs.declared.Pair.{Pair}
 use Rattle.robust_grid.specs.Grid.{tries}
-use Rattle.robust_grid.specs.Places.{last_of, laneScore, lanesTried, stepAt, blockSteps, scoreAt}
+use Rattle.robust_grid.specs.Places.{last_of, lane_score, lanes_tried, step_at, block_steps, score_at}
 
-pub last-most : (a : ℕ) → last_of a ≤ 22
-last-most zero = lit≤ tt
-last-most (suc a) = rw (eqb-suc-zero a) (lit≤ tt)
+pub last_most : (a : ℕ) → last_of a ≤ 22
+last_most zero = lit≤ tt
+last_most (suc a) = rw (eqb-suc-zero a) (lit≤ tt)
 
 -- ---- the lanes of four pairs
-module _ (n centeredSs mean : Float) (m : Models) (p : Pair) where
-  abbrev pub laneStep : ℕ → Seed → Seed
-  laneStep k top = cond (leb (p.b + k) (last_of p.a)) (inserted top (laneScore n centeredSs mean m p k)) top
+module _ (n centered_ss mean : Float) (m : Models) (p : Pair) where
+  abbrev pub lane_step : ℕ → Seed → Seed
+  lane_step k top = cond (leb (p.b + k) (last_of p.a)) (inserted top (lane_score n centered_ss mean m p k)) top
 
   -- past the last pair nothing is left
-  pub lanes_end : (k : ℕ) (top₀ top : Seed) → k ≤ 4 → leb (p.b + k) (last_of p.a) ≡ false → top ≡ iter laneStep top₀ k
-      → top ≡ lanesTried n centeredSs mean m p top₀
-  unfolding lanesTried
+  pub lanes_end : (k : ℕ) (top₀ top : Seed) → k ≤ 4 → leb (p.b + k) (last_of p.a) ≡ false → top ≡ iter lane_step top₀ k
+      → top ≡ lanes_tried n centered_ss mean m p top₀
+  unfolding lanes_tried
   lanes_end k top₀ top l t e =
       let z : k + (4 - k) ≡ 4 = omega arith in
       let past = leb-false (p.b + k) (last_of p.a) t in
-      let idle = iter-idle laneStep top₀ k (4 - k) (λ i h x. off i x (lt-leb (p.b + i) (last_of p.a) (omega (arith, past)))) in
+      let idle = iter_idle lane_step top₀ k (4 - k) (λ i h x. off i x (lt-leb (p.b + i) (last_of p.a) (omega (arith, past)))) in
       e ∙ sym (rw z at idle)
     where
-      off : (i : ℕ) (x : Seed) → leb (p.b + i) (last_of p.a) ≡ false → laneStep i x ≡ x
+      off : (i : ℕ) (x : Seed) → leb (p.b + i) (last_of p.a) ≡ false → lane_step i x ≡ x
       off i x t = rw t
 
-  module _ (xs : Row) (ex : xs ≡ meanSquares m n centeredSs) (k : ℕ) (l : k < 4) where
-    pub lane-squared : Squared (at xs k) (laneScore n centeredSs mean m p k)
-    lane-squared =
-        let is = ap (λ (r : Row). at r k) ex ∙ four-at (λ k. meanSquare n centeredSs (at m.num k) (at m.denom k)) k l in
-        subst (λ (x : Float). Squared x (laneScore n centeredSs mean m p k)) (sym is) (scored-squared n centeredSs mean _ _ _ _ _)
+  module _ (xs : Row) (ex : xs ≡ mean_squares m n centered_ss) (k : ℕ) (l : k < 4) where
+    pub lane_squared : Squared (at xs k) (lane_score n centered_ss mean m p k)
+    lane_squared =
+        let is = ap (λ (r : Row). at r k) ex ∙ four_at (λ k. mean_square n centered_ss (at m.num k) (at m.denom k)) k l in
+        subst (λ (x : Float). Squared x (lane_score n centered_ss mean m p k)) (sym is) (scored_squared n centered_ss mean _ _ _ _ _)
 
-    pub lane-skipped : (top : Seed) (bound : Float) → leb (p.b + k) (last_of p.a) ≡ true → BestBound top bound → le bound (at xs k) ≡ true
-        → top ≡ laneStep k top
-    lane-skipped top bound t q h = rw t (sym (skipped top (laneScore n centeredSs mean m p k) bound (at xs k) q lane-squared h))
+    pub lane_skipped : (top : Seed) (bound : Float) → leb (p.b + k) (last_of p.a) ≡ true → BestBound top bound → le bound (at xs k) ≡ true
+        → top ≡ lane_step k top
+    lane_skipped top bound t q h = rw t (sym (skipped top (lane_score n centered_ss mean m p k) bound (at xs k) q lane_squared h))
 
-  pub lane-tried : (k : ℕ) (top next c : Seed) → leb (p.b + k) (last_of p.a) ≡ true → c ≡ laneScore n centeredSs mean m p k → next ≡ inserted top c
-      → next ≡ laneStep k top
-  lane-tried k top next c t e d = rw t (d ∙ ap (inserted top) e)
+  pub lane_tried : (k : ℕ) (top next c : Seed) → leb (p.b + k) (last_of p.a) ≡ true → c ≡ lane_score n centered_ss mean m p k → next ≡ inserted top c
+      → next ≡ lane_step k top
+  lane_tried k top next c t e d = rw t (d ∙ ap (inserted top) e)
 
 -- ---- the lanes that the grid's sums bring
-module _ (h centered : Row) (centeredSs mean : Float) (p : Pair) where
+module _ (h centered : Row) (centered_ss mean : Float) (p : Pair) where
   abbrev n : ℕ
   n = length centered
 
   abbrev lanes : Models
-  lanes = modelsOf (laneSums n centered h p.a p.b) (count n)
+  lanes = models_of (lane_sums n centered h p.a p.b) (count n)
 
-  lane-is : (k : ℕ) → k < 4 → laneScore (count n) centeredSs mean lanes p k ≡ scoreAt n h centered centeredSs mean p.a (p.b + k)
-  unfolding scoreAt scored laneSums
-  lane-is zero l = refl
-  lane-is (suc zero) l = refl
-  lane-is (suc (suc zero)) l = refl
-  lane-is (suc (suc (suc zero))) l = refl
-  lane-is (suc (suc (suc (suc k)))) l = absurd (none k l)
+  lane_is : (k : ℕ) → k < 4 → lane_score (count n) centered_ss mean lanes p k ≡ score_at n h centered centered_ss mean p.a (p.b + k)
+  unfolding score_at scored lane_sums
+  lane_is zero l = refl
+  lane_is (suc zero) l = refl
+  lane_is (suc (suc zero)) l = refl
+  lane_is (suc (suc (suc zero))) l = refl
+  lane_is (suc (suc (suc (suc k)))) l = absurd (none k l)
     where
       none : (k : ℕ) → suc (suc (suc (suc k))) < 4 → ⊥
       none k l = omega arith
 
-  pub grid-lanes : (top : Seed) → lanesTried (count n) centeredSs mean lanes p top ≡ blockSteps (tries (scoreAt n h centered centeredSs mean)) p top
-  unfolding lanesTried blockSteps stepAt
-  grid-lanes top = iter-same _ _ top 4 (λ k l x. rw (lane-is k l))
+  pub grid_lanes : (top : Seed) → lanes_tried (count n) centered_ss mean lanes p top ≡ block_steps (tries (score_at n h centered centered_ss mean)) p top
+  unfolding lanes_tried block_steps step_at
+  grid_lanes top = iter_same _ _ top 4 (λ k l x. rw (lane_is k l))

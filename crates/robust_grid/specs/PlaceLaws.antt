@@ -7,16 +7,16 @@ use borrow.Author.Count.{below_none, below_more}
 use Rattle.std.proofs.Math.ListN.{length}
 use Rattle.std.specs.Float.Ieee.{nan}
 use Rattle.floats.specs.Rows.{Row, at}
-use Rattle.elementary.specs.Elementary.{sinCos}
+use Rattle.elementary.specs.Elementary.{sin_cos}
 use Rattle.elementary.specs.declared.SinCos.{SinCos}
-use Rattle.loops.specs.IterLaws.{iter-same, range_same}
-use Rattle.loops.specs.TabLaws.{tab-length, tab-at, tab-same, part-kept, part_same}
-use Rattle.seed.specs.Seed.{zeros, pair_sums, scoreSeedPair}
+use Rattle.loops.specs.IterLaws.{iter_same, range_same}
+use Rattle.loops.specs.TabLaws.{tab_length, tab_at, tab_same, part_kept, part_same}
+use Rattle.seed.specs.Seed.{zeros, pair_sums, score_seed_pair}
 use Rattle.seed.specs.declared.Seed.{Seed}
 use Rattle.seed.specs.declared.Seed.TheVariants.{Nothing}
-use Rattle.robust_grid.specs.Grid.{gridAngle, factor, gridRow, pair_at, pairsFrom, allPairs, tries, bestOf, bestSeed}
-use Rattle.robust_grid.specs.Places.{Axes, rowFrom, sampleRow, sampleRowAt, Grid, scoreAt}
-use Rattle.robust_lanes.specs.Lanes.{gridPlaces, sumsAt}
+use Rattle.robust_grid.specs.Grid.{grid_angle, factor, grid_row, pair_at, pairs_from, all_pairs, tries, best_of, best_seed}
+use Rattle.robust_grid.specs.Places.{Axes, row_from, sample_row, sample_row_at, Grid, score_at}
+use Rattle.robust_lanes.specs.Lanes.{grid_places, sums_at}
 
 -- ---- scores that agree on the grid have the same best
 module _ (f g : ℕ → ℕ → Seed) (h : (a b : ℕ) → a < 23 → b < 23 → f a b ≡ g a b) where
@@ -24,56 +24,56 @@ module _ (f g : ℕ → ℕ → Seed) (h : (a b : ℕ) → a < 23 → b < 23 →
   unfolding pair_at
   pair_same a b x y top = rw (h a b x y)
 
-  pairs-same : (a : ℕ) → a < 23 → (top : Seed) → pairsFrom (tries f) a top ≡ pairsFrom (tries g) a top
-  unfolding pairsFrom
-  pairs-same a x top = range_same _ _ top (a + 1) 23 (λ b l y s. pair_same a b x y s)
+  pairs_same : (a : ℕ) → a < 23 → (top : Seed) → pairs_from (tries f) a top ≡ pairs_from (tries g) a top
+  unfolding pairs_from
+  pairs_same a x top = range_same _ _ top (a + 1) 23 (λ b l y s. pair_same a b x y s)
 
-  best-same : bestOf f ≡ bestOf g
-  unfolding bestOf allPairs
-  best-same = iter-same _ _ Nothing 23 (λ a l top. pairs-same a l top)
+  best_same : best_of f ≡ best_of g
+  unfolding best_of all_pairs
+  best_same = iter_same _ _ Nothing 23 (λ a l top. pairs_same a l top)
 
 -- ---- a sample's row
-pub row_is : (s c : Float) (sines cosines : Row) → Axes sines cosines → rowFrom s c sines cosines ≡ sampleRow s c
-unfolding rowFrom sampleRow
-row_is s c sines cosines x = tab-same _ _ gridPlaces (λ a l. ap (factor s c) (both a l))
+pub row_is : (s c : Float) (sines cosines : Row) → Axes sines cosines → row_from s c sines cosines ≡ sample_row s c
+unfolding row_from sample_row
+row_is s c sines cosines x = tab_same _ _ grid_places (λ a l. ap (factor s c) (both a l))
   where
-    both : (a : ℕ) → a < gridPlaces → ◌≡◌ {A = SinCos} (record { s = at sines a; c = at cosines a }) (sinCos (gridAngle a))
-    both a l = rw (x.s, x.c, tab-at (λ a. (sinCos (gridAngle a)).s) nan gridPlaces a l, tab-at (λ a. (sinCos (gridAngle a)).c) nan gridPlaces a l)
+    both : (a : ℕ) → a < grid_places → ◌≡◌ {A = SinCos} (record { s = at sines a; c = at cosines a }) (sin_cos (grid_angle a))
+    both a l = rw (x.s, x.c, tab_at (λ a. (sin_cos (grid_angle a)).s) nan grid_places a l, tab_at (λ a. (sin_cos (grid_angle a)).c) nan grid_places a l)
 
 -- ---- the buffer, sample by sample
 module _ {sphi cphi : Row} where
-  pub grid-none : {h : Row} → Grid sphi cphi h 0
-  grid-none = record { row = below_none _ }
+  pub grid_none : {h : Row} → Grid sphi cphi h 0
+  grid_none = record { row = below_none _ }
 
   -- the row of sample k came back as r
-  pub grid-more : {h : Row} (r x : Row) {k : ℕ} → Grid sphi cphi h k → k * gridPlaces ≤ length h → r ≡ sampleRow (at sphi k) (at cphi k)
-      → Grid sphi cphi (take (k * gridPlaces) h ++ (r ++ x)) (k + 1)
-  unfolding sampleRow
-  grid-more {h} r x {k} g room e =
-      let l : length r ≡ gridPlaces = ap length e ∙ tab-length _ gridPlaces in
+  pub grid_more : {h : Row} (r x : Row) {k : ℕ} → Grid sphi cphi h k → k * grid_places ≤ length h → r ≡ sample_row (at sphi k) (at cphi k)
+      → Grid sphi cphi (take (k * grid_places) h ++ (r ++ x)) (k + 1)
+  unfolding sample_row
+  grid_more {h} r x {k} g room e =
+      let l : length r ≡ grid_places = ap length e ∙ tab_length _ grid_places in
       record {
-        row = below_more (λ i. sampleRowAt (take (k * gridPlaces) h ++ (r ++ x)) i ≡ sampleRow (at sphi i) (at cphi i)) k
-            (λ i b. part-kept h (r ++ x) (k * gridPlaces) (i * gridPlaces) gridPlaces room (omega arith) ∙ g.row i b)
-            (part_same h r x (k * gridPlaces) gridPlaces room l ∙ e);
+        row = below_more (λ i. sample_row_at (take (k * grid_places) h ++ (r ++ x)) i ≡ sample_row (at sphi i) (at cphi i)) k
+            (λ i b. part_kept h (r ++ x) (k * grid_places) (i * grid_places) grid_places room (omega arith) ∙ g.row i b)
+            (part_same h r x (k * grid_places) grid_places room l ∙ e);
       }
 
   -- what stands at a place
-  place : {h : Row} {n : ℕ} → Grid sphi cphi h n → (i : ℕ) → i < n → (a : ℕ) → a < gridPlaces
-      → at h (i * gridPlaces + a) ≡ factor (at sphi i) (at cphi i) (sinCos (gridAngle a))
-  unfolding sampleRow
+  place : {h : Row} {n : ℕ} → Grid sphi cphi h n → (i : ℕ) → i < n → (a : ℕ) → a < grid_places
+      → at h (i * grid_places + a) ≡ factor (at sphi i) (at cphi i) (sin_cos (grid_angle a))
+  unfolding sample_row
   place {h} g i l a b =
-      sym (get_or-drop (i * gridPlaces) h a nan) ∙ sym (get_or-take gridPlaces (drop (i * gridPlaces) h) a nan b) ∙ ap (λ (r : Row). at r a) (g.row i l)
-      ∙ tab-at (λ a. factor (at sphi i) (at cphi i) (sinCos (gridAngle a))) nan gridPlaces a b
+      sym (get_or-drop (i * grid_places) h a nan) ∙ sym (get_or-take grid_places (drop (i * grid_places) h) a nan b) ∙ ap (λ (r : Row). at r a) (g.row i l)
+      ∙ tab_at (λ a. factor (at sphi i) (at cphi i) (sin_cos (grid_angle a))) nan grid_places a b
 
-  pub grid-at : {h : Row} {n : ℕ} → Grid sphi cphi h n → (a : ℕ) → a < 23 → (i : ℕ) → i < n → at h (i * gridPlaces + a) ≡ at (gridRow n sphi cphi a) i
-  unfolding gridRow
-  grid-at {h} {n} g a x i l = place g i l a (omega arith) ∙ sym (tab-at (λ i. factor (at sphi i) (at cphi i) (sinCos (gridAngle a))) nan n i l)
+  pub grid_at : {h : Row} {n : ℕ} → Grid sphi cphi h n → (a : ℕ) → a < 23 → (i : ℕ) → i < n → at h (i * grid_places + a) ≡ at (grid_row n sphi cphi a) i
+  unfolding grid_row
+  grid_at {h} {n} g a x i l = place g i l a (omega arith) ∙ sym (tab_at (λ i. factor (at sphi i) (at cphi i) (sin_cos (grid_angle a))) nan n i l)
 
   module _ {h : Row} {n : ℕ} (g : Grid sphi cphi h n) (centered : Row) where
-    sums_same : (a b : ℕ) → a < 23 → b < 23 → sumsAt n centered h a b ≡ pair_sums n centered (gridRow n sphi cphi a) (gridRow n sphi cphi b)
-    unfolding sumsAt pair_sums
-    sums_same a b x y = iter-same _ _ zeros n (λ i l s. rw (grid-at g a x i l, grid-at g b y i l))
+    sums_same : (a b : ℕ) → a < 23 → b < 23 → sums_at n centered h a b ≡ pair_sums n centered (grid_row n sphi cphi a) (grid_row n sphi cphi b)
+    unfolding sums_at pair_sums
+    sums_same a b x y = iter_same _ _ zeros n (λ i l s. rw (grid_at g a x i l, grid_at g b y i l))
 
-    pub grid-best : (centeredSs mean : Float) → bestOf (scoreAt n h centered centeredSs mean) ≡ bestSeed n sphi cphi centered centeredSs mean
-    unfolding bestSeed scoreAt scoreSeedPair
-    grid-best centeredSs mean = best-same _ _ (λ a b x y. rw (sums_same a b x y))
+    pub grid_best : (centered_ss mean : Float) → best_of (score_at n h centered centered_ss mean) ≡ best_seed n sphi cphi centered centered_ss mean
+    unfolding best_seed score_at score_seed_pair
+    grid_best centered_ss mean = best_same _ _ (λ a b x y. rw (sums_same a b x y))

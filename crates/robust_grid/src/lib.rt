@@ -1,7 +1,7 @@
 // The grid of seeds behind a suspicious start: ring_fit/robust.rs, the rows of robust_grid_fit, and four pairs of them.
 ghost use Rattle.std.specs.Prelude.{◌≡◌, ◌+◌, ◌*◌, ◌≤◌, ◌<◌, leb, length};
 ghost use Rattle.floats.specs.Rows.{count};
-ghost use Rattle.solver.specs.Buffers.{maxSamples};
+ghost use Rattle.solver.specs.Buffers.{max_samples};
 ghost use Rattle.robust_grid.specs.Grid as G;
 ghost use Rattle.robust_grid.specs.Places as P;
 ghost use Rattle.robust_lanes.specs.Lanes as L;
@@ -12,8 +12,8 @@ use robust_lanes::{Best, Models};
 const GRID_STEP: f32 = 0.139626339;
 
 fn grid_angle(a: usize) -> f32
-    requires { a < L.gridPlaces }
-    ensures { result ≡ G.gridAngle a }
+    requires { a < L.grid_places }
+    ensures { result ≡ G.grid_angle a }
 {
     floats::count_f32(a) * GRID_STEP
 }
@@ -21,7 +21,7 @@ fn grid_angle(a: usize) -> f32
 // Sine and cosine of each angle of the grid. All are below 64 in size, so that this becomes vector code. Here and in
 // `grid_row` the loop runs over all places: to 23 the compiler would leave three angles apart. Place 23 is not used.
 fn grid_axes(sines: &mut [f32], cosines: &mut [f32])
-    requires { (length sines.old ≡ L.gridPlaces) × (length cosines.old ≡ L.gridPlaces) }
+    requires { (length sines.old ≡ L.grid_places) × (length cosines.old ≡ L.grid_places) }
     ensures { P.Axes sines.new cosines.new }
 {
     for a in 0..robust_lanes::GRID_PLACES {
@@ -33,8 +33,8 @@ fn grid_axes(sines: &mut [f32], cosines: &mut [f32])
 
 // The model's factor of one sample at each angle of the grid.
 fn grid_row(s: f32, c: f32, sines: &[f32], cosines: &[f32], row: &mut [f32])
-    requires { (length sines.now ≡ L.gridPlaces) × (length cosines.now ≡ L.gridPlaces) × (length row.old ≡ L.gridPlaces) }
-    ensures { row.new ≡ P.rowFrom s c sines.now cosines.now }
+    requires { (length sines.now ≡ L.grid_places) × (length cosines.now ≡ L.grid_places) × (length row.old ≡ L.grid_places) }
+    ensures { row.new ≡ P.row_from s c sines.now cosines.now }
 {
     for a in 0..robust_lanes::GRID_PLACES {
         row[a] = elementary::tanh(solver::TANH_BETA * (s * cosines[a] - c * sines[a]));
@@ -43,8 +43,8 @@ fn grid_row(s: f32, c: f32, sines: &[f32], cosines: &[f32], row: &mut [f32])
 
 // All samples.
 pub fn fill_grid(sphi: &[f32], cphi: &[f32], h: &mut [f32])
-    requires { (length cphi.now ≡ length sphi.now) × (length sphi.now ≤ maxSamples)
-        × (length h.old ≡ L.gridPlaces * length sphi.now + 2) }
+    requires { (length cphi.now ≡ length sphi.now) × (length sphi.now ≤ max_samples)
+        × (length h.old ≡ L.grid_places * length sphi.now + 2) }
     ensures { P.Grid sphi.now cphi.now h.new (length sphi.now) }
 {
     let n = sphi.len();
@@ -79,14 +79,14 @@ pub struct Pair {
 }
 
 pub fn first_block() -> Pair
-    ensures { result ≡ P.firstBlock }
+    ensures { result ≡ P.first_block }
 {
     Pair { a: 0, b: 2 }
 }
 
 pub fn next_block(p: Pair) -> Pair
     requires { (p.a < 21) × (p.b < 23) }
-    ensures { result ≡ P.nextBlock p }
+    ensures { result ≡ P.next_block p }
 {
     if p.b + 4 <= last_of(p.a) {
         return Pair { a: p.a, b: p.b + 4 };
@@ -117,7 +117,7 @@ pub fn lanes_tried(
     p: Pair,
 ) -> Best
     requires { L.BestKept best0 × (n ≡ count samples) × (p.a < 21) × (p.b < 23) }
-    ensures { (result.top ≡ P.lanesTried n centered_ss mean m p best0.top) × L.BestKept result }
+    ensures { (result.top ≡ P.lanes_tried n centered_ss mean m p best0.top) × L.BestKept result }
 {
     let mut best = best0;
     let xs = robust_lanes::mean_squares(m, samples, n, centered_ss);

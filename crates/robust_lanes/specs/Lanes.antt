@@ -5,8 +5,8 @@ use Rattle.floats.specs.Ops.{◌⊕◌, ◌⊖◌, ◌⊗◌, ◌⊘◌, nought}
 use Rattle.floats.specs.Rows.{Row, at}
 use Rattle.floats.specs.Library.{max, sqrt}
 use Rattle.loops.specs.Loops.{iter}
-use Rattle.solver.specs.Buffers.{maxSamples}
-use Rattle.seed.specs.Seed.{zeros, summedBy, insertSeedCandidate}
+use Rattle.solver.specs.Buffers.{max_samples}
+use Rattle.seed.specs.Seed.{zeros, summed_by, insert_seed_candidate}
 use Rattle.seed.specs.declared.Sums.{Sums}
 use Rattle.seed.specs.declared.Seed.{Seed}
 use Rattle.seed.specs.declared.Seed.TheVariants.{Found, Nothing}
@@ -15,29 +15,29 @@ use Rattle.robust_lanes.specs.declared.Lanes.{Lanes}
 use Rattle.robust_lanes.specs.declared.Models.{Models}
 
 -- the grid's rows stand so far apart: a place for each of its 23 angles, and one that evens them out
-abbrev pub gridPlaces : ℕ
-gridPlaces = 24
+abbrev pub grid_places : ℕ
+grid_places = 24
 
 -- these places for each sample, and two that the last lanes of the last sample look at
 pub record GridRoom (centered h : Row) : Type 0 where
-  pub few : length centered ≤ maxSamples
-  pub places : length h ≡ gridPlaces * length centered + 2
+  pub few : length centered ≤ max_samples
+  pub places : length h ≡ grid_places * length centered + 2
 
 -- ---- four pairs
 -- the sums of the angles a and b
-unfoldable pub sumsAt : ℕ → Row → Row → ℕ → ℕ → Sums
-sumsAt n centered h a b = iter (λ i. summedBy (at centered i) (at h (i * gridPlaces + a)) (at h (i * gridPlaces + b))) zeros n
+unfoldable pub sums_at : ℕ → Row → Row → ℕ → ℕ → Sums
+sums_at n centered h a b = iter (λ i. summed_by (at centered i) (at h (i * grid_places + a)) (at h (i * grid_places + b))) zeros n
 
 abbrev pub four : (ℕ → Float) → Row
 four f = f 0 ∷ f 1 ∷ f 2 ∷ f 3 ∷ []
 
 -- of the angle a with b, b + 1, b + 2 and b + 3
-unfoldable pub laneSums : ℕ → Row → Row → ℕ → ℕ → Lanes
-laneSums n centered h a b =
+unfoldable pub lane_sums : ℕ → Row → Row → ℕ → ℕ → Lanes
+lane_sums n centered h a b =
     record {
-      q_sum = four (λ k. (sumsAt n centered h a (b + k)).q_sum);
-      q2_sum = four (λ k. (sumsAt n centered h a (b + k)).q2_sum);
-      num = four (λ k. (sumsAt n centered h a (b + k)).num);
+      q_sum = four (λ k. (sums_at n centered h a (b + k)).q_sum);
+      q2_sum = four (λ k. (sums_at n centered h a (b + k)).q2_sum);
+      num = four (λ k. (sums_at n centered h a (b + k)).num);
     }
 
 abbrev pub times : Float → Row → Row
@@ -50,28 +50,28 @@ abbrev pub squared : Row → Row
 squared y = four (λ k. at y k ⊗ at y k)
 
 -- a sample v more, which has the factor x at the angle a and the factors y at the other four
-abbrev pub lanesAdded : Lanes → Float → Float → Row → Lanes
-lanesAdded s v x y =
+abbrev pub lanes_added : Lanes → Float → Float → Row → Lanes
+lanes_added s v x y =
     let q = times x y in
     record { q_sum = plus s.q_sum q; q2_sum = plus s.q2_sum (squared q); num = plus s.num (times v q) }
 
 -- what four pairs bring to their scores, from their sums; n is the number of samples as a float
-abbrev pub modelsOf : Lanes → Float → Models
-modelsOf s n =
+abbrev pub models_of : Lanes → Float → Models
+models_of s n =
     let mean = four (λ k. at s.q_sum k ⊘ n) in
     record { q_mean = mean; denom = four (λ k. at s.q2_sum k ⊖ at s.q_sum k ⊗ at mean k); num = s.num }
 
 -- what the root of a pair's rms is taken of
-unfoldable pub meanSquare : Float → Float → Float → Float → Float
-meanSquare n centeredSs num denom = max (centeredSs ⊖ num ⊗ num ⊘ denom) nought ⊘ n
+unfoldable pub mean_square : Float → Float → Float → Float → Float
+mean_square n centered_ss num denom = max (centered_ss ⊖ num ⊗ num ⊘ denom) nought ⊘ n
 
-abbrev pub meanSquares : Models → Float → Float → Row
-meanSquares m n centeredSs = four (λ k. meanSquare n centeredSs (at m.num k) (at m.denom k))
+abbrev pub mean_squares : Models → Float → Float → Row
+mean_squares m n centered_ss = four (λ k. mean_square n centered_ss (at m.num k) (at m.denom k))
 
 -- ---- the best so far: ring_fit/robust.rs, a pair that scored is inserted
 unfoldable pub inserted : Seed → Seed → Seed
 inserted top Nothing = top
-inserted top (Found c) = insertSeedCandidate top c
+inserted top (Found c) = insert_seed_candidate top c
 
 -- x is what the root of a seed's rms was taken of; where there is no seed nothing is said
 abbrev pub Squared : Float → Seed → Type 0

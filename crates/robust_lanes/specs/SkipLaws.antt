@@ -7,58 +7,58 @@ use Rattle.std.proofs.lemmas.Bool.{false≢true}
 use lib.Ieee.{Float, binary32, lt, le}
 use Rattle.std.specs.Float.Ieee.Scale.{finite}
 use Rattle.floats.specs.Library.{sqrt}
-use Rattle.floats.specs.RootOrderLaws.{sqrt-mono}
-use Rattle.seed.specs.Seed.{flat, kept, seedFrom, scoredFrom, insertSeedCandidate}
+use Rattle.floats.specs.RootOrderLaws.{sqrt_mono}
+use Rattle.seed.specs.Seed.{flat, kept, seed_from, scored_from, insert_seed_candidate}
 use Rattle.seed.specs.declared.Seed.{Seed}
 use Rattle.seed.specs.declared.Seed.TheVariants.{Found, Nothing}
 use Rattle.seed.specs.declared.SeedCandidate.{SeedCandidate}
-use Rattle.robust_lanes.specs.Lanes.{inserted, meanSquare, Squared, BestBound, BestKept}
+use Rattle.robust_lanes.specs.Lanes.{inserted, mean_square, Squared, BestBound, BestKept}
 
 -- a seed's rms is the root of its pair's mean square
-kept-squared : (c : SeedCandidate) (x : Float) → c.rms ≡ sqrt binary32 x → Squared x (kept c)
+kept_squared : (c : SeedCandidate) (x : Float) → c.rms ≡ sqrt binary32 x → Squared x (kept c)
 unfolding kept
-kept-squared c x e = go (finite c.rms && (finite c.amp && finite c.mu))
+kept_squared c x e = go (finite c.rms && (finite c.amp && finite c.mu))
   where
     go : (b : Bool) → Squared x (cond b (Found c) Nothing)
     go true = e
     go false = omega arith
 
-pub scored-squared : (n centeredSs mean num qMean denom theta1 theta2 : Float)
-    → Squared (meanSquare n centeredSs num denom) (scoredFrom n centeredSs mean num qMean denom theta1 theta2)
-unfolding scoredFrom seedFrom meanSquare
-scored-squared n centeredSs mean num qMean denom theta1 theta2 = go (flat denom) (meanSquare n centeredSs num denom) _ refl
+pub scored_squared : (n centered_ss mean num q_mean denom theta1 theta2 : Float)
+    → Squared (mean_square n centered_ss num denom) (scored_from n centered_ss mean num q_mean denom theta1 theta2)
+unfolding scored_from seed_from mean_square
+scored_squared n centered_ss mean num q_mean denom theta1 theta2 = go (flat denom) (mean_square n centered_ss num denom) _ refl
   where
     go : (a : Bool) (x : Float) (c : SeedCandidate) → c.rms ≡ sqrt binary32 x → Squared x (cond a Nothing (kept c))
     go true x c e = omega arith
-    go false x c e = kept-squared c x e
+    go false x c e = kept_squared c x e
 
 -- ---- a pair that is skipped
 chosen : (s d : SeedCandidate) (t : Bool) → lt s.rms d.rms ≡ t → inserted (Found d) (Found s) ≡ cond t (Found s) (Found d)
-unfolding inserted insertSeedCandidate
+unfolding inserted insert_seed_candidate
 chosen s d t h = ap (λ (b : Bool). cond b (Found s) (Found d)) h
 
 pub skipped : (top c : Seed) (bound x : Float) → BestBound top bound → Squared x c → le bound x ≡ true → inserted top c ≡ top
-unfolding inserted insertSeedCandidate
+unfolding inserted insert_seed_candidate
 skipped Nothing c bound x k q h = absurd (false≢true (unfold le lt lib.Ieee.eq in subst (λ (b : Float). le b x ≡ true) k h))
 skipped (Found d) Nothing bound x k q h = refl
-skipped (Found d) (Found s) bound x k q h = chosen s d false (ap (λ (r : Float). lt r d.rms) q ∙ ap (lt (sqrt binary32 x)) k ∙ sqrt-mono binary32 x bound h)
+skipped (Found d) (Found s) bound x k q h = chosen s d false (ap (λ (r : Float). lt r d.rms) q ∙ ap (lt (sqrt binary32 x)) k ∙ sqrt_mono binary32 x bound h)
 
 -- ---- a pair that is tried: it is no seed; the first; lower than the best; not lower
 module _ (top c : Seed) where
-  pub tried-nothing : c ≡ Nothing → top ≡ inserted top c
+  pub tried_nothing : c ≡ Nothing → top ≡ inserted top c
   unfolding inserted
-  tried-nothing e = rw e
+  tried_nothing e = rw e
 
   module _ (s : SeedCandidate) (e : c ≡ Found s) where
-    pub tried-first : top ≡ Nothing → c ≡ inserted top c
-    unfolding inserted insertSeedCandidate
-    tried-first f = rw (e, f)
+    pub tried_first : top ≡ Nothing → c ≡ inserted top c
+    unfolding inserted insert_seed_candidate
+    tried_first f = rw (e, f)
 
-    pub tried-lower : (d : SeedCandidate) → top ≡ Found d → lt s.rms d.rms ≡ true → c ≡ inserted top c
-    tried-lower d f h = rw (e, f) (sym (chosen s d true h))
+    pub tried_lower : (d : SeedCandidate) → top ≡ Found d → lt s.rms d.rms ≡ true → c ≡ inserted top c
+    tried_lower d f h = rw (e, f) (sym (chosen s d true h))
 
-    pub tried-not : (d : SeedCandidate) → top ≡ Found d → lt s.rms d.rms ≡ false → top ≡ inserted top c
-    tried-not d f h = rw (e, f) (sym (chosen s d false h))
+    pub tried_not : (d : SeedCandidate) → top ≡ Found d → lt s.rms d.rms ≡ false → top ≡ inserted top c
+    tried_not d f h = rw (e, f) (sym (chosen s d false h))
 
-    pub taken-kept : (x : Float) → Squared x c → BestKept (record { top = c; bound = x })
-    taken-kept x q = record { is = subst (λ (z : Seed). BestBound z x) (sym e) (subst (Squared x) e q) }
+    pub taken_kept : (x : Float) → Squared x c → BestKept (record { top = c; bound = x })
+    taken_kept x q = record { is = subst (λ (z : Seed). BestBound z x) (sym e) (subst (Squared x) e q) }

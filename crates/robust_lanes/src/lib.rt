@@ -40,7 +40,7 @@ fn squared(y: [f32; 4]) -> [f32; 4]
 
 // A sample v more, which has the factor x at the angle a and the factors y at the other four.
 fn lanes_added(s: Lanes, v: f32, x: f32, y: [f32; 4]) -> Lanes
-    ensures { result ≡ L.lanesAdded s v x y }
+    ensures { result ≡ L.lanes_added s v x y }
 {
     let q = times(x, y);
     let old_q = s.q_sum;
@@ -56,7 +56,7 @@ fn lanes_added(s: Lanes, v: f32, x: f32, y: [f32; 4]) -> Lanes
 // sample's places; nothing is asked of them.
 fn sums_of(h: &[f32], centered: &[f32], n: usize, a: usize, b: usize) -> Lanes
     requires { L.GridRoom centered.now h.now × (n ≡ length centered.now) × (a < 23) × (b < 23) }
-    ensures { result ≡ L.laneSums n centered.now h.now a b }
+    ensures { result ≡ L.lane_sums n centered.now h.now a b }
 {
     let none = [0.0f32; 4];
     let mut s = Lanes {
@@ -77,7 +77,7 @@ fn sums_of(h: &[f32], centered: &[f32], n: usize, a: usize, b: usize) -> Lanes
 // constant: the loop has no end to test, and what is divided by 16 is multiplied. It was a tenth of a fit with two starts.
 pub fn lane_sums(h: &[f32], centered: &[f32], a: usize, b: usize) -> Lanes
     requires { L.GridRoom centered.now h.now × (a < 23) × (b < 23) }
-    ensures { result ≡ L.laneSums (length centered.now) centered.now h.now a b }
+    ensures { result ≡ L.lane_sums (length centered.now) centered.now h.now a b }
 {
     let n = centered.len();
     if n == 16 {
@@ -105,7 +105,7 @@ pub struct Models {
 }
 
 fn models_by(s: Lanes, n: f32) -> Models
-    ensures { result ≡ L.modelsOf s n }
+    ensures { result ≡ L.models_of s n }
 {
     let q = s.q_sum;
     let q2 = s.q2_sum;
@@ -123,7 +123,7 @@ fn models_by(s: Lanes, n: f32) -> Models
 // n is the number of samples as a float, here and below.
 pub fn lane_models(s: Lanes, samples: usize, n: f32) -> Models
     requires { n ≡ count samples }
-    ensures { result ≡ L.modelsOf s n }
+    ensures { result ≡ L.models_of s n }
 {
     if samples == 16 {
         return models_by(s, 16.0);
@@ -133,13 +133,13 @@ pub fn lane_models(s: Lanes, samples: usize, n: f32) -> Models
 
 // What the root of a pair's residual is taken of.
 fn mean_square(num: f32, denom: f32, n: f32, centered_ss: f32) -> f32
-    ensures { result ≡ L.meanSquare n centered_ss num denom }
+    ensures { result ≡ L.mean_square n centered_ss num denom }
 {
     ahead(centered_ss - num * num / denom) / n
 }
 
 fn squares_of(m: Models, n: f32, centered_ss: f32) -> [f32; 4]
-    ensures { result ≡ L.meanSquares m n centered_ss }
+    ensures { result ≡ L.mean_squares m n centered_ss }
 {
     let num = m.num;
     let denom = m.denom;
@@ -153,7 +153,7 @@ fn squares_of(m: Models, n: f32, centered_ss: f32) -> [f32; 4]
 
 pub fn mean_squares(m: Models, samples: usize, n: f32, centered_ss: f32) -> [f32; 4]
     requires { n ≡ count samples }
-    ensures { result ≡ L.meanSquares m n centered_ss }
+    ensures { result ≡ L.mean_squares m n centered_ss }
 {
     if samples == 16 {
         return squares_of(m, 16.0, centered_ss);

@@ -3,7 +3,7 @@
 ghost use Rattle.std.specs.Prelude.{◌≡◌, ◌+◌, ◌*◌, ◌^◌, ◌<◌, ◌≤◌, false};
 ghost use Rattle.std.specs.Float.{binary32};
 ghost use Rattle.std.specs.Float.Ieee.{of_bits, units};
-ghost use Rattle.floats.specs.Library.{rootUnits};
+ghost use Rattle.floats.specs.Library.{root_units};
 ghost use Rattle.floats.specs.Library as Library;
 
 // A guess at the root of m * 2 ^ 23, or of twice that if `wide` is 1: right in all but 1.5 % of cases for an m of 24 digits, and then one off.
@@ -63,7 +63,7 @@ fn root_even(m: u64, g: u64, h: u64) -> f32
     requires m_bound { m < 2 ^ 48 }
     requires g_bound { g ≤ 33554432 }
     requires h_bound { h < 200 }
-    ensures { result ≡ rootUnits binary32 (m * (2 ^ h * 2 ^ h)) }
+    ensures { result ≡ root_units binary32 (m * (2 ^ h * 2 ^ h)) }
 {
     assembled(nearest_root(m, g), h)
 }
@@ -74,7 +74,7 @@ fn root_parts(m: u64, j: u64) -> f32
     requires m_bound { m < 2 ^ 24 }
     requires le_j { 126 ≤ j }
     requires j_bound { j ≤ 402 }
-    ensures { result ≡ rootUnits binary32 (m * 2 ^ j) }
+    ensures { result ≡ root_units binary32 (m * 2 ^ j) }
 {
     let wide = 1 - j % 2;
     let g = guess(m as u32, wide as u32);
@@ -85,7 +85,7 @@ fn root_parts(m: u64, j: u64) -> f32
 fn root_small(t: u64) -> f32
     requires t_nonzero { 0 < t }
     requires t_bound { t < 2 ^ 23 }
-    ensures { result ≡ rootUnits binary32 (t * 2 ^ 149) }
+    ensures { result ≡ root_units binary32 (t * 2 ^ 149) }
 {
     let mut m = t;
     let mut i: u64 = 0;

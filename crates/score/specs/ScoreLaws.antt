@@ -9,101 +9,101 @@ use Rattle.std.specs.Float.Ieee.Fits.{div-fits}
 use Rattle.floats.specs.Ops.{◌⊖◌, ◌⊗◌, ◌⊘◌, nought, one}
 use Rattle.floats.specs.Library.{narrow}
 use Rattle.floats.specs.SquareSumLaws.{Upright}
-use Rattle.floats.specs.UprightLaws.{narrow-upright, max-upright}
-use Rattle.geometry.specs.Geometry.{validPair}
+use Rattle.floats.specs.UprightLaws.{narrow_upright, max_upright}
+use Rattle.geometry.specs.Geometry.{valid_pair}
 use Rattle.solver_axes.specs.Canonical.{CanonicalRange}
-use Rattle.solver_axes.specs.CanonicalLaws.{canonical-range}
-use Rattle.solver_errors.specs.StdErrorsLaws.{Bounded, errors-bounded}
+use Rattle.solver_axes.specs.CanonicalLaws.{canonical_range}
+use Rattle.solver_errors.specs.StdErrorsLaws.{Bounded, errors_bounded}
 use Rattle.floats.specs.Rows.{Row, at, count}
 use Rattle.data.specs.Data.{DiskData}
 use Rattle.candidates.specs.declared.CandidateSet.{CandidateSet}
-use Rattle.score_edges.specs.Edges.{edgeWeightTotal, rankedSum}
+use Rattle.score_edges.specs.Edges.{edge_weight_total, ranked_sum}
 use Rattle.loops.specs.TabLaws.{Stores}
 use Rattle.score.specs.declared.Fit.{Fit}
 use Rattle.score.specs.declared.Scored.{Scored}
 use Rattle.score.specs.declared.Scored.TheVariants.{Found, Nothing}
 use Rattle.score.specs.declared.Sums.{Sums}
 use Rattle.score.specs.Score as S
-use Rattle.score.specs.Score.{margin, fitOf, cachedSums, scoredSums, scorePairCached, Alignments, precomputeEdgeAlignments, fitStdErrors, errorSum}
+use Rattle.score.specs.Score.{margin, fit_of, cached_sums, scored_sums, score_pair_cached, Alignments, precompute_edge_alignments, fit_std_errors, error_sum}
 
 -- ---- what every fit has that a pair's score can answer: P of every fit made of the two axes at the width
 abbrev Every : (Fit → Type 0) → Scored → Type 0
 Every P Nothing = T true
 Every P (Found f) = P f
 
-module _ (P : Fit → Type 0) (theta0 theta1 width edgeScore : Float) where
-  sums-every :
-      ((valEnergy nInv dot denom : Float) → P (fitOf valEnergy nInv dot denom theta0 theta1 width edgeScore)) →
-      (valEnergy nInv : Float) (s : Sums) → Every P (scoredSums valEnergy nInv s theta0 theta1 width edgeScore)
-  unfolding scoredSums
-  sums-every h valEnergy nInv s = go (le denom margin)
+module _ (P : Fit → Type 0) (theta0 theta1 width edge_score : Float) where
+  sums_every :
+      ((val_energy n_inv dot denom : Float) → P (fit_of val_energy n_inv dot denom theta0 theta1 width edge_score)) →
+      (val_energy n_inv : Float) (s : Sums) → Every P (scored_sums val_energy n_inv s theta0 theta1 width edge_score)
+  unfolding scored_sums
+  sums_every h val_energy n_inv s = go (le denom margin)
     where
       denom : Float
-      denom = s.q2 ⊖ s.q ⊗ s.q ⊗ nInv
+      denom = s.q2 ⊖ s.q ⊗ s.q ⊗ n_inv
 
-      go : (b : Bool) → Every P (cond b Nothing (Found (fitOf valEnergy nInv s.dot denom theta0 theta1 width edgeScore)))
+      go : (b : Bool) → Every P (cond b Nothing (Found (fit_of val_energy n_inv s.dot denom theta0 theta1 width edge_score)))
       go true = tt
-      go false = h valEnergy nInv s.dot denom
+      go false = h val_energy n_inv s.dot denom
 
-  scored-every :
-      ((valEnergy nInv dot denom : Float) → P (fitOf valEnergy nInv dot denom theta0 theta1 width edgeScore)) →
-      (D : DiskData) (h0 h1 : Row) (f : Fit) → scorePairCached D theta0 theta1 width edgeScore h0 h1 ≡ Found f → P f
-  unfolding scorePairCached
-  scored-every h D h0 h1 f e = subst (Every P) e (go (validPair theta0 theta1) (le D.val_energy margin))
+  scored_every :
+      ((val_energy n_inv dot denom : Float) → P (fit_of val_energy n_inv dot denom theta0 theta1 width edge_score)) →
+      (D : DiskData) (h0 h1 : Row) (f : Fit) → score_pair_cached D theta0 theta1 width edge_score h0 h1 ≡ Found f → P f
+  unfolding score_pair_cached
+  scored_every h D h0 h1 f e = subst (Every P) e (go (valid_pair theta0 theta1) (le D.val_energy margin))
     where
       made : Scored
       made =
-          scoredSums D.val_energy (one ⊘ count D.n) (cachedSums D.n D.vals_centered h0 h1) theta0 theta1 width edgeScore
+          scored_sums D.val_energy (one ⊘ count D.n) (cached_sums D.n D.vals_centered h0 h1) theta0 theta1 width edge_score
 
       go : (b d : Bool) → Every P (cond b (cond d Nothing made) Nothing)
       go false d = tt
       go true true = tt
-      go true false = sums-every h D.val_energy (one ⊘ count D.n) (cachedSums D.n D.vals_centered h0 h1)
+      go true false = sums_every h D.val_energy (one ⊘ count D.n) (cached_sums D.n D.vals_centered h0 h1)
 
 -- ---- a sound fit
 abbrev pub SoundFit : Fit → Type 0
 SoundFit f = CanonicalRange f.theta1 f.theta2 f.amp
 
 -- where theta0 and theta1 are values that an f32 holds
-module _ (D : DiskData) (theta0 theta1 width edgeScore : Float) (h0 h1 : Row) (f : Fit) where
-  pub scored-sound :
-      T (fits binary32 theta0) → T (fits binary32 theta1) → scorePairCached D theta0 theta1 width edgeScore h0 h1 ≡ Found f → SoundFit f
-  unfolding fitOf
-  scored-sound p q =
-      scored-every SoundFit theta0 theta1 width edgeScore
-      (λ valEnergy nInv dot denom. canonical-range theta0 theta1 (dot ⊘ denom) p q (div-fits binary32 dot denom)) D h0 h1 f
+module _ (D : DiskData) (theta0 theta1 width edge_score : Float) (h0 h1 : Row) (f : Fit) where
+  pub scored_sound :
+      T (fits binary32 theta0) → T (fits binary32 theta1) → score_pair_cached D theta0 theta1 width edge_score h0 h1 ≡ Found f → SoundFit f
+  unfolding fit_of
+  scored_sound p q =
+      scored_every SoundFit theta0 theta1 width edge_score
+      (λ val_energy n_inv dot denom. canonical_range theta0 theta1 (dot ⊘ denom) p q (div-fits binary32 dot denom)) D h0 h1 f
 
   -- a scored fit has the width that was given
-  pub scored-width : scorePairCached D theta0 theta1 width edgeScore h0 h1 ≡ Found f → f.width ≡ width
-  unfolding fitOf
-  scored-width = scored-every (λ g. g.width ≡ width) theta0 theta1 width edgeScore (λ valEnergy nInv dot denom. refl) D h0 h1 f
+  pub scored_width : score_pair_cached D theta0 theta1 width edge_score h0 h1 ≡ Found f → f.width ≡ width
+  unfolding fit_of
+  scored_width = scored_every (λ g. g.width ≡ width) theta0 theta1 width edge_score (λ val_energy n_inv dot denom. refl) D h0 h1 f
 
 -- ---- the errors
-pub errors-sound : (D : DiskData) (fit : Fit) → Bounded (fitStdErrors D fit)
-unfolding fitStdErrors
-errors-sound D fit =
-    let m = S.momentsOf D.n D.xs D.ys D.vals_centered fit in
-    errors-bounded (S.normal D.n m) (narrow (S.residual D.n fit.amp m)) D.n
+pub errors_sound : (D : DiskData) (fit : Fit) → Bounded (fit_std_errors D fit)
+unfolding fit_std_errors
+errors_sound D fit =
+    let m = S.moments_of D.n D.xs D.ys D.vals_centered fit in
+    errors_bounded (S.normal D.n m) (narrow (S.residual D.n fit.amp m)) D.n
 
 -- the sum that they are made of is not below zero: the residual is the greater of a difference and 0
-pub error-sum-upright : (D : DiskData) (fit : Fit) → Upright (errorSum D fit)
+pub error_sum_upright : (D : DiskData) (fit : Fit) → Upright (error_sum D fit)
 unfolding S.residual
-error-sum-upright D fit = narrow-upright _ (max-upright _)
+error_sum_upright D fit = narrow_upright _ (max_upright _)
 
 -- ---- the edge sums of a disk of n pixels: t is the total of the m weights, which are as many
 module _
     (D : DiskData) (n m : ℕ) (candidates : CandidateSet) (out : Row) (t : Float)
-    (e : t ≡ edgeWeightTotal m D.grad_weights) (l : m ≡ n) (k : D.n ≡ n) where
-  total-is : edgeWeightTotal D.n D.grad_weights ≡ t
-  total-is = rw (k, ← l) (sym e)
+    (e : t ≡ edge_weight_total m D.grad_weights) (l : m ≡ n) (k : D.n ≡ n) where
+  total_is : edge_weight_total D.n D.grad_weights ≡ t
+  total_is = rw (k, ← l) (sym e)
 
-  pub aligned-none : le t margin ≡ true → ◌≡◌ {A = Alignments} (record { total = nought; out = out }) (precomputeEdgeAlignments D candidates out)
-  unfolding precomputeEdgeAlignments
-  aligned-none h = rw (total-is, h)
+  pub aligned_none : le t margin ≡ true → ◌≡◌ {A = Alignments} (record { total = nought; out = out }) (precompute_edge_alignments D candidates out)
+  unfolding precompute_edge_alignments
+  aligned_none h = rw (total_is, h)
 
-  pub aligned-all :
+  pub aligned_all :
       (ys : Row) (c : ℕ) → le t margin ≡ false →
-      Stores (λ c. rankedSum n D.grad_angles D.grad_weights (at candidates.angles c)) out ys c → c ≡ candidates.n →
-      ◌≡◌ {A = Alignments} (record { total = t; out = ys }) (precomputeEdgeAlignments D candidates out)
-  unfolding precomputeEdgeAlignments
-  aligned-all ys c h g d = rw (total-is, h, k, ← d) (rw g.is)
+      Stores (λ c. ranked_sum n D.grad_angles D.grad_weights (at candidates.angles c)) out ys c → c ≡ candidates.n →
+      ◌≡◌ {A = Alignments} (record { total = t; out = ys }) (precompute_edge_alignments D candidates out)
+  unfolding precompute_edge_alignments
+  aligned_all ys c h g d = rw (total_is, h, k, ← d) (rw g.is)

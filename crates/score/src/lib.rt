@@ -1,7 +1,7 @@
 // The score of a pair of axes, the order of fits and the errors of a fit: disk_sector/score.rs.
 ghost use Rattle.std.specs.Prelude.{◌≡◌, ◌≤◌, Float, length};
-ghost use Rattle.data.specs.Data.{OfPixels, OfValues, OfGradients, maxTanhPixels};
-ghost use Rattle.candidates.specs.Candidates.{maxCandidates};
+ghost use Rattle.data.specs.Data.{OfPixels, OfValues, OfGradients, max_tanh_pixels};
+ghost use Rattle.candidates.specs.Candidates.{max_candidates};
 ghost use Rattle.score.specs.Score as S;
 
 use candidates::CandidateSet;
@@ -66,7 +66,7 @@ pub struct Moments {
 // The model's factor of each pixel for an axis at theta.
 pub fn axis_row(xs: &[f32], ys: &[f32], theta: f32, width: f32, row: &mut [f32])
     requires { (length ys.now ≡ length xs.now) × (length row.old ≡ length xs.now) }
-    ensures { row.new ≡ S.axisRow (length xs.now) xs.now ys.now theta width }
+    ensures { row.new ≡ S.axis_row (length xs.now) xs.now ys.now theta width }
 {
     let n = xs.len();
     let t = elementary::sin_cos(theta);
@@ -80,7 +80,7 @@ pub fn axis_row(xs: &[f32], ys: &[f32], theta: f32, width: f32, row: &mut [f32])
 fn cached_sums(vals_centered: &[f32], h0: &[f32], h1: &[f32]) -> Sums
     requires { (length h0.now ≡ length vals_centered.now) × (length h1.now ≡ length vals_centered.now) }
     ensures { result
-        ≡ S.cachedSums (length vals_centered.now) vals_centered.now h0.now h1.now }
+        ≡ S.cached_sums (length vals_centered.now) vals_centered.now h0.now h1.now }
 {
     let n = vals_centered.len();
     let mut s = Sums {
@@ -109,7 +109,7 @@ fn fit_of(
     width: f32,
     edge_score: f32,
 ) -> Fit
-    ensures { result ≡ S.fitOf val_energy n_inv dot denom theta0 theta1 width edge_score }
+    ensures { result ≡ S.fit_of val_energy n_inv dot denom theta0 theta1 width edge_score }
 {
     let amp = dot / denom;
     let ssr = floats::max(val_energy - dot * dot / denom, 0.0);
@@ -139,7 +139,7 @@ fn scored_sums(
     width: f32,
     edge_score: f32,
 ) -> Scored
-    ensures { result ≡ S.scoredSums val_energy n_inv s theta0 theta1 width edge_score }
+    ensures { result ≡ S.scored_sums val_energy n_inv s theta0 theta1 width edge_score }
 {
     let denom = s.q2 - s.q * s.q * n_inv;
     if denom <= 1e-9 {
@@ -162,9 +162,9 @@ pub fn score_pair_cached(
     h1: &[f32],
 ) -> Scored
     requires { (length h0.now ≡ length vals_centered.now) × (length h1.now ≡ length vals_centered.now)
-        × (length vals_centered.now ≤ maxTanhPixels) }
+        × (length vals_centered.now ≤ max_tanh_pixels) }
     ensures { OfValues val_energy vals_centered
-        (λ D. result ≡ S.scorePairCached D theta0 theta1 width edge_score h0.now h1.now) }
+        (λ D. result ≡ S.score_pair_cached D theta0 theta1 width edge_score h0.now h1.now) }
 {
     if !geometry::valid_pair(theta0, theta1) {
         return Scored::Nothing;
@@ -187,9 +187,9 @@ pub fn precompute_edge_alignments(
     out: &mut [f32],
 ) -> f32
     requires { (length grad_weights.now ≡ length grad_angles.now) × (length terms.old ≡ length grad_angles.now)
-        × (candidates.n ≤ length out.old) × (length out.old ≤ maxCandidates) }
+        × (candidates.n ≤ length out.old) × (length out.old ≤ max_candidates) }
     ensures { OfGradients grad_angles grad_weights (λ D. ◌≡◌ {A = S.Alignments} (record { total = result; out = out.new })
-        (S.precomputeEdgeAlignments D candidates out.old)) }
+        (S.precompute_edge_alignments D candidates out.old)) }
 {
     let total = score_edges::edge_weight_total(grad_weights);
     if total <= 1e-9 {
@@ -229,7 +229,7 @@ fn higher(a: f32, b: f32, next: bool) -> bool
 // Lower objective, lower rel_rms, higher edge_score, narrower width, smaller theta1, smaller theta2: the first
 // key that tells by more than 1e-9 decides. With these margins it is no order.
 pub fn fit_is_better(a: Fit, b: Fit) -> bool
-    ensures { result ≡ S.fitIsBetter a b }
+    ensures { result ≡ S.fit_is_better a b }
 {
     let t = lower(a.theta1, b.theta1, a.theta2 < b.theta2);
     let w = lower(a.width, b.width, t);
@@ -239,7 +239,7 @@ pub fn fit_is_better(a: Fit, b: Fit) -> bool
 }
 
 fn slopes_at(amp: f32, inv_w: f32, t1: SinCos, t2: SinCos, x: f32, y: f32, v: f32) -> Slopes
-    ensures { result ≡ S.slopesAt amp inv_w t1 t2 x y v }
+    ensures { result ≡ S.slopes_at amp inv_w t1 t2 x y v }
 {
     let h1 = elementary::tanh((-t1.s * x + t1.c * y) * inv_w);
     let h2 = elementary::tanh((-t2.s * x + t2.c * y) * inv_w);
@@ -274,7 +274,7 @@ fn gathered(t: Slopes, m: Moments) -> Moments
 }
 
 fn no_moments() -> Moments
-    ensures { result ≡ S.noMoments }
+    ensures { result ≡ S.no_moments }
 {
     Moments {
         sq: 0.0,
@@ -293,7 +293,7 @@ fn no_moments() -> Moments
 fn moments_of(xs: &[f32], ys: &[f32], vals_centered: &[f32], fit: Fit) -> Moments
     requires { (length ys.now ≡ length xs.now) × (length vals_centered.now ≡ length xs.now) }
     ensures { result
-        ≡ S.momentsOf (length xs.now) xs.now ys.now vals_centered.now fit }
+        ≡ S.moments_of (length xs.now) xs.now ys.now vals_centered.now fit }
 {
     let n = xs.len();
     let amp = fit.amp;
@@ -309,7 +309,7 @@ fn moments_of(xs: &[f32], ys: &[f32], vals_centered: &[f32], fit: Fit) -> Moment
 }
 
 fn residual(n: usize, amp: f32, m: Moments) -> f64
-    requires { n ≤ maxTanhPixels }
+    requires { n ≤ max_tanh_pixels }
     ensures { result ≡ S.residual n amp m }
 {
     let count = floats::count_f64(n);
@@ -318,7 +318,7 @@ fn residual(n: usize, amp: f32, m: Moments) -> f64
 }
 
 fn normal(n: usize, m: Moments) -> [[f32; 4]; 4]
-    requires { n ≤ maxTanhPixels }
+    requires { n ≤ max_tanh_pixels }
     ensures { result ≡ S.normal n m }
 {
     let c = narrowing::narrow(floats::count_f64(n));
@@ -342,9 +342,9 @@ fn normal(n: usize, m: Moments) -> [[f32; 4]; 4]
 // The standard errors of a fit's two axes and their standing, from one pass at its own angles and width.
 pub fn fit_std_errors(xs: &[f32], ys: &[f32], vals_centered: &[f32], fit: Fit) -> Estimate
     requires { (length ys.now ≡ length xs.now) × (length vals_centered.now ≡ length xs.now)
-        × (length xs.now ≤ maxTanhPixels) }
+        × (length xs.now ≤ max_tanh_pixels) }
     ensures { (energy : Float) →
-        OfPixels energy xs ys vals_centered (λ D. result ≡ S.fitEstimate D fit) }
+        OfPixels energy xs ys vals_centered (λ D. result ≡ S.fit_estimate D fit) }
 {
     let n = xs.len();
     let m = moments_of(xs, ys, vals_centered, fit);

@@ -4,40 +4,40 @@
 use Rattle.std.specs.Prelude.{ℕ, Float}
 use Rattle.std.specs.Float.Ieee.{neg}
 use Rattle.floats.specs.Ops.{◌⊕◌, ◌⊗◌, ◌⊘◌, lit, minus, nought, one}
-use Rattle.floats.specs.Library.{toRadians}
+use Rattle.floats.specs.Library.{to_radians}
 use Rattle.elementary.specs.Elementary.{exp}
-use Rattle.geometry.specs.Geometry.{signedLineDelta}
+use Rattle.geometry.specs.Geometry.{signed_line_delta}
 use Rattle.loops.specs.Loops.{iter}
 use Rattle.floats.specs.Rows.{Row, at}
 
 -- sigma = 4.0_f32.to_radians()
 abbrev pub sigma : Float
-sigma = toRadians (lit 0x4080_0000)
+sigma = to_radians (lit 0x4080_0000)
 
 -- inv_2sigma2 = 1.0 / (2.0 * sigma * sigma)
-abbrev pub inv2Sigma2 : Float
-inv2Sigma2 = one ⊘ (lit 0x4000_0000 ⊗ sigma ⊗ sigma)
+abbrev pub inv2_sigma2 : Float
+inv2_sigma2 = one ⊘ (lit 0x4000_0000 ⊗ sigma ⊗ sigma)
 
 -- a sum in the order of the pixels
-unfoldable pub orderedSum : ℕ → Row → Float
-orderedSum n row = iter (λ p s. s ⊕ at row p) nought n
+unfoldable pub ordered_sum : ℕ → Row → Float
+ordered_sum n row = iter (λ p s. s ⊕ at row p) nought n
 
 -- search.rs: edge_weight_total, and the same loop in score.rs
-unfoldable pub edgeWeightTotal : ℕ → Row → Float
-edgeWeightTotal n gradWeights = orderedSum n gradWeights
+unfoldable pub edge_weight_total : ℕ → Row → Float
+edge_weight_total n grad_weights = ordered_sum n grad_weights
 
 -- score.rs: w_p * (-d * d * inv_2sigma2).exp()
-unfoldable pub rankedTerm : Float → Float → Float
-rankedTerm w d = w ⊗ exp (neg d ⊗ d ⊗ inv2Sigma2)
+unfoldable pub ranked_term : Float → Float → Float
+ranked_term w d = w ⊗ exp (neg d ⊗ d ⊗ inv2_sigma2)
 
-unfoldable pub rankedSum : ℕ → Row → Row → Float → Float
-rankedSum n gradAngles gradWeights theta =
-    iter (λ p s. s ⊕ rankedTerm (at gradWeights p) (signedLineDelta (at gradAngles p) theta)) nought n
+unfoldable pub ranked_sum : ℕ → Row → Row → Float → Float
+ranked_sum n grad_angles grad_weights theta =
+    iter (λ p s. s ⊕ ranked_term (at grad_weights p) (signed_line_delta (at grad_angles p) theta)) nought n
 
 -- search.rs: grad_weights[p] * (-0.5 * (dd / sigma) * (dd / sigma)).exp()
-unfoldable pub refinedTerm : Float → Float → Float
-refinedTerm w d = w ⊗ exp (minus 0x3f00_0000 ⊗ (d ⊘ sigma) ⊗ (d ⊘ sigma))
+unfoldable pub refined_term : Float → Float → Float
+refined_term w d = w ⊗ exp (minus 0x3f00_0000 ⊗ (d ⊘ sigma) ⊗ (d ⊘ sigma))
 
-unfoldable pub refinedSum : ℕ → Row → Row → Float → Float
-refinedSum n gradAngles gradWeights theta =
-    iter (λ p s. s ⊕ refinedTerm (at gradWeights p) (signedLineDelta (at gradAngles p) theta)) nought n
+unfoldable pub refined_sum : ℕ → Row → Row → Float → Float
+refined_sum n grad_angles grad_weights theta =
+    iter (λ p s. s ⊕ refined_term (at grad_weights p) (signed_line_delta (at grad_angles p) theta)) nought n

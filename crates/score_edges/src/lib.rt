@@ -5,14 +5,14 @@ ghost use Rattle.std.specs.Prelude.{◌≡◌, true, length};
 ghost use Rattle.score_edges.specs.Edges as E;
 ghost use Rattle.score_edges.specs.NearLaws as N;
 
-// 4.0_f32.to_radians(): the law `sigma-is`.
+// 4.0_f32.to_radians(): the law `sigma_is`.
 const SIGMA: f32 = 0.0698131695;
 
-// 1.0 / (2.0 * SIGMA * SIGMA): the law `inv-2sigma2-is`.
+// 1.0 / (2.0 * SIGMA * SIGMA): the law `inv_2sigma2_is`.
 const INV_2SIGMA2: f32 = 102.5877;
 
 fn ordered_sum(row: &[f32]) -> f32
-    ensures { result ≡ E.orderedSum (length row.now) row.now }
+    ensures { result ≡ E.ordered_sum (length row.now) row.now }
 {
     let n = row.len();
     let mut s = 0.0f32;
@@ -23,26 +23,26 @@ fn ordered_sum(row: &[f32]) -> f32
 }
 
 pub fn edge_weight_total(grad_weights: &[f32]) -> f32
-    ensures { result ≡ E.edgeWeightTotal (length grad_weights.now) grad_weights.now }
+    ensures { result ≡ E.edge_weight_total (length grad_weights.now) grad_weights.now }
 {
     ordered_sum(grad_weights)
 }
 
 // A negated square is not above 0, where `exp` and `exp_neg` are one.
 fn ranked_term(w: f32, d: f32) -> f32
-    ensures { result ≡ E.rankedTerm w d }
+    ensures { result ≡ E.ranked_term w d }
 {
     w * elementary::exp_neg(-d * d * INV_2SIGMA2)
 }
 
 fn refined_term(w: f32, d: f32) -> f32
-    ensures { result ≡ E.refinedTerm w d }
+    ensures { result ≡ E.refined_term w d }
 {
     w * elementary::exp_neg(-0.5 * (d / SIGMA) * (d / SIGMA))
 }
 
 fn less_pi(x: f32) -> f32
-    ensures { result ≡ N.lessPi x }
+    ensures { result ≡ N.less_pi x }
 {
     if x >= floats::PI {
         return x - floats::PI;
@@ -54,7 +54,7 @@ fn less_pi(x: f32) -> f32
 }
 
 fn raised_pi(r: f32) -> f32
-    ensures { result ≡ N.raisedPi r }
+    ensures { result ≡ N.raised_pi r }
 {
     if r < 0.0 {
         return r + floats::PI;
@@ -64,14 +64,14 @@ fn raised_pi(r: f32) -> f32
 
 // `signed_line_delta` without `%`, for an x = a - b + PI/2 between -TAU and TAU.
 fn near_delta(x: f32) -> f32
-    ensures { result ≡ N.nearDelta x }
+    ensures { result ≡ N.near_delta x }
 {
     raised_pi(less_pi(x)) - floats::HALF_PI
 }
 
 // 1 where x is not between -TAU and TAU.
 fn far(x: f32) -> usize
-    ensures { result ≡ N.farCount x }
+    ensures { result ≡ N.far_count x }
 {
     if -floats::TAU < x && x < floats::TAU {
         return 0;
@@ -94,7 +94,7 @@ fn all_near(grad_angles: &[f32], theta: f32) -> bool
 fn ranked_near(grad_angles: &[f32], grad_weights: &[f32], theta: f32, terms: &mut [f32])
     requires { (length grad_weights.now ≡ length grad_angles.now) × (length terms.old ≡ length grad_angles.now) }
     ensures { terms.new
-        ≡ N.nearTerms E.rankedTerm (length grad_angles.now) grad_angles.now grad_weights.now theta }
+        ≡ N.near_terms E.ranked_term (length grad_angles.now) grad_angles.now grad_weights.now theta }
 {
     let n = grad_angles.len();
     for p in 0..n {
@@ -108,7 +108,7 @@ fn ranked_near(grad_angles: &[f32], grad_weights: &[f32], theta: f32, terms: &mu
 fn ranked_far(grad_angles: &[f32], grad_weights: &[f32], theta: f32, terms: &mut [f32])
     requires { (length grad_weights.now ≡ length grad_angles.now) × (length terms.old ≡ length grad_angles.now) }
     ensures { terms.new
-        ≡ N.farTerms E.rankedTerm (length grad_angles.now) grad_angles.now grad_weights.now theta }
+        ≡ N.far_terms E.ranked_term (length grad_angles.now) grad_angles.now grad_weights.now theta }
 {
     let n = grad_angles.len();
     for p in 0..n {
@@ -123,7 +123,7 @@ fn ranked_far(grad_angles: &[f32], grad_weights: &[f32], theta: f32, terms: &mut
 pub fn ranked_sum(grad_angles: &[f32], grad_weights: &[f32], theta: f32, terms: &mut [f32]) -> f32
     requires { (length grad_weights.now ≡ length grad_angles.now) × (length terms.old ≡ length grad_angles.now) }
     ensures { result
-        ≡ E.rankedSum (length grad_angles.now) grad_angles.now grad_weights.now theta }
+        ≡ E.ranked_sum (length grad_angles.now) grad_angles.now grad_weights.now theta }
 {
     if all_near(grad_angles, theta) {
         ranked_near(grad_angles, grad_weights, theta, terms);
@@ -136,7 +136,7 @@ pub fn ranked_sum(grad_angles: &[f32], grad_weights: &[f32], theta: f32, terms: 
 fn refined_near(grad_angles: &[f32], grad_weights: &[f32], theta: f32, terms: &mut [f32])
     requires { (length grad_weights.now ≡ length grad_angles.now) × (length terms.old ≡ length grad_angles.now) }
     ensures { terms.new
-        ≡ N.nearTerms E.refinedTerm (length grad_angles.now) grad_angles.now grad_weights.now theta }
+        ≡ N.near_terms E.refined_term (length grad_angles.now) grad_angles.now grad_weights.now theta }
 {
     let n = grad_angles.len();
     for p in 0..n {
@@ -150,7 +150,7 @@ fn refined_near(grad_angles: &[f32], grad_weights: &[f32], theta: f32, terms: &m
 fn refined_far(grad_angles: &[f32], grad_weights: &[f32], theta: f32, terms: &mut [f32])
     requires { (length grad_weights.now ≡ length grad_angles.now) × (length terms.old ≡ length grad_angles.now) }
     ensures { terms.new
-        ≡ N.farTerms E.refinedTerm (length grad_angles.now) grad_angles.now grad_weights.now theta }
+        ≡ N.far_terms E.refined_term (length grad_angles.now) grad_angles.now grad_weights.now theta }
 {
     let n = grad_angles.len();
     for p in 0..n {
@@ -165,7 +165,7 @@ fn refined_far(grad_angles: &[f32], grad_weights: &[f32], theta: f32, terms: &mu
 pub fn refined_sum(grad_angles: &[f32], grad_weights: &[f32], theta: f32, terms: &mut [f32]) -> f32
     requires { (length grad_weights.now ≡ length grad_angles.now) × (length terms.old ≡ length grad_angles.now) }
     ensures { result
-        ≡ E.refinedSum (length grad_angles.now) grad_angles.now grad_weights.now theta }
+        ≡ E.refined_sum (length grad_angles.now) grad_angles.now grad_weights.now theta }
 {
     if all_near(grad_angles, theta) {
         refined_near(grad_angles, grad_weights, theta, terms);

@@ -7,19 +7,19 @@ use Rattle.std.specs.Float.Ieee.Bits.{of_bits-fits}
 use Rattle.std.specs.Float.Ieee.Fits.{nan-fits, cond-fits, add-fits, mul-fits, div-fits, rem-fits}
 use Rattle.floats.specs.Ops.{◌⊕◌, lit, nought, pi}
 use Rattle.floats.specs.Rows.{Row, at, count}
-use Rattle.floats.specs.Library.{remEuclid, toRadians, histBins}
-use Rattle.geometry.specs.Geometry.{wrapPi}
-use Rattle.loops.specs.IterLaws.{iter-keeps}
+use Rattle.floats.specs.Library.{rem_euclid, to_radians, hist_bins}
+use Rattle.geometry.specs.Geometry.{wrap_pi}
+use Rattle.loops.specs.IterLaws.{iter_keeps}
 use Rattle.data.specs.Data.{DiskData}
-use Rattle.candidates.specs.Candidates.{maxCandidates, newSet, isNear, appended, pushUnique, Picking, bestBin, binAngle, tooLow, degrees4, degree1}
-use Rattle.candidates.specs.Candidates.{picked, pickingOver, pick, unpicked, maxPicks, peaks, greatest, histogramPeaks}
-use Rattle.candidates.specs.Candidates.{offDegs, offset, around, gridDeg, gridded, coarse, gradientCandidates}
+use Rattle.candidates.specs.Candidates.{max_candidates, new_set, is_near, appended, push_unique, Picking, best_bin, bin_angle, too_low, degrees4, degree1}
+use Rattle.candidates.specs.Candidates.{picked, picking_over, pick, unpicked, max_picks, peaks, greatest, histogram_peaks}
+use Rattle.candidates.specs.Candidates.{off_degs, offset, around, grid_deg, gridded, coarse, gradient_candidates}
 use Rattle.candidates.specs.declared.CandidateSet.{CandidateSet}
-use Rattle.search.specs.Search.{candidatesOf}
+use Rattle.search.specs.Search.{candidates_of}
 
-wrapped-fits : (x : Float) → T (fits binary32 x) → T (fits binary32 (wrapPi x))
-unfolding wrapPi remEuclid
-wrapped-fits x h =
+wrapped_fits : (x : Float) → T (fits binary32 x) → T (fits binary32 (wrap_pi x))
+unfolding wrap_pi rem_euclid
+wrapped_fits x h =
     let r = rem binary32 x pi in
     cond-fits binary32 (lt r nought) (r ⊕ pi) r (add-fits binary32 r pi) (rem-fits binary32 x pi h)
 
@@ -27,66 +27,66 @@ wrapped-fits x h =
 abbrev Fits : Row → Type 0
 Fits l = (i : ℕ) → T (fits binary32 (at l i))
 
-cons-fits : (x : Float) (l : Row) → T (fits binary32 x) → Fits l → Fits (x ∷ l)
-cons-fits x l p h zero = p
-cons-fits x l p h (suc i) = h i
+cons_fits : (x : Float) (l : Row) → T (fits binary32 x) → Fits l → Fits (x ∷ l)
+cons_fits x l p h zero = p
+cons_fits x l p h (suc i) = h i
 
-replicate-fits : (n : ℕ) (x : Float) → T (fits binary32 x) → Fits (replicate n x)
-replicate-fits zero x p i = nan-fits binary32
-replicate-fits (suc n) x p i = cons-fits x (replicate n x) p (replicate-fits n x p) i
+replicate_fits : (n : ℕ) (x : Float) → T (fits binary32 x) → Fits (replicate n x)
+replicate_fits zero x p i = nan-fits binary32
+replicate_fits (suc n) x p i = cons_fits x (replicate n x) p (replicate_fits n x p) i
 
-set-fits : (l : Row) (k : ℕ) (x : Float) → T (fits binary32 x) → Fits l → Fits (set l k x)
-set-fits [] k x p h i = h i
-set-fits (y ∷ l) zero x p h i = cons-fits x l p (λ j. h (suc j)) i
-set-fits (y ∷ l) (suc k) x p h i = cons-fits y (set l k x) (h 0) (set-fits l k x p (λ j. h (suc j))) i
+set_fits : (l : Row) (k : ℕ) (x : Float) → T (fits binary32 x) → Fits l → Fits (set l k x)
+set_fits [] k x p h i = h i
+set_fits (y ∷ l) zero x p h i = cons_fits x l p (λ j. h (suc j)) i
+set_fits (y ∷ l) (suc k) x p h i = cons_fits y (set l k x) (h 0) (set_fits l k x p (λ j. h (suc j))) i
 
 pub record Fitting (s : CandidateSet) : Type 0 where
   pub each : (i : ℕ) → T (fits binary32 (at s.angles i))
 
-push-fits : (s : CandidateSet) (x minSep : Float) → T (fits binary32 x) → Fitting s → Fitting (pushUnique s x minSep)
-unfolding pushUnique appended
-push-fits s x minSep p h = go (leb maxCandidates s.n) (isNear s.angles s.n (wrapPi x) minSep)
+push_fits : (s : CandidateSet) (x min_sep : Float) → T (fits binary32 x) → Fitting s → Fitting (push_unique s x min_sep)
+unfolding push_unique appended
+push_fits s x min_sep p h = go (leb max_candidates s.n) (is_near s.angles s.n (wrap_pi x) min_sep)
   where
-    go : (a b : Bool) → Fitting (cond a s (cond b s (appended s (wrapPi x))))
+    go : (a b : Bool) → Fitting (cond a s (cond b s (appended s (wrap_pi x))))
     go true b = h
     go false true = h
-    go false false = record { each = set-fits s.angles s.n (wrapPi x) (wrapped-fits x p) h.each }
+    go false false = record { each = set_fits s.angles s.n (wrap_pi x) (wrapped_fits x p) h.each }
 
 -- ---- the histogram's peaks, the angles around the seeds and the coarse ones
-new-fits : Fitting newSet
-new-fits = record { each = replicate-fits maxCandidates nought (of_bits-fits binary32 0) }
+new_fits : Fitting new_set
+new_fits = record { each = replicate_fits max_candidates nought (of_bits-fits binary32 0) }
 
-pick-fits : (smooth : Row) (maxV : Float) (k : ℕ) (s : Picking) → Fitting s.found → Fitting (pick smooth maxV k s).found
-unfolding pick picked pickingOver binAngle
-pick-fits smooth maxV k s h = go s.over (tooLow smooth maxV (bestBin smooth s.used))
+pick_fits : (smooth : Row) (max_v : Float) (k : ℕ) (s : Picking) → Fitting s.found → Fitting (pick smooth max_v k s).found
+unfolding pick picked picking_over bin_angle
+pick_fits smooth max_v k s h = go s.over (too_low smooth max_v (best_bin smooth s.used))
   where
-    go : (a b : Bool) → Fitting (cond a s (cond b (pickingOver s) (picked (bestBin smooth s.used) s))).found
+    go : (a b : Bool) → Fitting (cond a s (cond b (picking_over s) (picked (best_bin smooth s.used) s))).found
     go true b = h
     go false true = h
-    go false false = push-fits s.found (binAngle (bestBin smooth s.used)) degrees4 (div-fits binary32 _ (count histBins)) h
+    go false false = push_fits s.found (bin_angle (best_bin smooth s.used)) degrees4 (div-fits binary32 _ (count hist_bins)) h
 
-peaks-fit : (smooth : Row) → Fitting (histogramPeaks smooth)
-unfolding histogramPeaks peaks
-peaks-fit smooth = go (lt nought (greatest smooth))
+peaks_fit : (smooth : Row) → Fitting (histogram_peaks smooth)
+unfolding histogram_peaks peaks
+peaks_fit smooth = go (lt nought (greatest smooth))
   where
-    go : (b : Bool) → Fitting (cond b (peaks smooth (greatest smooth)) newSet)
+    go : (b : Bool) → Fitting (cond b (peaks smooth (greatest smooth)) new_set)
     go true =
-        iter-keeps (λ (p : Picking). Fitting p.found) (pick smooth (greatest smooth)) unpicked maxPicks new-fits
-        (λ k s h. pick-fits smooth (greatest smooth) k s h)
-    go false = new-fits
+        iter_keeps (λ (p : Picking). Fitting p.found) (pick smooth (greatest smooth)) unpicked max_picks new_fits
+        (λ k s h. pick_fits smooth (greatest smooth) k s h)
+    go false = new_fits
 
-around-fits : (s : CandidateSet) (seed : Float) → Fitting s → Fitting (around s seed)
+around_fits : (s : CandidateSet) (seed : Float) → Fitting s → Fitting (around s seed)
 unfolding around offset
-around-fits s seed h =
-    iter-keeps Fitting _ s 5 h
-    (λ k s h. push-fits s (seed ⊕ toRadians (at offDegs k)) degree1 (add-fits binary32 seed (toRadians (at offDegs k))) h)
+around_fits s seed h =
+    iter_keeps Fitting _ s 5 h
+    (λ k s h. push_fits s (seed ⊕ to_radians (at off_degs k)) degree1 (add-fits binary32 seed (to_radians (at off_degs k))) h)
 
-coarse-fits : (s : CandidateSet) → Fitting s → Fitting (coarse s)
-unfolding coarse gridded toRadians
-coarse-fits s h =
-    iter-keeps Fitting _ s (180 / gridDeg) h
-    (λ k s h. push-fits s (toRadians (count (gridDeg * k))) degree1 (mul-fits binary32 (count (gridDeg * k)) (lit 0x3c8e_fa35)) h)
+coarse_fits : (s : CandidateSet) → Fitting s → Fitting (coarse s)
+unfolding coarse gridded to_radians
+coarse_fits s h =
+    iter_keeps Fitting _ s (180 / grid_deg) h
+    (λ k s h. push_fits s (to_radians (count (grid_deg * k))) degree1 (mul-fits binary32 (count (grid_deg * k)) (lit 0x3c8e_fa35)) h)
 
-pub candidates-fit : (D : DiskData) (base0 base1 : Float) → Fitting (candidatesOf D base0 base1)
-unfolding candidatesOf gradientCandidates
-candidates-fit D base0 base1 = coarse-fits _ (around-fits _ (wrapPi base1) (around-fits _ (wrapPi base0) (peaks-fit _)))
+pub candidates_fit : (D : DiskData) (base0 base1 : Float) → Fitting (candidates_of D base0 base1)
+unfolding candidates_of gradient_candidates
+candidates_fit D base0 base1 = coarse_fits _ (around_fits _ (wrap_pi base1) (around_fits _ (wrap_pi base0) (peaks_fit _)))

@@ -8,252 +8,252 @@ use Rattle.std.proofs.Math.Bool.{true, false, cond}
 use Prim.Native.Nat.{ℕ, zero, suc, ◌+◌, ◌-◌, ◌*◌, ◌≤◌, ◌<◌, min}
 use native.Mathlib.Omega.{arith}
 use Rattle.floats.specs.Rows.{Row, at}
-use Rattle.geometry.specs.Geometry.{validPair}
+use Rattle.geometry.specs.Geometry.{valid_pair}
 use Rattle.loops.specs.Loops.{iter, range}
-use Rattle.loops.specs.IterLaws.{range-start, iter-through}
+use Rattle.loops.specs.IterLaws.{range_start, iter_through}
 use Rattle.data.specs.Data.{DiskData}
-use Rattle.candidates.specs.Candidates.{noPairs, pooledPair, pooledFrom, pooled, pairScore, buildPairPool}
+use Rattle.candidates.specs.Candidates.{no_pairs, pooled_pair, pooled_from, pooled, pair_score, build_pair_pool}
 use Rattle.candidates.specs.declared.CandidateSet.{CandidateSet}
 use Rattle.candidates.specs.declared.Forced.{Forced}
 use Rattle.candidates.specs.declared.PairScore.{PairScore}
 use Rattle.candidates.specs.declared.Pool.{Pool}
-use Rattle.search_ranking.specs.Ranking.{maxTopPairs, ranked}
-use Rattle.search_ranking.specs.SinkLaws.{ranked-length}
-use Rattle.score.specs.Score.{widthsPx, fitIsBetter}
+use Rattle.search_ranking.specs.Ranking.{max_top_pairs, ranked}
+use Rattle.search_ranking.specs.SinkLaws.{ranked_length}
+use Rattle.score.specs.Score.{widths_px, fit_is_better}
 use Rattle.score.specs.declared.Fit.{Fit}
 use Rattle.score.specs.declared.Scored.{Scored}
 use Rattle.score.specs.declared.Scored.TheVariants.{Found, Nothing}
-use Rattle.search_refine.specs.RefineLaws.{refine-trials}
+use Rattle.search_refine.specs.RefineLaws.{refine_trials}
 use Rattle.search_refine.specs.declared.Refined.{Refined}
 use Rattle.search.specs.declared.Top.{Top}
 use Rattle.search.specs.declared.Leaders.{Leaders}
 use Rattle.search.specs.declared.DiskFit.TheVariants.{Best, Missing}
-use Rattle.search.specs.Search.{topFits, behind, insertAt, insertTop, entered, noLeaders, tried_at, triedAll, lead, secondLed, firstLed, led}
-use Rattle.search.specs.Search.{candidatesOf, poolOf, searched, bestDiskFit}
-use Rattle.search.specs.Bill.{trialsOf, fitCount, allowedFrom, allowedOf, allowedPairs, poolHere, pairsTried, pairsKept}
-use Rattle.search.specs.Bill.{trial, answeredAt, answeredTrials, leadersOf, leadersKept}
+use Rattle.search.specs.Search.{top_fits, behind, insert_at, insert_top, entered, no_leaders, tried_at, tried_all, lead, second_led, first_led, led}
+use Rattle.search.specs.Search.{candidates_of, pool_of, searched, best_disk_fit}
+use Rattle.search.specs.Bill.{trials_of, fit_count, allowed_from, allowed_of, allowed_pairs, pool_here, pairs_tried, pairs_kept}
+use Rattle.search.specs.Bill.{trial, answered_at, answered_trials, leaders_of, leaders_kept}
 
 -- ---- the leaders after t trials, of which c answered: the second place is filled only where the first is
 pub record Placed (top : Top) (c : ℕ) : Type 0 where
-  pub places : fitCount top.first + fitCount top.second ≡ min topFits c
-  pub order : fitCount top.second ≤ fitCount top.first
+  pub places : fit_count top.first + fit_count top.second ≡ min top_fits c
+  pub order : fit_count top.second ≤ fit_count top.first
 
 pub record LeadersCounted (l : Leaders) (t c : ℕ) : Type 0 where
   pub trials : l.trials ≡ t
   pub top : Placed l.top c
 
 -- what is put behind the first fills the second place
-behind-filled : (b : Scored) (f : Fit) → fitCount (behind b f) ≡ 1
+behind_filled : (b : Scored) (f : Fit) → fit_count (behind b f) ≡ 1
 unfolding behind
-behind-filled Nothing f = refl
-behind-filled (Found w) f = go (fitIsBetter f w)
+behind_filled Nothing f = refl
+behind_filled (Found w) f = go (fit_is_better f w)
   where
-    go : (t : Bool) → fitCount (cond t (Found f) (Found w)) ≡ 1
+    go : (t : Bool) → fit_count (cond t (Found f) (Found w)) ≡ 1
     go true = refl
     go false = refl
 
-insert-placed : (a b : Scored) (f : Fit) (c : ℕ) → fitCount a + fitCount b ≡ min topFits c → fitCount b ≤ fitCount a
-    → Placed (insertAt a b f) (c + 1)
-unfolding insertAt
-insert-placed Nothing b f c e o = record { places = omega arith; order = omega arith }
-insert-placed (Found v) b f c e o = go (fitIsBetter f v) (behind-filled b f)
+insert_placed : (a b : Scored) (f : Fit) (c : ℕ) → fit_count a + fit_count b ≡ min top_fits c → fit_count b ≤ fit_count a
+    → Placed (insert_at a b f) (c + 1)
+unfolding insert_at
+insert_placed Nothing b f c e o = record { places = omega arith; order = omega arith }
+insert_placed (Found v) b f c e o = go (fit_is_better f v) (behind_filled b f)
   where
     go :
-        (t : Bool) → fitCount (behind b f) ≡ 1 →
+        (t : Bool) → fit_count (behind b f) ≡ 1 →
         Placed (cond t (record { first = Found f; second = Found v }) (record { first = Found v; second = behind b f })) (c + 1)
     go true h = record { places = omega arith; order = omega arith }
     go false h = record { places = omega arith; order = omega arith }
 
-entered-counted : (l : Leaders) (x : Scored) (t c : ℕ) → LeadersCounted l t c → LeadersCounted (entered l x) (t + 1) (c + fitCount x)
-unfolding entered insertTop
-entered-counted l Nothing t c h =
+entered_counted : (l : Leaders) (x : Scored) (t c : ℕ) → LeadersCounted l t c → LeadersCounted (entered l x) (t + 1) (c + fit_count x)
+unfolding entered insert_top
+entered_counted l Nothing t c h =
     let z : c + 0 ≡ c = omega arith in
     record { trials = ap (λ n. n + 1) h.trials; top = rw z h.top }
-entered-counted l (Found f) t c h =
-    let p = insert-placed l.top.first l.top.second f c h.top.places h.top.order in
+entered_counted l (Found f) t c h =
+    let p = insert_placed l.top.first l.top.second f c h.top.places h.top.order in
     record { trials = ap (λ n. n + 1) h.trials; top = p }
 
-turns-counted :
+turns_counted :
     (g : ℕ → Scored) (l : Leaders) (t c n : ℕ) → LeadersCounted l t c →
-    LeadersCounted (iter (λ r l. entered l (g r)) l n) (t + n) (iter (λ r c. c + fitCount (g r)) c n)
+    LeadersCounted (iter (λ r l. entered l (g r)) l n) (t + n) (iter (λ r c. c + fit_count (g r)) c n)
 unfolding iter
-turns-counted g l t c zero h = let z : t + 0 ≡ t = omega arith in rw z h
-turns-counted g l t c (suc n) h =
+turns_counted g l t c zero h = let z : t + 0 ≡ t = omega arith in rw z h
+turns_counted g l t c (suc n) h =
     let z : t + suc n ≡ t + n + 1 = omega arith in
-    let i = turns-counted g l t c n h in
-    rw z (entered-counted (iter (λ r l. entered l (g r)) l n) (g n) (t + n) (iter (λ r c. c + fitCount (g r)) c n) i)
+    let i = turns_counted g l t c n h in
+    rw z (entered_counted (iter (λ r l. entered l (g r)) l n) (g n) (t + n) (iter (λ r c. c + fit_count (g r)) c n) i)
 
 -- ---- the bill of what is led
-lead-trials : (D : DiskData) (v : Fit) (s : Refined) → (lead D v s).trials ≡ s.trials + 24
+lead_trials : (D : DiskData) (v : Fit) (s : Refined) → (lead D v s).trials ≡ s.trials + 24
 unfolding lead
-lead-trials D v s = ap (◌+◌ s.trials) (refine-trials D v)
+lead_trials D v s = ap (◌+◌ s.trials) (refine_trials D v)
 
-places-billed : (D : DiskData) (t : ℕ) (a b : Scored) → fitCount b ≤ fitCount a → trialsOf (firstLed D t a b) ≡ t + 24 * (fitCount a + fitCount b)
-unfolding firstLed secondLed
-places-billed D t Nothing b o = omega arith
-places-billed D t (Found v) Nothing o = let e = lead-trials D v (record { best = v; trials = t }) in omega arith
-places-billed D t (Found v) (Found w) o =
+places_billed : (D : DiskData) (t : ℕ) (a b : Scored) → fit_count b ≤ fit_count a → trials_of (first_led D t a b) ≡ t + 24 * (fit_count a + fit_count b)
+unfolding first_led second_led
+places_billed D t Nothing b o = omega arith
+places_billed D t (Found v) Nothing o = let e = lead_trials D v (record { best = v; trials = t }) in omega arith
+places_billed D t (Found v) (Found w) o =
     let s : Refined = lead D v (record { best = v; trials = t }) in
-    let e = lead-trials D v (record { best = v; trials = t }) in
-    let g = lead-trials D w s in
+    let e = lead_trials D v (record { best = v; trials = t }) in
+    let g = lead_trials D w s in
     omega arith
 
-none-led : (D : DiskData) (candidates : CandidateSet) → Missing 0 ≡ led D (triedAll D candidates [])
-unfolding led firstLed triedAll tried_at iter
-none-led D candidates = refl
+none_led : (D : DiskData) (candidates : CandidateSet) → Missing 0 ≡ led D (tried_all D candidates [])
+unfolding led first_led tried_all tried_at iter
+none_led D candidates = refl
 
 -- ---- the pool has the allowed pairs: a turn adds one where the pair is allowed, and is counted so
-module _ (candidates : CandidateSet) (edgeAlign : Row) (gradTotal : Float) (forceSeed forceHist : Forced) where
-  pair-counted :
-      (i j : ℕ) (p : Pool) → (pooledPair candidates edgeAlign gradTotal forceSeed forceHist i j p).n
-      ≡ cond (validPair (at candidates.angles i) (at candidates.angles j)) (p.n + 1) p.n
-  unfolding pooledPair pooled
-  pair-counted i j p = go (validPair (at candidates.angles i) (at candidates.angles j))
+module _ (candidates : CandidateSet) (edge_align : Row) (grad_total : Float) (force_seed force_hist : Forced) where
+  pair_counted :
+      (i j : ℕ) (p : Pool) → (pooled_pair candidates edge_align grad_total force_seed force_hist i j p).n
+      ≡ cond (valid_pair (at candidates.angles i) (at candidates.angles j)) (p.n + 1) p.n
+  unfolding pooled_pair pooled
+  pair_counted i j p = go (valid_pair (at candidates.angles i) (at candidates.angles j))
     where
-      go : (b : Bool) → (cond b (pooled (pairScore edgeAlign gradTotal forceSeed forceHist i j) p) p).n ≡ cond b (p.n + 1) p.n
+      go : (b : Bool) → (cond b (pooled (pair_score edge_align grad_total force_seed force_hist i j) p) p).n ≡ cond b (p.n + 1) p.n
       go true = refl
       go false = refl
 
-  row-counted : (i : ℕ) (p : Pool) → (pooledFrom candidates edgeAlign gradTotal forceSeed forceHist i p).n ≡ allowedFrom candidates i p.n
-  unfolding pooledFrom allowedFrom range
-  row-counted i p =
-      iter-through (λ p. p.n) (λ d. pooledPair candidates edgeAlign gradTotal forceSeed forceHist i (i + 1 + d)) _ p (candidates.n - (i + 1))
-      (λ d x. pair-counted i (i + 1 + d) x)
+  row_counted : (i : ℕ) (p : Pool) → (pooled_from candidates edge_align grad_total force_seed force_hist i p).n ≡ allowed_from candidates i p.n
+  unfolding pooled_from allowed_from range
+  row_counted i p =
+      iter_through (λ p. p.n) (λ d. pooled_pair candidates edge_align grad_total force_seed force_hist i (i + 1 + d)) _ p (candidates.n - (i + 1))
+      (λ d x. pair_counted i (i + 1 + d) x)
 
-  pool-counted : (buildPairPool candidates edgeAlign gradTotal forceSeed forceHist).n ≡ allowedOf candidates
-  unfolding buildPairPool allowedOf
-  pool-counted =
-      iter-through (λ p. p.n) (pooledFrom candidates edgeAlign gradTotal forceSeed forceHist) (allowedFrom candidates) noPairs candidates.n row-counted
+  pool_counted : (build_pair_pool candidates edge_align grad_total force_seed force_hist).n ≡ allowed_of candidates
+  unfolding build_pair_pool allowed_of
+  pool_counted =
+      iter_through (λ p. p.n) (pooled_from candidates edge_align grad_total force_seed force_hist) (allowed_from candidates) no_pairs candidates.n row_counted
 
 -- fewer than two candidates have none
-few-allowed : (candidates : CandidateSet) → candidates.n < 2 → allowedOf candidates ≡ 0
-unfolding allowedOf
-few-allowed candidates h = go candidates.n refl h
+few_allowed : (candidates : CandidateSet) → candidates.n < 2 → allowed_of candidates ≡ 0
+unfolding allowed_of
+few_allowed candidates h = go candidates.n refl h
   where
-    none : candidates.n ≡ 1 → allowedFrom candidates 0 0 ≡ 0
-    none e = unfold allowedFrom in rw (e, range-start)
+    none : candidates.n ≡ 1 → allowed_from candidates 0 0 ≡ 0
+    none e = unfold allowed_from in rw (e, range_start)
 
     two : (m : ℕ) → suc (suc m) < 2 → ⊥
     two m h = omega arith
 
-    go : (m : ℕ) → candidates.n ≡ m → m < 2 → iter (allowedFrom candidates) 0 m ≡ 0
+    go : (m : ℕ) → candidates.n ≡ m → m < 2 → iter (allowed_from candidates) 0 m ≡ 0
     go zero e h = unfold iter in refl
     go (suc zero) e h = unfold iter in none e
     go (suc (suc m)) e h = absurd (two m h)
 
 module _ (D : DiskData) (base0 base1 : Float) where
   -- whatever is refused before a trial is what no trial leaves
-  pub best-is-led : bestDiskFit D base0 base1 ≡ led D (leadersOf D base0 base1)
-  unfolding bestDiskFit searched leadersOf pairsTried poolHere
-  best-is-led = go (ltb candidates.n 2) (eqb pool.n 0)
+  pub best_is_led : best_disk_fit D base0 base1 ≡ led D (leaders_of D base0 base1)
+  unfolding best_disk_fit searched leaders_of pairs_tried pool_here
+  best_is_led = go (ltb candidates.n 2) (eqb pool.n 0)
     where
       candidates : CandidateSet
-      candidates = candidatesOf D base0 base1
+      candidates = candidates_of D base0 base1
 
       pool : Pool
-      pool = poolOf D candidates base0 base1
+      pool = pool_of D candidates base0 base1
 
       after : List PairScore → Leaders
-      after ps = triedAll D candidates ps
+      after ps = tried_all D candidates ps
 
       go :
           (a b : Bool) → cond a (Missing 0) (cond b (Missing 0) (led D (after (ranked pool))))
           ≡ led D (after (cond a [] (cond b [] (ranked pool))))
-      go true b = none-led D candidates
-      go false true = none-led D candidates
+      go true b = none_led D candidates
+      go false true = none_led D candidates
       go false false = refl
 
-  leaders-counted : LeadersCounted (leadersOf D base0 base1) (4 * pairsKept D base0 base1) (answeredTrials D base0 base1)
-  unfolding leadersOf answeredTrials answeredAt trial triedAll tried_at pairsKept iter
-  leaders-counted = rw z (at_width 3 _ _ _ (at_width 2 _ _ _ (at_width 1 _ _ _ (at_width 0 noLeaders 0 0 start))))
+  leaders_counted : LeadersCounted (leaders_of D base0 base1) (4 * pairs_kept D base0 base1) (answered_trials D base0 base1)
+  unfolding leaders_of answered_trials answered_at trial tried_all tried_at pairs_kept iter
+  leaders_counted = rw z (at_width 3 _ _ _ (at_width 2 _ _ _ (at_width 1 _ _ _ (at_width 0 no_leaders 0 0 start))))
     where
       k : ℕ
-      k = pairsKept D base0 base1
+      k = pairs_kept D base0 base1
 
       z : 4 * k ≡ 0 + k + k + k + k
       z = omega arith
 
-      start : LeadersCounted noLeaders 0 0
+      start : LeadersCounted no_leaders 0 0
       start = record { trials = refl; top = record { places = refl; order = omega arith } }
 
       at_width :
           (w : ℕ) (l : Leaders) (t c : ℕ) → LeadersCounted l t c →
-          LeadersCounted (tried_at D (candidatesOf D base0 base1) (pairsTried D base0 base1) (at widthsPx w) l) (t + k)
-          (answeredAt D base0 base1 (at widthsPx w) c)
-      at_width w l t c h = turns-counted (trial D base0 base1 (at widthsPx w)) l t c k h
+          LeadersCounted (tried_at D (candidates_of D base0 base1) (pairs_tried D base0 base1) (at widths_px w) l) (t + k)
+          (answered_at D base0 base1 (at widths_px w) c)
+      at_width w l t c h = turns_counted (trial D base0 base1 (at widths_px w)) l t c k h
 
   -- the second place is filled only where the first is
-  leaders-in-order : fitCount (leadersOf D base0 base1).top.second ≤ fitCount (leadersOf D base0 base1).top.first
-  leaders-in-order = leaders-counted.top.order
+  leaders_in_order : fit_count (leaders_of D base0 base1).top.second ≤ fit_count (leaders_of D base0 base1).top.first
+  leaders_in_order = leaders_counted.top.order
 
   -- m is the lesser of 2 and the trials that answered
-  pub leaders-are : leadersKept D base0 base1 ≡ min topFits (answeredTrials D base0 base1)
-  unfolding leadersKept
-  leaders-are = leaders-counted.top.places
+  pub leaders_are : leaders_kept D base0 base1 ≡ min top_fits (answered_trials D base0 base1)
+  unfolding leaders_kept
+  leaders_are = leaders_counted.top.places
 
-  leaders-most : leadersKept D base0 base1 ≤ 2
-  leaders-most = let e = leaders-are in omega arith
+  leaders_most : leaders_kept D base0 base1 ≤ 2
+  leaders_most = let e = leaders_are in omega arith
 
   -- k is the lesser of 24 and the allowed pairs
-  pub pairs-are : pairsKept D base0 base1 ≡ min maxTopPairs (allowedPairs D base0 base1)
-  unfolding pairsKept pairsTried allowedPairs
-  pairs-are =
-      go (ltb candidates.n 2) (eqb pool.n 0) (λ e. few-allowed candidates (ltb-true candidates.n 2 e)) (eqb-true pool.n 0) refl refl
+  pub pairs_are : pairs_kept D base0 base1 ≡ min max_top_pairs (allowed_pairs D base0 base1)
+  unfolding pairs_kept pairs_tried allowed_pairs
+  pairs_are =
+      go (ltb candidates.n 2) (eqb pool.n 0) (λ e. few_allowed candidates (ltb-true candidates.n 2 e)) (eqb-true pool.n 0) refl refl
     where
       candidates : CandidateSet
-      candidates = candidatesOf D base0 base1
+      candidates = candidates_of D base0 base1
 
       pool : Pool
-      pool = poolHere D base0 base1
+      pool = pool_here D base0 base1
 
-      counted : pool.n ≡ allowedOf candidates
-      counted = unfold poolHere poolOf in pool-counted candidates _ _ _ _
+      counted : pool.n ≡ allowed_of candidates
+      counted = unfold pool_here pool_of in pool_counted candidates _ _ _ _
 
       go :
-          (a b : Bool) → (ltb candidates.n 2 ≡ true → allowedOf candidates ≡ 0) → (eqb pool.n 0 ≡ true → pool.n ≡ 0) →
+          (a b : Bool) → (ltb candidates.n 2 ≡ true → allowed_of candidates ≡ 0) → (eqb pool.n 0 ≡ true → pool.n ≡ 0) →
           ltb candidates.n 2 ≡ a → eqb pool.n 0 ≡ b →
-          length (cond a [] (cond b [] (ranked pool))) ≡ min maxTopPairs (allowedOf candidates)
+          length (cond a [] (cond b [] (ranked pool))) ≡ min max_top_pairs (allowed_of candidates)
       go true b f g e d = let z = f e in omega arith
       go false true f g e d = let z = g d in let c = counted in omega arith
-      go false false f g e d = rw (← counted) (ranked-length pool)
+      go false false f g e d = rw (← counted) (ranked_length pool)
 
-  pairs-most : pairsKept D base0 base1 ≤ 24
-  pairs-most = let e = pairs-are in omega arith
+  pairs_most : pairs_kept D base0 base1 ≤ 24
+  pairs_most = let e = pairs_are in omega arith
 
   -- the bill: four trials for each ranked pair, 24 for each leader
-  pub disk-bill : trialsOf (bestDiskFit D base0 base1) ≡ 4 * pairsKept D base0 base1 + 24 * leadersKept D base0 base1
-  unfolding leadersKept led
-  disk-bill =
-      let l = leadersOf D base0 base1 in
-      ap trialsOf best-is-led ∙ places-billed D l.trials l.top.first l.top.second leaders-in-order ∙
-      ap (λ t. t + 24 * (fitCount l.top.first + fitCount l.top.second)) leaders-counted.trials
+  pub disk_bill : trials_of (best_disk_fit D base0 base1) ≡ 4 * pairs_kept D base0 base1 + 24 * leaders_kept D base0 base1
+  unfolding leaders_kept led
+  disk_bill =
+      let l = leaders_of D base0 base1 in
+      ap trials_of best_is_led ∙ places_billed D l.trials l.top.first l.top.second leaders_in_order ∙
+      ap (λ t. t + 24 * (fit_count l.top.first + fit_count l.top.second)) leaders_counted.trials
 
-  pub disk-bill-most : trialsOf (bestDiskFit D base0 base1) ≤ 144
-  disk-bill-most = let e = disk-bill in let k = pairs-most in let m = leaders-most in omega arith
+  pub disk_bill_most : trials_of (best_disk_fit D base0 base1) ≤ 144
+  disk_bill_most = let e = disk_bill in let k = pairs_most in let m = leaders_most in omega arith
 
   -- where nothing is found there was no leader
-  pub missing-leaders : (t : ℕ) → bestDiskFit D base0 base1 ≡ Missing t → leadersKept D base0 base1 ≡ 0
-  unfolding leadersKept led firstLed secondLed
-  missing-leaders t e =
-      go (leadersOf D base0 base1).top.first (leadersOf D base0 base1).top.second leaders-in-order (sym best-is-led ∙ e)
+  pub missing_leaders : (t : ℕ) → best_disk_fit D base0 base1 ≡ Missing t → leaders_kept D base0 base1 ≡ 0
+  unfolding leaders_kept led first_led second_led
+  missing_leaders t e =
+      go (leaders_of D base0 base1).top.first (leaders_of D base0 base1).top.second leaders_in_order (sym best_is_led ∙ e)
     where
       never : {f : Fit} {n : ℕ} → Best f n ≡ Missing t → ⊥
       never e = let z : ◌≡◌ {A = ℕ} 0 1 = cc in omega arith
 
-      second : (b : Scored) (s : Refined) → secondLed D b s ≡ Missing t → ⊥
+      second : (b : Scored) (s : Refined) → second_led D b s ≡ Missing t → ⊥
       second Nothing s e = never e
       second (Found w) s e = never e
 
       go :
-          (a b : Scored) → fitCount b ≤ fitCount a → firstLed D (leadersOf D base0 base1).trials a b ≡ Missing t → fitCount a + fitCount b ≡ 0
+          (a b : Scored) → fit_count b ≤ fit_count a → first_led D (leaders_of D base0 base1).trials a b ≡ Missing t → fit_count a + fit_count b ≡ 0
       go Nothing b o e = omega arith
       go (Found v) b o e = absurd (second b _ e)
 
-  pub missing-bill : (t : ℕ) → bestDiskFit D base0 base1 ≡ Missing t → t ≡ 4 * pairsKept D base0 base1
-  missing-bill t e =
-      let b : t ≡ 4 * pairsKept D base0 base1 + 24 * leadersKept D base0 base1 = sym (ap trialsOf e) ∙ disk-bill in
-      let m = missing-leaders t e in
+  pub missing_bill : (t : ℕ) → best_disk_fit D base0 base1 ≡ Missing t → t ≡ 4 * pairs_kept D base0 base1
+  missing_bill t e =
+      let b : t ≡ 4 * pairs_kept D base0 base1 + 24 * leaders_kept D base0 base1 = sym (ap trials_of e) ∙ disk_bill in
+      let m = missing_leaders t e in
       omega arith
 
-  pub missing-trials : (t : ℕ) → bestDiskFit D base0 base1 ≡ Missing t → t ≤ 96
-  missing-trials t e = let b = missing-bill t e in let k = pairs-most in omega arith
+  pub missing_trials : (t : ℕ) → best_disk_fit D base0 base1 ≡ Missing t → t ≤ 96
+  missing_trials t e = let b = missing_bill t e in let k = pairs_most in omega arith

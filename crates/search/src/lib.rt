@@ -1,8 +1,8 @@
 // The whole disk search: disk_sector/search.rs, insert_top and best_disk_fit. Its step 3 is in
 // search_ranking.
 ghost use Rattle.std.specs.Prelude.{◌≡◌, ◌+◌, ◌*◌, ◌≤◌, ◌<◌, length, take};
-ghost use Rattle.data.specs.Data.{lentDisk, OfPixels, OfValues, OfGradients, DiskSized, maxTanhPixels};
-ghost use Rattle.candidates.specs.Candidates.{maxPaired, maxPairs};
+ghost use Rattle.data.specs.Data.{lent_disk, OfPixels, OfValues, OfGradients, DiskSized, max_tanh_pixels};
+ghost use Rattle.candidates.specs.Candidates.{max_paired, max_pairs};
 ghost use Rattle.search.specs.Search as S;
 ghost use Rattle.search.specs.Cache as K;
 
@@ -43,7 +43,7 @@ pub enum DiskFit {
 }
 
 pub fn insert_top(top: Top, fit: Fit) -> Top
-    ensures { result ≡ S.insertTop top fit }
+    ensures { result ≡ S.insert_top top fit }
 {
     let first = top.first;
     let Scored::Found(v) = first else {
@@ -101,7 +101,7 @@ fn ensure_row(
     filled: [bool; candidates::MAX_PAIRED],
     cache: &mut [f32],
 ) -> [bool; candidates::MAX_PAIRED]
-    requires { (c < maxPaired) × (length ys.now ≡ length xs.now) × (length xs.now ≤ maxTanhPixels)
+    requires { (c < max_paired) × (length ys.now ≡ length xs.now) × (length xs.now ≤ max_tanh_pixels)
         × K.Cached xs.now ys.now candidates width filled cache.old }
     ensures { K.Cached xs.now ys.now candidates width result cache.new × K.Keeps filled result c }
 {
@@ -126,8 +126,8 @@ fn score_cached(
     width: f32,
     cache: &[f32],
 ) -> Scored
-    requires { (p.i < maxPaired) × (p.j < maxPaired) × (length vals_centered.now ≤ maxTanhPixels) × (length cache.now ≡ K.cacheRoom) }
-    ensures { OfValues val_energy vals_centered (λ D. result ≡ K.cachedScore D candidates width p cache.now) }
+    requires { (p.i < max_paired) × (p.j < max_paired) × (length vals_centered.now ≤ max_tanh_pixels) × (length cache.now ≡ K.cache_room) }
+    ensures { OfValues val_energy vals_centered (λ D. result ≡ K.cached_score D candidates width p cache.now) }
 {
     let i = p.i as usize;
     let j = p.j as usize;
@@ -160,11 +160,11 @@ fn try_pair(
     width: f32,
     cache: &mut [f32],
 ) -> Pass
-    requires { (pass.leaders.trials < 1000) × (p.i < maxPaired) × (p.j < maxPaired)
+    requires { (pass.leaders.trials < 1000) × (p.i < max_paired) × (p.j < max_paired)
         × K.Pixels xs.now ys.now vals_centered.now × K.Cached xs.now ys.now candidates width pass.filled cache.old }
     ensures { K.Cached xs.now ys.now candidates width result.filled cache.new
         × (result.leaders.trials ≡ pass.leaders.trials + 1)
-        × OfPixels val_energy xs ys vals_centered (λ D. result.leaders ≡ S.entered pass.leaders (S.pairScored D candidates width p)) }
+        × OfPixels val_energy xs ys vals_centered (λ D. result.leaders ≡ S.entered pass.leaders (S.pair_scored D candidates width p)) }
 {
     let i = p.i as usize;
     let j = p.j as usize;
@@ -189,8 +189,8 @@ fn try_width(
     cache: &mut [f32],
 ) -> Leaders
     requires { (leaders.trials ≤ 72) × K.Listed ranked × K.Pixels xs.now ys.now vals_centered.now
-        × (length cache.old ≡ K.cacheRoom) }
-    ensures { (length cache.new ≡ K.cacheRoom) × (result.trials ≡ leaders.trials + ranked.n)
+        × (length cache.old ≡ K.cache_room) }
+    ensures { (length cache.new ≡ K.cache_room) × (result.trials ≡ leaders.trials + ranked.n)
         × OfPixels val_energy xs ys vals_centered (λ D. result ≡ S.tried_at D candidates (take ranked.n ranked.pairs) width leaders) }
 {
     let k = ranked.n;
@@ -223,9 +223,9 @@ fn try_widths(
     ranked: Ranked,
     cache: &mut [f32],
 ) -> Leaders
-    requires { K.Listed ranked × K.Pixels xs.now ys.now vals_centered.now × (length cache.old ≡ K.cacheRoom) }
+    requires { K.Listed ranked × K.Pixels xs.now ys.now vals_centered.now × (length cache.old ≡ K.cache_room) }
     ensures { (result.trials ≡ 4 * ranked.n)
-        × OfPixels val_energy xs ys vals_centered (λ D. result ≡ S.triedAll D candidates (take ranked.n ranked.pairs)) }
+        × OfPixels val_energy xs ys vals_centered (λ D. result ≡ S.tried_all D candidates (take ranked.n ranked.pairs)) }
 {
     let mut leaders = Leaders {
         top: Top {
@@ -262,7 +262,7 @@ fn try_all(
 ) -> Leaders
     requires { K.Listed ranked × K.Pixels xs.now ys.now vals_centered.now }
     ensures { (result.trials ≡ 4 * ranked.n)
-        × OfPixels val_energy xs ys vals_centered (λ D. result ≡ S.triedAll D candidates (take ranked.n ranked.pairs)) }
+        × OfPixels val_energy xs ys vals_centered (λ D. result ≡ S.tried_all D candidates (take ranked.n ranked.pairs)) }
 {
     let mut cache = [0.0f32; CACHE];
     try_widths(
@@ -289,7 +289,7 @@ fn lead(
 ) -> Refined
     requires { (s.trials < 1000) × DiskSized xs.now ys.now vals_centered.now grad_angles.now grad_weights.now }
     ensures { (result.trials ≡ s.trials + 24)
-        × (result ≡ S.lead (lentDisk val_energy xs ys vals_centered grad_angles grad_weights) seed s) }
+        × (result ≡ S.lead (lent_disk val_energy xs ys vals_centered grad_angles grad_weights) seed s) }
 {
     let best = s.best;
     let mut rows = [0.0f32; search_rows::ROWS];
@@ -322,7 +322,7 @@ fn led(
     grad_weights: &[f32],
 ) -> DiskFit
     requires { (leaders.trials ≤ 96) × DiskSized xs.now ys.now vals_centered.now grad_angles.now grad_weights.now }
-    ensures { result ≡ S.led (lentDisk val_energy xs ys vals_centered grad_angles grad_weights)
+    ensures { result ≡ S.led (lent_disk val_energy xs ys vals_centered grad_angles grad_weights)
         leaders }
 {
     let top = leaders.top;
@@ -371,9 +371,9 @@ fn pool_of(
     grad_weights: &[f32],
     candidates: CandidateSet,
 ) -> Pool
-    requires { (candidates.n ≤ maxPaired) × (length grad_weights.now ≡ length grad_angles.now)
-        × (length grad_angles.now ≤ maxTanhPixels) }
-    ensures { (result.n ≤ maxPairs) × OfGradients grad_angles grad_weights (λ D. result ≡ S.poolOf D candidates base0 base1) }
+    requires { (candidates.n ≤ max_paired) × (length grad_weights.now ≡ length grad_angles.now)
+        × (length grad_angles.now ≤ max_tanh_pixels) }
+    ensures { (result.n ≤ max_pairs) × OfGradients grad_angles grad_weights (λ D. result ≡ S.pool_of D candidates base0 base1) }
 {
     let mut edge_align = [0.0f32; candidates::MAX_CANDIDATES];
     let mut terms = [0.0f32; data::MAX_TANH_PIXELS];
@@ -403,9 +403,9 @@ fn search_set(
     grad_weights: &[f32],
     candidates: CandidateSet,
 ) -> DiskFit
-    requires { (2 ≤ candidates.n) × (candidates.n ≤ maxPaired)
+    requires { (2 ≤ candidates.n) × (candidates.n ≤ max_paired)
         × DiskSized xs.now ys.now vals_centered.now grad_angles.now grad_weights.now }
-    ensures { result ≡ S.searched (lentDisk val_energy xs ys vals_centered grad_angles grad_weights)
+    ensures { result ≡ S.searched (lent_disk val_energy xs ys vals_centered grad_angles grad_weights)
         candidates base0 base1 }
 {
     let pool = pool_of(base0, base1, grad_angles, grad_weights, candidates);
@@ -437,7 +437,7 @@ pub fn best_disk_fit(
     grad_weights: &[f32],
 ) -> DiskFit
     requires { DiskSized xs.now ys.now vals_centered.now grad_angles.now grad_weights.now }
-    ensures { result ≡ S.bestDiskFit (lentDisk val_energy xs ys vals_centered grad_angles grad_weights)
+    ensures { result ≡ S.best_disk_fit (lent_disk val_energy xs ys vals_centered grad_angles grad_weights)
         base0 base1 }
 {
     let b0 = geometry::wrap_pi(base0);

@@ -1,6 +1,6 @@
 // The ranking of the pool: disk_sector/search.rs, best_disk_fit, step 3.
 ghost use Rattle.std.specs.Prelude.{◌≡◌, ◌≤◌, replicate};
-ghost use Rattle.candidates.specs.Candidates.{maxPairs, noPair};
+ghost use Rattle.candidates.specs.Candidates.{max_pairs, no_pair};
 ghost use Rattle.search_ranking.specs.Ranking as R;
 
 use candidates::{PairScore, Pool};
@@ -15,7 +15,7 @@ pub struct Ranked {
 }
 
 fn keys_before(a: PairScore, b: PairScore) -> bool
-    ensures { result ≡ R.keysBefore a b }
+    ensures { result ≡ R.keys_before a b }
 {
     let ka = floats::total_key(a.edge_score);
     let kb = floats::total_key(b.edge_score);
@@ -35,7 +35,7 @@ fn keys_before(a: PairScore, b: PairScore) -> bool
 }
 
 fn is_before(a: PairScore, b: PairScore) -> bool
-    ensures { result ≡ R.isBefore a b }
+    ensures { result ≡ R.is_before a b }
 {
     if a.forced {
         if b.forced {
@@ -50,7 +50,7 @@ fn is_before(a: PairScore, b: PairScore) -> bool
 }
 
 fn unranked() -> Ranked
-    ensures { (result.n ≡ 0) × (result.pairs ≡ replicate R.maxTopPairs noPair) }
+    ensures { (result.n ≡ 0) × (result.pairs ≡ replicate R.max_top_pairs no_pair) }
 {
     let p = PairScore {
         i: 0,
@@ -64,7 +64,7 @@ fn unranked() -> Ranked
 
 // Each pair goes down the ranking so far; the one that falls off the last place is dropped.
 pub fn rank(pool: Pool) -> Ranked
-    requires { pool.n ≤ maxPairs }
+    requires { pool.n ≤ max_pairs }
     ensures { result ≡ R.rank pool }
 {
     let n = pool.n;

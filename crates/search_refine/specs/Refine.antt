@@ -3,12 +3,12 @@
 use Rattle.std.specs.Prelude.{cond, ◌&&◌, List, [], ◌∷◌, ◌++◌, ℕ, leb, length, get_or, Float}
 use Rattle.std.specs.Float.Ieee.{neg, eq}
 use Rattle.floats.specs.Ops.{◌⊕◌, lit, nought}
-use Rattle.floats.specs.Library.{toRadians}
+use Rattle.floats.specs.Library.{to_radians}
 use Rattle.loops.specs.Loops.{iter, tab}
-use Rattle.data.specs.Data.{DiskData, maxTanhPixels}
-use Rattle.candidates.specs.Candidates.{combineEdgePair}
-use Rattle.score_edges.specs.Edges.{edgeWeightTotal, refinedSum}
-use Rattle.score.specs.Score.{axisRow, scorePairCached, fitIsBetter}
+use Rattle.data.specs.Data.{DiskData, max_tanh_pixels}
+use Rattle.candidates.specs.Candidates.{combine_edge_pair}
+use Rattle.score_edges.specs.Edges.{edge_weight_total, refined_sum}
+use Rattle.score.specs.Score.{axis_row, score_pair_cached, fit_is_better}
 use Rattle.score.specs.declared.Fit.{Fit}
 use Rattle.score.specs.declared.Scored.{Scored}
 use Rattle.score.specs.declared.Scored.TheVariants.{Found, Nothing}
@@ -20,19 +20,19 @@ abbrev pub by : Float → Float → Offset
 by d0 d1 = record { d0 = d0; d1 = d1 }
 
 -- if d0 == 0.0 && d1 == 0.0 { continue }
-unfoldable pub unlessMiddle : Float → Float → List Offset
-unlessMiddle d0 d1 = cond (eq d0 nought && eq d1 nought) [] (by d0 d1 ∷ [])
+unfoldable pub unless_middle : Float → Float → List Offset
+unless_middle d0 d1 = cond (eq d0 nought && eq d1 nought) [] (by d0 d1 ∷ [])
 
 -- for d1 in [-step, 0.0, step], and for d0 in the same
 unfoldable pub beside : Float → Float → List Offset
-beside step d0 = unlessMiddle d0 (neg step) ++ (unlessMiddle d0 nought ++ unlessMiddle d0 step)
+beside step d0 = unless_middle d0 (neg step) ++ (unless_middle d0 nought ++ unless_middle d0 step)
 
-unfoldable pub offsetsAround : Float → List Offset
-offsetsAround step = beside step (neg step) ++ (beside step nought ++ beside step step)
+unfoldable pub offsets_around : Float → List Offset
+offsets_around step = beside step (neg step) ++ (beside step nought ++ beside step step)
 
 -- for step_deg in [1.0, 0.5, 0.25]
 unfoldable pub offsets : List Offset
-offsets = offsetsAround (toRadians (lit 0x3f80_0000)) ++ (offsetsAround (toRadians (lit 0x3f00_0000)) ++ offsetsAround (toRadians (lit 0x3e80_0000)))
+offsets = offsets_around (to_radians (lit 0x3f80_0000)) ++ (offsets_around (to_radians (lit 0x3f00_0000)) ++ offsets_around (to_radians (lit 0x3e80_0000)))
 
 -- eight at each step
 abbrev pub neighbours : ℕ
@@ -45,40 +45,40 @@ module _ (D : DiskData) (total : Float) where
   neighbour o best =
       let theta1 = best.theta1 ⊕ o.d0 in
       let theta2 = best.theta2 ⊕ o.d1 in
-      let edge1 = refinedSum D.n D.grad_angles D.grad_weights theta1 in
-      let edge2 = refinedSum D.n D.grad_angles D.grad_weights theta2 in
-      scorePairCached D theta1 theta2 best.width (combineEdgePair edge1 edge2 total)
-      (axisRow D.n D.xs D.ys theta1 best.width)
-      (axisRow D.n D.xs D.ys theta2 best.width)
+      let edge1 = refined_sum D.n D.grad_angles D.grad_weights theta1 in
+      let edge2 = refined_sum D.n D.grad_angles D.grad_weights theta2 in
+      score_pair_cached D theta1 theta2 best.width (combine_edge_pair edge1 edge2 total)
+      (axis_row D.n D.xs D.ys theta1 best.width)
+      (axis_row D.n D.xs D.ys theta2 best.width)
 
 -- an answer that is better becomes the best
-unfoldable pub betterOf : Scored → Fit → Fit
-betterOf Nothing best = best
-betterOf (Found fit) best = cond (fitIsBetter fit best) fit best
+unfoldable pub better_of : Scored → Fit → Fit
+better_of Nothing best = best
+better_of (Found fit) best = cond (fit_is_better fit best) fit best
 
 unfoldable pub tried : DiskData → Float → Offset → Fit → Fit
-tried D total o best = betterOf (neighbour D total o best) best
+tried D total o best = better_of (neighbour D total o best) best
 
 -- past the end of the offsets
 abbrev pub nowhere : Offset
 nowhere = by nought nought
 
 -- the best after the first t scorings
-unfoldable pub bestAfter : DiskData → Fit → ℕ → Fit
-bestAfter D seed t =
-    let total = edgeWeightTotal D.n D.grad_weights in
+unfoldable pub best_after : DiskData → Fit → ℕ → Fit
+best_after D seed t =
+    let total = edge_weight_total D.n D.grad_weights in
     iter (λ t. tried D total (get_or offsets t nowhere)) seed t
 
 -- the fold over the offsets; its trials are their number
-unfoldable pub refineFitCached : DiskData → Fit → Refined
-refineFitCached D seed = record { best = bestAfter D seed (length offsets); trials = length offsets }
+unfoldable pub refine_fit_cached : DiskData → Fit → Refined
+refine_fit_cached D seed = record { best = best_after D seed (length offsets); trials = length offsets }
 
 -- what the scorings answer, each around the best of its moment
 unfoldable pub answers : DiskData → Fit → List Scored
 answers D seed =
-    let total = edgeWeightTotal D.n D.grad_weights in
-    tab (λ t. neighbour D total (get_or offsets t nowhere) (bestAfter D seed t)) (length offsets)
+    let total = edge_weight_total D.n D.grad_weights in
+    tab (λ t. neighbour D total (get_or offsets t nowhere) (best_after D seed t)) (length offsets)
 
 -- ---- refine_fit: the path for over 320 pixels is left out, so that it is a parameter here
-unfoldable pub refineFit : (DiskData → Fit → Fit) → DiskData → Fit → Fit
-refineFit refineFitScalar D seed = cond (leb D.n maxTanhPixels) (refineFitCached D seed).best (refineFitScalar D seed)
+unfoldable pub refine_fit : (DiskData → Fit → Fit) → DiskData → Fit → Fit
+refine_fit refine_fit_scalar D seed = cond (leb D.n max_tanh_pixels) (refine_fit_cached D seed).best (refine_fit_scalar D seed)

@@ -7,136 +7,136 @@ use Prim.Native.Nat.{ℕ, zero, suc, ◌+◌, ◌/◌, ◌%◌, ◌<◌, ◌≤�
 use Rattle.std.specs.Float.Ieee.{eq, mul, neg, of_bits}
 use Rattle.std.specs.Float.Ieee.Bits.{is_true}
 use Rattle.floats.specs.Ops.{◌⊕◌, lit, nought}
-use Rattle.floats.specs.Library.{toRadians}
+use Rattle.floats.specs.Library.{to_radians}
 use Rattle.loops.specs.Loops.{iter, tab}
 use Rattle.loops.specs.IterLaws.{pick_true}
-use Rattle.loops.specs.TabLaws.{tab-at, tab-length}
+use Rattle.loops.specs.TabLaws.{tab_at, tab_length}
 use Rattle.floats.specs.Rows.{Row, at}
-use Rattle.data.specs.Data.{DiskData, diskOf, maxTanhPixels}
-use Rattle.score_edges.specs.Edges.{edgeWeightTotal}
-use Rattle.score.specs.Score.{fitIsBetter}
-use Rattle.score.specs.ScoreLaws.{scored-width}
+use Rattle.data.specs.Data.{DiskData, disk_of, max_tanh_pixels}
+use Rattle.score_edges.specs.Edges.{edge_weight_total}
+use Rattle.score.specs.Score.{fit_is_better}
+use Rattle.score.specs.ScoreLaws.{scored_width}
 use Rattle.score.specs.declared.Fit.{Fit}
 use Rattle.score.specs.declared.Scored.{Scored}
 use Rattle.score.specs.declared.Scored.TheVariants.{Found, Nothing}
-use Rattle.search_rows.specs.Rows.{Stands, SlotsKept, heldScore}
+use Rattle.search_rows.specs.Rows.{Stands, SlotsKept, held_score}
 use Rattle.search_rows.specs.declared.Slots.{Slots}
 use Rattle.search_refine.specs.declared.Offset.{Offset}
 use Rattle.search_refine.specs.declared.Refined.{Refined}
-use Rattle.search_refine.specs.Refine.{by, unlessMiddle, beside, offsetsAround, offsets, neighbours, nowhere, neighbour, betterOf, tried}
-use Rattle.search_refine.specs.Refine.{bestAfter, refineFitCached, answers, refineFit}
+use Rattle.search_refine.specs.Refine.{by, unless_middle, beside, offsets_around, offsets, neighbours, nowhere, neighbour, better_of, tried}
+use Rattle.search_refine.specs.Refine.{best_after, refine_fit_cached, answers, refine_fit}
 
 -- ---- how the code finds the offsets of neighbour t: eight a step, the middle of the square passed over
 abbrev pub place_of : ℕ → ℕ
 place_of t = t % 8 + t % 8 / 4
 
-abbrev stepAt : ℕ → Float
-stepAt t = toRadians (at (lit 0x3f80_0000 ∷ lit 0x3f00_0000 ∷ lit 0x3e80_0000 ∷ []) (t / 8))
+abbrev step_at : ℕ → Float
+step_at t = to_radians (at (lit 0x3f80_0000 ∷ lit 0x3f00_0000 ∷ lit 0x3e80_0000 ∷ []) (t / 8))
 
 abbrev sides : Float → Row
 sides step = neg step ∷ nought ∷ step ∷ []
 
-abbrev offsetBy : ℕ → Offset
-offsetBy t = by (at (sides (stepAt t)) (place_of t / 3)) (at (sides (stepAt t)) (place_of t % 3))
+abbrev offset_by : ℕ → Offset
+offset_by t = by (at (sides (step_at t)) (place_of t / 3)) (at (sides (step_at t)) (place_of t % 3))
 
-all-offsets : tab offsetBy neighbours ≡ offsets
-unfolding tab offsets offsetsAround beside unlessMiddle toRadians eq mul neg of_bits
-all-offsets = refl
+all_offsets : tab offset_by neighbours ≡ offsets
+unfolding tab offsets offsets_around beside unless_middle to_radians eq mul neg of_bits
+all_offsets = refl
 
-pub offset_at : (t : ℕ) → t < neighbours → offsetBy t ≡ get_or offsets t nowhere
-offset_at t h = sym (tab-at offsetBy nowhere neighbours t h) ∙ ap (λ (l : List Offset). get_or l t nowhere) all-offsets
+pub offset_at : (t : ℕ) → t < neighbours → offset_by t ≡ get_or offsets t nowhere
+offset_at t h = sym (tab_at offset_by nowhere neighbours t h) ∙ ap (λ (l : List Offset). get_or l t nowhere) all_offsets
 
 pub offsets_are : length offsets ≡ neighbours
-offsets_are = ap length (sym all-offsets) ∙ tab-length offsetBy neighbours
+offsets_are = ap length (sym all_offsets) ∙ tab_length offset_by neighbours
 
 -- ---- a neighbour
 -- with the rows of both axes in their slots the held score is the neighbour's
-held-is :
+held_is :
     {xs ys angles weights rows : Row} {slots : Slots} (energy : Float) (vals : Row) (o : Offset) (best : Fit) (i j : ℕ) →
     Stands xs ys angles weights (best.theta1 ⊕ o.d0) best.width slots rows i →
     Stands xs ys angles weights (best.theta2 ⊕ o.d1) best.width slots rows j →
-    heldScore (diskOf energy xs ys vals angles weights) slots best.width i j rows
-    ≡ neighbour (diskOf energy xs ys vals angles weights) slots.total o best
-unfolding heldScore neighbour
-held-is energy vals o best i j h k = rw (h.key, k.key, h.row, k.row, h.edge, k.edge)
+    held_score (disk_of energy xs ys vals angles weights) slots best.width i j rows
+    ≡ neighbour (disk_of energy xs ys vals angles weights) slots.total o best
+unfolding held_score neighbour
+held_is energy vals o best i j h k = rw (h.key, k.key, h.row, k.row, h.edge, k.edge)
 
 -- so what is made of it is the definition's turn
-pub tried-held :
+pub tried_held :
     {xs ys angles weights rows : Row} {slots : Slots} (energy : Float) (vals : Row) (total : Float) (o : Offset) (best next : Fit)
     (i j : ℕ) (a : Scored) →
-    next ≡ betterOf a best → a ≡ heldScore (diskOf energy xs ys vals angles weights) slots best.width i j rows → slots.total ≡ total →
+    next ≡ better_of a best → a ≡ held_score (disk_of energy xs ys vals angles weights) slots best.width i j rows → slots.total ≡ total →
     Stands xs ys angles weights (best.theta1 ⊕ o.d0) best.width slots rows i →
     Stands xs ys angles weights (best.theta2 ⊕ o.d1) best.width slots rows j →
-    next ≡ tried (diskOf energy xs ys vals angles weights) total o best
+    next ≡ tried (disk_of energy xs ys vals angles weights) total o best
 unfolding tried
-tried-held {xs} {ys} {angles} {weights} energy vals total o best next i j a en ea et h k =
-    let D = diskOf energy xs ys vals angles weights in
-    en ∙ ap (λ (x : Scored). betterOf x best) (ea ∙ held-is energy vals o best i j h k ∙ ap (λ (t : Float). neighbour D t o best) et)
+tried_held {xs} {ys} {angles} {weights} energy vals total o best next i j a en ea et h k =
+    let D = disk_of energy xs ys vals angles weights in
+    en ∙ ap (λ (x : Scored). better_of x best) (ea ∙ held_is energy vals o best i j h k ∙ ap (λ (t : Float). neighbour D t o best) et)
 
 -- ---- what every answer has, the best keeps
-pub better-keeps : (P : Fit → Type 0) (a : Scored) (best : Fit) → ((f : Fit) → a ≡ Found f → P f) → P best → P (betterOf a best)
-unfolding betterOf
-better-keeps P Nothing best h p = p
-better-keeps P (Found f) best h p = go (fitIsBetter f best)
+pub better_keeps : (P : Fit → Type 0) (a : Scored) (best : Fit) → ((f : Fit) → a ≡ Found f → P f) → P best → P (better_of a best)
+unfolding better_of
+better_keeps P Nothing best h p = p
+better_keeps P (Found f) best h p = go (fit_is_better f best)
   where
     go : (t : Bool) → P (cond t f best)
     go true = h f refl
     go false = p
 
 -- so the best keeps its width
-pub tried-width : (D : DiskData) (total : Float) (o : Offset) (best : Fit) → (tried D total o best).width ≡ best.width
+pub tried_width : (D : DiskData) (total : Float) (o : Offset) (best : Fit) → (tried D total o best).width ≡ best.width
 unfolding tried neighbour
-tried-width D total o best = better-keeps (λ f. f.width ≡ best.width) _ best (λ f e. scored-width D _ _ _ _ _ _ f e) refl
+tried_width D total o best = better_keeps (λ f. f.width ≡ best.width) _ best (λ f e. scored_width D _ _ _ _ _ _ f e) refl
 
 -- and what is kept for the best's width stays so
 pub kept_on :
     {xs ys angles weights rows : Row} {slots : Slots} (D : DiskData) (total : Float) (o : Offset) (best next : Fit) →
     next ≡ tried D total o best → SlotsKept xs ys angles weights best.width slots rows → SlotsKept xs ys angles weights next.width slots rows
 kept_on {xs} {ys} {angles} {weights} {rows} {slots} D total o best next e h =
-    subst (λ (w : Float). SlotsKept xs ys angles weights w slots rows) (sym (ap (λ (f : Fit). f.width) e ∙ tried-width D total o best)) h
+    subst (λ (w : Float). SlotsKept xs ys angles weights w slots rows) (sym (ap (λ (f : Fit). f.width) e ∙ tried_width D total o best)) h
 
 -- ---- the whole refinement
 -- 24 turns of the code, with the total of all weights
-pub refined-is :
+pub refined_is :
     (energy : Float) (xs ys vals angles weights : Row) (total : Float) (seed : Fit) (r : Refined) →
-    total ≡ edgeWeightTotal (length weights) weights → length weights ≡ length xs → r.trials ≡ neighbours →
-    r.best ≡ iter (λ t. tried (diskOf energy xs ys vals angles weights) total (get_or offsets t nowhere)) seed neighbours →
-    r ≡ refineFitCached (diskOf energy xs ys vals angles weights) seed
-unfolding refineFitCached bestAfter
-refined-is energy xs ys vals angles weights total seed r t w n e =
-    let t' : total ≡ edgeWeightTotal (length xs) weights = rw w at t in
+    total ≡ edge_weight_total (length weights) weights → length weights ≡ length xs → r.trials ≡ neighbours →
+    r.best ≡ iter (λ t. tried (disk_of energy xs ys vals angles weights) total (get_or offsets t nowhere)) seed neighbours →
+    r ≡ refine_fit_cached (disk_of energy xs ys vals angles weights) seed
+unfolding refine_fit_cached best_after
+refined_is energy xs ys vals angles weights total seed r t w n e =
+    let t' : total ≡ edge_weight_total (length xs) weights = rw w at t in
     rw (offsets_are, ← t', ← e, ← n)
 
 -- one scoring for each offset: the best is what their answers make of the seed one after the other, and the trials are their number
 module _ (D : DiskData) (seed : Fit) where
   fold : ℕ → Fit
-  fold k = iter (λ t. betterOf (get_or (answers D seed) t Nothing)) seed k
+  fold k = iter (λ t. better_of (get_or (answers D seed) t Nothing)) seed k
 
-  fold_is : (k : ℕ) → k ≤ length offsets → bestAfter D seed k ≡ fold k
-  unfolding fold bestAfter answers tried iter
+  fold_is : (k : ℕ) → k ≤ length offsets → best_after D seed k ≡ fold k
+  unfolding fold best_after answers tried iter
   fold_is zero h = refl
   fold_is (suc k) h =
-      let total = edgeWeightTotal D.n D.grad_weights in
-      let answer : ℕ → Scored = λ t. neighbour D total (get_or offsets t nowhere) (bestAfter D seed t) in
-      rw (tab-at answer Nothing (length offsets) k (omega arith)) (ap (betterOf (answer k)) (fold_is k (omega arith)))
+      let total = edge_weight_total D.n D.grad_weights in
+      let answer : ℕ → Scored = λ t. neighbour D total (get_or offsets t nowhere) (best_after D seed t) in
+      rw (tab_at answer Nothing (length offsets) k (omega arith)) (ap (better_of (answer k)) (fold_is k (omega arith)))
 
-  answers-are : length (answers D seed) ≡ length offsets
+  answers_are : length (answers D seed) ≡ length offsets
   unfolding answers
-  answers-are = tab-length _ (length offsets)
+  answers_are = tab_length _ (length offsets)
 
-  pub refine-is-fold :
-      refineFitCached D seed
-      ≡ record { best = iter (λ t. betterOf (get_or (answers D seed) t Nothing)) seed (length (answers D seed)); trials = length (answers D seed) }
-  unfolding refineFitCached fold
-  refine-is-fold = rw (answers-are) (rw (fold_is (length offsets) (omega arith)))
+  pub refine_is_fold :
+      refine_fit_cached D seed
+      ≡ record { best = iter (λ t. better_of (get_or (answers D seed) t Nothing)) seed (length (answers D seed)); trials = length (answers D seed) }
+  unfolding refine_fit_cached fold
+  refine_is_fold = rw (answers_are) (rw (fold_is (length offsets) (omega arith)))
 
   -- which are 24
-  pub refine-trials : (refineFitCached D seed).trials ≡ 24
-  refine-trials = ap (λ (r : Refined). r.trials) refine-is-fold ∙ answers-are ∙ offsets_are
+  pub refine_trials : (refine_fit_cached D seed).trials ≡ 24
+  refine_trials = ap (λ (r : Refined). r.trials) refine_is_fold ∙ answers_are ∙ offsets_are
 
 -- up to 320 pixels the Rust takes the cached path
-pub refine-fit-is :
-    (scalar : DiskData → Fit → Fit) (D : DiskData) (seed : Fit) → D.n ≤ maxTanhPixels → refineFit scalar D seed ≡ (refineFitCached D seed).best
-unfolding refineFit
-refine-fit-is scalar D seed h =
-    pick_true (refineFitCached D seed).best (scalar D seed) (is_true (leb D.n maxTanhPixels) (le→leb D.n maxTanhPixels h))
+pub refine_fit_is :
+    (scalar : DiskData → Fit → Fit) (D : DiskData) (seed : Fit) → D.n ≤ max_tanh_pixels → refine_fit scalar D seed ≡ (refine_fit_cached D seed).best
+unfolding refine_fit
+refine_fit_is scalar D seed h =
+    pick_true (refine_fit_cached D seed).best (scalar D seed) (is_true (leb D.n max_tanh_pixels) (le→leb D.n max_tanh_pixels h))

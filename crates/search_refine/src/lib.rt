@@ -2,8 +2,8 @@
 // taken around the best of its moment; the rows of its axes are kept or made by search_rows. The
 // public contract knows of no kept rows.
 ghost use Rattle.std.specs.Prelude.{◌≡◌, ◌+◌, ◌<◌, length, get_or};
-ghost use Rattle.data.specs.Data.{lentDisk, DiskSized};
-ghost use Rattle.search_rows.specs.Rows.{SlotsKept, rowsRoom};
+ghost use Rattle.data.specs.Data.{lent_disk, DiskSized};
+ghost use Rattle.search_rows.specs.Rows.{SlotsKept, rows_room};
 ghost use Rattle.search_refine.specs.Refine as R;
 ghost use Rattle.search_refine.specs.RefineLaws as L;
 
@@ -60,7 +60,7 @@ fn offset_at(t: usize) -> Offset
 // A neighbour that is better becomes the best; one that answers nothing is a trial too.
 fn judge(s: Refined, answer: Scored) -> Refined
     requires { s.trials < 1000 }
-    ensures { (result.trials ≡ s.trials + 1) × (result.best ≡ R.betterOf answer s.best) }
+    ensures { (result.trials ≡ s.trials + 1) × (result.best ≡ R.better_of answer s.best) }
 {
     let best = s.best;
     let trials = s.trials + 1;
@@ -92,7 +92,7 @@ fn try_neighbour(
         × SlotsKept xs.now ys.now grad_angles.now grad_weights.now
         result.refined.best.width result.slots rows.new
         × (result.slots.total ≡ turn.slots.total)
-        × (result.refined.best ≡ R.tried (lentDisk val_energy xs ys vals_centered grad_angles grad_weights)
+        × (result.refined.best ≡ R.tried (lent_disk val_energy xs ys vals_centered grad_angles grad_weights)
         turn.slots.total (get_or R.offsets t R.nowhere) turn.refined.best) }
 {
     let before = turn.refined;
@@ -126,8 +126,8 @@ pub fn refine_fit_cached(
     grad_weights: &[f32],
     rows: &mut [f32],
 ) -> Refined
-    requires { DiskSized xs.now ys.now vals_centered.now grad_angles.now grad_weights.now × (length rows.old ≡ rowsRoom) }
-    ensures { result ≡ R.refineFitCached (lentDisk val_energy xs ys vals_centered grad_angles grad_weights)
+    requires { DiskSized xs.now ys.now vals_centered.now grad_angles.now grad_weights.now × (length rows.old ≡ rows_room) }
+    ensures { result ≡ R.refine_fit_cached (lent_disk val_energy xs ys vals_centered grad_angles grad_weights)
         seed }
 {
     let total = score_edges::edge_weight_total(grad_weights);

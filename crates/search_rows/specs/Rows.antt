@@ -4,10 +4,10 @@ use Rattle.std.specs.Float.Ieee.{lt, eq}
 use Rattle.floats.specs.Ops.{◌⊕◌, nought}
 use Rattle.loops.specs.Loops.{tab}
 use Rattle.floats.specs.Rows.{Row, at}
-use Rattle.data.specs.Data.{DiskData, maxTanhPixels, row_of}
-use Rattle.candidates.specs.Candidates.{combineEdgePair}
-use Rattle.score_edges.specs.Edges.{refinedSum}
-use Rattle.score.specs.Score.{axisRow, scorePairCached}
+use Rattle.data.specs.Data.{DiskData, max_tanh_pixels, row_of}
+use Rattle.candidates.specs.Candidates.{combine_edge_pair}
+use Rattle.score_edges.specs.Edges.{refined_sum}
+use Rattle.score.specs.Score.{axis_row, score_pair_cached}
 use Rattle.score.specs.declared.Scored.{Scored}
 use Rattle.search_rows.specs.declared.Slots.{Slots}
 
@@ -16,12 +16,12 @@ pub record AxisRows : Type 0 where
   pub rows : List Row
   pub edges : Row
 
-unfoldable pub buildAxisRows : DiskData → Float → Row → Float → AxisRows
-buildAxisRows D base offsets width =
+unfoldable pub build_axis_rows : DiskData → Float → Row → Float → AxisRows
+build_axis_rows D base offsets width =
     let theta : ℕ → Float = λ k. base ⊕ at offsets k in
     record {
-      rows = tab (λ k. axisRow D.n D.xs D.ys (theta k) width) 3;
-      edges = tab (λ k. refinedSum D.n D.grad_angles D.grad_weights (theta k)) 3;
+      rows = tab (λ k. axis_row D.n D.xs D.ys (theta k) width) 3;
+      edges = tab (λ k. refined_sum D.n D.grad_angles D.grad_weights (theta k)) 3;
     }
 
 -- the first k rows of a buffer
@@ -29,15 +29,15 @@ abbrev pub rows_of : ℕ → Row → ℕ → List Row
 rows_of n rows k = tab (row_of n rows) k
 
 -- ---- the code's buffer: six rows and a row of scratch
-abbrev pub rowsRoom : ℕ
-rowsRoom = 7 * maxTanhPixels
+abbrev pub rows_room : ℕ
+rows_room = 7 * max_tanh_pixels
 
 -- what a row and its edge sum are made of: four slices of one length, which is not above 320
-pub record Outlined (xs ys gradAngles gradWeights : Row) : Type 0 where
-  pub most : length xs ≤ maxTanhPixels
+pub record Outlined (xs ys grad_angles grad_weights : Row) : Type 0 where
+  pub most : length xs ≤ max_tanh_pixels
   pub y : length ys ≡ length xs
-  pub a : length gradAngles ≡ length xs
-  pub w : length gradWeights ≡ length xs
+  pub a : length grad_angles ≡ length xs
+  pub w : length grad_weights ≡ length xs
 
 -- row q is r now, and the other rows, but for the scratch, are as they were
 pub record RowFilled (n q : ℕ) (r rows rows' : Row) : Type 0 where
@@ -45,52 +45,52 @@ pub record RowFilled (n q : ℕ) (r rows rows' : Row) : Type 0 where
   pub room : length rows' ≡ length rows
 
 -- ---- the slots
-abbrev pub noSlots : Float → Slots
-noSlots total = record { keys = replicate 6 nought; edges = replicate 6 nought; total = total }
+abbrev pub no_slots : Float → Slots
+no_slots total = record { keys = replicate 6 nought; edges = replicate 6 nought; total = total }
 
 -- above 0 equal numbers are one value, so that the key tells the row
-unfoldable pub isSame : Float → Float → Bool
-isSame key theta = cond (eq key theta) (lt nought theta) false
+unfoldable pub is_same : Float → Float → Bool
+is_same key theta = cond (eq key theta) (lt nought theta) false
 
 -- the slot of an axis that has theta, or else the one to fill; `from` is the axis's first
 unfoldable pub slot_of : Slots → ℕ → Float → Float → ℕ → ℕ
 slot_of slots from base theta k =
     let keys = slots.keys in
-    cond (isSame (at keys from) theta) from
-    (cond (isSame (at keys (from + 1)) theta) (from + 1)
-    (cond (isSame (at keys (from + 2)) theta) (from + 2)
+    cond (is_same (at keys from) theta) from
+    (cond (is_same (at keys (from + 1)) theta) (from + 1)
+    (cond (is_same (at keys (from + 2)) theta) (from + 2)
     (cond (eq (at keys (from + k)) base) (from + 1) (from + k))))
 
 -- the slots and the six rows with theta in slot q
-unfoldable pub heldSlots : Row → Row → Row → Slots → Float → ℕ → Slots
-heldSlots xs angles weights slots theta q =
-    let edge = refinedSum (length xs) angles weights theta in
-    cond (isSame (at slots.keys q) theta) slots
+unfoldable pub held_slots : Row → Row → Row → Slots → Float → ℕ → Slots
+held_slots xs angles weights slots theta q =
+    let edge = refined_sum (length xs) angles weights theta in
+    cond (is_same (at slots.keys q) theta) slots
     (record { keys = set slots.keys q theta; edges = set slots.edges q edge; total = slots.total })
 
 unfoldable pub held_rows : Row → Row → Float → Slots → Row → Float → ℕ → List Row
 held_rows xs ys width slots rows theta q =
-    cond (isSame (at slots.keys q) theta) (rows_of (length xs) rows 6)
-    (set (rows_of (length xs) rows 6) q (axisRow (length xs) xs ys theta width))
+    cond (is_same (at slots.keys q) theta) (rows_of (length xs) rows 6)
+    (set (rows_of (length xs) rows 6) q (axis_row (length xs) xs ys theta width))
 
 -- theta stands in slot q: it is the key, and the row and the edge sum are its own
 pub record Stands (xs ys angles weights : Row) (theta width : Float) (slots : Slots) (rows : Row) (q : ℕ) : Type 0 where
   pub key : at slots.keys q ≡ theta
-  pub row : row_of (length xs) rows q ≡ axisRow (length xs) xs ys theta width
-  pub edge : at slots.edges q ≡ refinedSum (length xs) angles weights theta
+  pub row : row_of (length xs) rows q ≡ axis_row (length xs) xs ys theta width
+  pub edge : at slots.edges q ≡ refined_sum (length xs) angles weights theta
 
 -- where a key is above 0, that angle stands in its slot
 pub record SlotsKept (xs ys angles weights : Row) (width : Float) (slots : Slots) (rows : Row) : Type 0 where
   pub keys : length slots.keys ≡ 6
   pub edges : length slots.edges ≡ 6
-  pub room : length rows ≡ rowsRoom
+  pub room : length rows ≡ rows_room
   pub slot :
       (q : ℕ) → q < 6 → lt nought (at slots.keys q) ≡ true → Stands xs ys angles weights (at slots.keys q) width slots rows q
 
 -- the slots and the rows after theta was asked for in slot q; so it stands there, and whatever stood in another slot still does
 pub record SlotHeld
     (xs ys angles weights : Row) (theta width : Float) (slots : Slots) (rows : Row) (slots' : Slots) (rows' : Row) (q : ℕ) : Type 0 where
-  pub slots-are : slots' ≡ heldSlots xs angles weights slots theta q
+  pub slots_are : slots' ≡ held_slots xs angles weights slots theta q
   pub rows_are : rows_of (length xs) rows' 6 ≡ held_rows xs ys width slots rows theta q
   pub total : slots'.total ≡ slots.total
   pub kept : SlotsKept xs ys angles weights width slots' rows'
@@ -100,7 +100,7 @@ pub record SlotHeld
       Stands xs ys angles weights t width slots' rows' j
 
 -- the axes in the slots i and j, scored from what stands there
-unfoldable pub heldScore : DiskData → Slots → Float → ℕ → ℕ → Row → Scored
-heldScore D slots width i j rows =
-    let edgeScore = combineEdgePair (at slots.edges i) (at slots.edges j) slots.total in
-    scorePairCached D (at slots.keys i) (at slots.keys j) width edgeScore (row_of D.n rows i) (row_of D.n rows j)
+unfoldable pub held_score : DiskData → Slots → Float → ℕ → ℕ → Row → Scored
+held_score D slots width i j rows =
+    let edge_score = combine_edge_pair (at slots.edges i) (at slots.edges j) slots.total in
+    score_pair_cached D (at slots.keys i) (at slots.keys j) width edge_score (row_of D.n rows i) (row_of D.n rows j)

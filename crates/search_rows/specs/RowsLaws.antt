@@ -11,17 +11,17 @@ use Rattle.std.specs.Float.Ieee.Fits.{and_l, and_r, eq→eqb}
 use Rattle.floats.specs.Ops.{◌⊕◌, nought}
 use Rattle.floats.specs.UnitLaws.{Val, lt_val, eq_val}
 use Rattle.floats.specs.RoundingLaws.{counted}
-use Rattle.floats.specs.FiniteLaws.{of-true}
-use Rattle.floats.specs.RemLaws.{nought-val}
-use Rattle.remainders.specs.RemainderLaws.{same-val}
-use Rattle.loops.specs.TabLaws.{Stores, tab-length, tab-at, tab-same, part_length, stores-all}
+use Rattle.floats.specs.FiniteLaws.{of_true}
+use Rattle.floats.specs.RemLaws.{nought_val}
+use Rattle.remainders.specs.RemainderLaws.{same_val}
+use Rattle.loops.specs.TabLaws.{Stores, tab_length, tab_at, tab_same, part_length, stores_all}
 use Rattle.floats.specs.Rows.{Row, at}
-use Rattle.data.specs.Data.{diskOf, maxTanhPixels, row_of}
+use Rattle.data.specs.Data.{disk_of, max_tanh_pixels, row_of}
 use Rattle.data.specs.RowLaws.{lent, Wrote, wrote}
-use Rattle.score_edges.specs.Edges.{refinedSum}
-use Rattle.score.specs.Score.{axisRow}
+use Rattle.score_edges.specs.Edges.{refined_sum}
+use Rattle.score.specs.Score.{axis_row}
 use Rattle.search_rows.specs.declared.Slots.{Slots}
-use Rattle.search_rows.specs.Rows.{AxisRows, buildAxisRows, rows_of, rowsRoom, RowFilled, noSlots, isSame, heldSlots, held_rows}
+use Rattle.search_rows.specs.Rows.{AxisRows, build_axis_rows, rows_of, rows_room, RowFilled, no_slots, is_same, held_slots, held_rows}
 use Rattle.search_rows.specs.Rows.{Stands, SlotsKept, SlotHeld}
 
 -- ---- above 0 equal numbers are one value
@@ -40,19 +40,19 @@ same_key (fin s m k) (fin t n d) p q e l =
     let b = counted binary32 (fin t n d) q tt in
     go a.sign a.count b.sign b.count a.val b.val
     (sym (eq_val binary32 (fin s m k) (fin t n d) a.sign a.count b.sign b.count a.val b.val) ∙ e)
-    (sym (lt_val binary32 nought (fin t n d) false 0 b.sign b.count nought-val b.val) ∙ l)
+    (sym (lt_val binary32 nought (fin t n d) false 0 b.sign b.count nought_val b.val) ∙ l)
   where
     go :
         (u : Bool) (i : ℕ) (v : Bool) (j : ℕ) → Val binary32 (fin s m k) u i → Val binary32 (fin t n d) v j →
         level u i v j ≡ true → below false 0 v j ≡ true → fin s m k ≡ fin t n d
     go u i true j x y g h = absurd (false≢true h)
     go false i false j x y g h =
-        let w : i ≡ j = eqb→eq i j (and_l (eqb i j) true (of-true g)) in
-        same-val binary32 (fin s m k) (fin t n d) false j p q (subst (Val binary32 (fin s m k) false) w x) y
+        let w : i ≡ j = eqb→eq i j (and_l (eqb i j) true (of_true g)) in
+        same_val binary32 (fin s m k) (fin t n d) false j p q (subst (Val binary32 (fin s m k) false) w x) y
     go true i false j x y g h =
-        let w : i ≡ j = eqb→eq i j (and_l (eqb i j) (eqb i 0) (of-true g)) in
-        let z : i ≡ 0 = eqb→eq i 0 (and_r (eqb i j) (eqb i 0) (of-true g)) in
-        let o : 0 < j = ltb→lt 0 j (of-true h) in
+        let w : i ≡ j = eqb→eq i j (and_l (eqb i j) (eqb i 0) (of_true g)) in
+        let z : i ≡ 0 = eqb→eq i 0 (and_r (eqb i j) (eqb i 0) (of_true g)) in
+        let o : 0 < j = ltb→lt 0 j (of_true h) in
         absurd (let r : ◌≡◌ {A = ℕ} 0 1 = omega arith in omega arith)
 
 -- ---- the six rows, by their places
@@ -64,27 +64,27 @@ same_or_not j k = go (eqb j k) (eqb→eq j k) (λ e. eq→eqb e)
     go false u v = inr v
 
 row_at : (n : ℕ) (rows : Row) (j : ℕ) → j < 6 → get_or (rows_of n rows 6) j [] ≡ row_of n rows j
-row_at n rows j h = tab-at (row_of n rows) [] 6 j h
+row_at n rows j h = tab_at (row_of n rows) [] 6 j h
 
 six : (n : ℕ) (rows : Row) → length (rows_of n rows 6) ≡ 6
-six n rows = tab-length (row_of n rows) 6
+six n rows = tab_length (row_of n rows) 6
 
 -- a row is made: row q comes back as r, and the scratch as u
-pub row-filled :
-    (n q : ℕ) (r u rows : Row) → n ≤ maxTanhPixels → q < 6 → length rows ≡ rowsRoom → length r ≡ n → length u ≡ n →
+pub row_filled :
+    (n q : ℕ) (r u rows : Row) → n ≤ max_tanh_pixels → q < 6 → length rows ≡ rows_room → length r ≡ n → length u ≡ n →
     RowFilled n q r rows (lent n 6 u (lent n q r rows))
-row-filled n q r u rows m h l er eu =
+row_filled n q r u rows m h l er eu =
     record {
       is = ext_get_or [] (rows_of n after 6) (set (rows_of n rows 6) q r) (six n after ∙ sym (length-set (rows_of n rows 6) q r ∙ six n rows))
           (λ j k. each j (rw (six n after) at k));
-      room = part_length (lent n q r rows) u (6 * maxTanhPixels) n (omega (arith, same)) eu ∙ same;
+      room = part_length (lent n q r rows) u (6 * max_tanh_pixels) n (omega (arith, same)) eu ∙ same;
     }
   where
     after : Row
     after = lent n 6 u (lent n q r rows)
 
     same : length (lent n q r rows) ≡ length rows
-    same = part_length rows r (q * maxTanhPixels) n (omega arith) er
+    same = part_length rows r (q * max_tanh_pixels) n (omega arith) er
 
     one : Wrote n q r rows (lent n q r rows)
     one = wrote n q r rows m (omega arith) er
@@ -102,49 +102,49 @@ row-filled n q r u rows m h l er eu =
     ]
 
 module _ {n q : ℕ} {r rows rows' : Row} (f : RowFilled n q r rows rows') where
-  filled-here : q < 6 → row_of n rows' q ≡ r
-  filled-here h =
+  filled_here : q < 6 → row_of n rows' q ≡ r
+  filled_here h =
       sym (row_at n rows' q h) ∙ ap (λ (l : List Row). get_or l q []) f.is ∙ get_or-set_same (rows_of n rows 6) q r [] (omega (arith, six n rows))
 
-  filled-other : (j : ℕ) → j < 6 → (j ≡ q → ⊥) → row_of n rows' j ≡ row_of n rows j
-  filled-other j h o =
+  filled_other : (j : ℕ) → j < 6 → (j ≡ q → ⊥) → row_of n rows' j ≡ row_of n rows j
+  filled_other j h o =
       sym (row_at n rows' j h) ∙ ap (λ (l : List Row). get_or l j []) f.is ∙ get_or-set_other (rows_of n rows 6) q j r [] o ∙ row_at n rows j h
 
 -- ---- the three rows of build_axis_rows: the first k are made
 pub record Built (xs ys : Row) (base width : Float) (offsets rows : Row) (k : ℕ) : Type 0 where
-  pub room : length rows ≡ rowsRoom
-  pub row : (j : ℕ) → j < k → row_of (length xs) rows j ≡ axisRow (length xs) xs ys (base ⊕ at offsets j) width
+  pub room : length rows ≡ rows_room
+  pub row : (j : ℕ) → j < k → row_of (length xs) rows j ≡ axis_row (length xs) xs ys (base ⊕ at offsets j) width
 
 module _ {xs ys : Row} {base width : Float} {offsets : Row} where
-  pub built-none : {rows : Row} → length rows ≡ rowsRoom → Built xs ys base width offsets rows 0
-  built-none h = record { room = h; row = below_none _ }
+  pub built_none : {rows : Row} → length rows ≡ rows_room → Built xs ys base width offsets rows 0
+  built_none h = record { room = h; row = below_none _ }
 
-  pub built-more :
+  pub built_more :
       {rows rows' : Row} {k : ℕ} → k < 3 → Built xs ys base width offsets rows k →
-      RowFilled (length xs) k (axisRow (length xs) xs ys (base ⊕ at offsets k) width) rows rows' → Built xs ys base width offsets rows' (k + 1)
-  built-more {rows} {rows'} {k} b h f =
+      RowFilled (length xs) k (axis_row (length xs) xs ys (base ⊕ at offsets k) width) rows rows' → Built xs ys base width offsets rows' (k + 1)
+  built_more {rows} {rows'} {k} b h f =
       record {
         room = f.room ∙ h.room;
-        row = below_more (λ j. row_of (length xs) rows' j ≡ axisRow (length xs) xs ys (base ⊕ at offsets j) width) k
-            (λ j jb. filled-other f j (omega arith) (λ e. omega arith) ∙ h.row j jb) (filled-here f (omega arith));
+        row = below_more (λ j. row_of (length xs) rows' j ≡ axis_row (length xs) xs ys (base ⊕ at offsets j) width) k
+            (λ j jb. filled_other f j (omega arith) (λ e. omega arith) ∙ h.row j jb) (filled_here f (omega arith));
       }
 
-  pub built-all :
+  pub built_all :
       {rows edges₀ edges : Row} (energy : Float) (vals angles weights : Row) → Built xs ys base width offsets rows 3 →
-      Stores (λ k. refinedSum (length xs) angles weights (base ⊕ at offsets k)) edges₀ edges 3 → length edges₀ ≡ 3 →
+      Stores (λ k. refined_sum (length xs) angles weights (base ⊕ at offsets k)) edges₀ edges 3 → length edges₀ ≡ 3 →
       ◌≡◌ {A = AxisRows} (record { rows = rows_of (length xs) rows 3; edges = edges })
-      (buildAxisRows (diskOf energy xs ys vals angles weights) base offsets width)
-  unfolding buildAxisRows
-  built-all {rows} energy vals angles weights h s l =
-      rw (stores-all _ _ _ nan 3 s l, tab-same (row_of (length xs) rows) (λ k. axisRow (length xs) xs ys (base ⊕ at offsets k) width) 3 h.row)
+      (build_axis_rows (disk_of energy xs ys vals angles weights) base offsets width)
+  unfolding build_axis_rows
+  built_all {rows} energy vals angles weights h s l =
+      rw (stores_all _ _ _ nan 3 s l, tab_same (row_of (length xs) rows) (λ k. axis_row (length xs) xs ys (base ⊕ at offsets k) width) 3 h.row)
 
 -- ---- the slots
 -- six keys of 0 mark six empty slots
-pub kept-none :
-    {xs ys angles weights : Row} {width : Float} (total : Float) (rows : Row) → length rows ≡ rowsRoom →
-    SlotsKept xs ys angles weights width (noSlots total) rows
+pub kept_none :
+    {xs ys angles weights : Row} {width : Float} (total : Float) (rows : Row) → length rows ≡ rows_room →
+    SlotsKept xs ys angles weights width (no_slots total) rows
 unfolding lt of_bits
-kept-none total rows m = record { keys = refl; edges = refl; room = m; slot = λ q b l. absurd (false≢true (sym (never q) ∙ l)) }
+kept_none total rows m = record { keys = refl; edges = refl; room = m; slot = λ q b l. absurd (false≢true (sym (never q) ∙ l)) }
   where
     never : (q : ℕ) → lt nought (at (replicate 6 nought) q) ≡ false
     never zero = refl
@@ -157,13 +157,13 @@ kept-none total rows m = record { keys = refl; edges = refl; room = m; slot = λ
 
 module _ {xs ys angles weights : Row} {theta width : Float} {slots : Slots} {rows : Row} where
   -- slot q has theta already
-  pub held-here :
-      (q : ℕ) → q < 6 → SlotsKept xs ys angles weights width slots rows → isSame (at slots.keys q) theta ≡ true →
+  pub held_here :
+      (q : ℕ) → q < 6 → SlotsKept xs ys angles weights width slots rows → is_same (at slots.keys q) theta ≡ true →
       (at slots.keys q ≡ theta) × (lt nought theta ≡ true) → SlotHeld xs ys angles weights theta width slots rows slots rows q
-  unfolding heldSlots held_rows
-  held-here q b h t e =
+  unfolding held_slots held_rows
+  held_here q b h t e =
       record {
-        slots-are = rw t;
+        slots_are = rw t;
         rows_are = rw t;
         total = refl;
         kept = h;
@@ -173,15 +173,15 @@ module _ {xs ys angles weights : Row} {theta width : Float} {slots : Slots} {row
       }
 
   -- slot q was filled
-  pub held-filled :
-      {rows' : Row} (edge : Float) (q : ℕ) → q < 6 → SlotsKept xs ys angles weights width slots rows → isSame (at slots.keys q) theta ≡ false →
-      edge ≡ refinedSum (length xs) angles weights theta → RowFilled (length xs) q (axisRow (length xs) xs ys theta width) rows rows' →
+  pub held_filled :
+      {rows' : Row} (edge : Float) (q : ℕ) → q < 6 → SlotsKept xs ys angles weights width slots rows → is_same (at slots.keys q) theta ≡ false →
+      edge ≡ refined_sum (length xs) angles weights theta → RowFilled (length xs) q (axis_row (length xs) xs ys theta width) rows rows' →
       SlotHeld xs ys angles weights theta width slots rows
       (record { keys = set slots.keys q theta; edges = set slots.edges q edge; total = slots.total }) rows' q
-  unfolding heldSlots held_rows
-  held-filled {rows'} edge q b h t e f =
+  unfolding held_slots held_rows
+  held_filled {rows'} edge q b h t e f =
       record {
-        slots-are = rw (t, e);
+        slots_are = rw (t, e);
         rows_are = rw t f.is;
         total = refl;
         kept = record {
@@ -201,7 +201,7 @@ module _ {xs ys angles weights : Row} {theta width : Float} {slots : Slots} {row
       here =
           record {
             key = get_or-set_same slots.keys q theta nan (omega (arith, h.keys));
-            row = filled-here f b;
+            row = filled_here f b;
             edge = get_or-set_same slots.edges q edge nan (omega (arith, h.edges)) ∙ e;
           }
 
@@ -211,7 +211,7 @@ module _ {xs ys angles weights : Row} {theta width : Float} {slots : Slots} {row
       still j t l o s =
           record {
             key = get_or-set_other slots.keys q j theta nan o ∙ s.key;
-            row = filled-other f j l o ∙ s.row;
+            row = filled_other f j l o ∙ s.row;
             edge = get_or-set_other slots.edges q j edge nan o ∙ s.edge;
           }
 

@@ -6,9 +6,9 @@ ghost use Rattle.std.specs.Prelude.{◌≡◌, true, ◌+◌, ◌≤◌, ◌<◌
 ghost use Rattle.std.specs.Float.Ieee.{lt};
 ghost use Rattle.floats.specs.Ops.{nought};
 ghost use Rattle.floats.specs.Rows.{Row};
-ghost use Rattle.data.specs.Data.{diskOf, OfValues, maxTanhPixels};
-ghost use Rattle.score.specs.Score.{axisRow};
-ghost use Rattle.score_edges.specs.Edges.{refinedSum};
+ghost use Rattle.data.specs.Data.{disk_of, OfValues, max_tanh_pixels};
+ghost use Rattle.score.specs.Score.{axis_row};
+ghost use Rattle.score_edges.specs.Edges.{refined_sum};
 ghost use Rattle.search_rows.specs.Rows as R;
 
 use score::Scored;
@@ -28,7 +28,7 @@ pub struct Slots {
 
 // Six empty slots.
 pub fn no_slots(total: f32) -> Slots
-    ensures { result ≡ R.noSlots total }
+    ensures { result ≡ R.no_slots total }
 {
     Slots {
         keys: [0.0f32; 6],
@@ -48,9 +48,9 @@ fn fill_row(
     q: usize,
     rows: &mut [f32],
 ) -> f32
-    requires { (q < 6) × R.Outlined xs.now ys.now grad_angles.now grad_weights.now × (length rows.old ≡ R.rowsRoom) }
-    ensures { (result ≡ refinedSum (length xs.now) grad_angles.now grad_weights.now theta)
-        × R.RowFilled (length xs.now) q (axisRow (length xs.now) xs.now ys.now theta width)
+    requires { (q < 6) × R.Outlined xs.now ys.now grad_angles.now grad_weights.now × (length rows.old ≡ R.rows_room) }
+    ensures { (result ≡ refined_sum (length xs.now) grad_angles.now grad_weights.now theta)
+        × R.RowFilled (length xs.now) q (axis_row (length xs.now) xs.now ys.now theta width)
         rows.old rows.new }
 {
     let n = xs.len();
@@ -74,10 +74,10 @@ pub fn build_axis_rows(
     width: f32,
     rows: &mut [f32],
 ) -> [f32; 3]
-    requires { R.Outlined xs.now ys.now grad_angles.now grad_weights.now × (length rows.old ≡ R.rowsRoom) }
+    requires { R.Outlined xs.now ys.now grad_angles.now grad_weights.now × (length rows.old ≡ R.rows_room) }
     ensures { (energy : Float) (vals : Row) → ◌≡◌ {A = R.AxisRows}
         (record { rows = R.rows_of (length xs.now) rows.exit.now 3; edges = result })
-        (R.buildAxisRows (diskOf energy xs.now ys.now vals grad_angles.now grad_weights.now)
+        (R.build_axis_rows (disk_of energy xs.now ys.now vals grad_angles.now grad_weights.now)
         base offsets.now width) }
 {
     let mut edges = [0.0f32; 3];
@@ -90,7 +90,7 @@ pub fn build_axis_rows(
 
 // Above 0 equal numbers are one value: a key of 0 marks an empty slot.
 fn is_same(key: f32, theta: f32) -> bool
-    ensures { (result ≡ R.isSame key theta) × (result ≡ true → (key ≡ theta) × (lt nought theta ≡ true)) }
+    ensures { (result ≡ R.is_same key theta) × (result ≡ true → (key ≡ theta) × (lt nought theta ≡ true)) }
 {
     if key == theta {
         return theta > 0.0;
@@ -158,8 +158,8 @@ pub fn score_held(
     j: usize,
     rows: &[f32],
 ) -> Scored
-    requires { (i < 6) × (j < 6) × (length vals_centered.now ≤ maxTanhPixels) × (length rows.now ≡ R.rowsRoom) }
-    ensures { OfValues val_energy vals_centered (λ D. result ≡ R.heldScore D slots width i j rows.now) }
+    requires { (i < 6) × (j < 6) × (length vals_centered.now ≤ max_tanh_pixels) × (length rows.now ≡ R.rows_room) }
+    ensures { OfValues val_energy vals_centered (λ D. result ≡ R.held_score D slots width i j rows.now) }
 {
     let n = vals_centered.len();
     let a = i * data::MAX_TANH_PIXELS;

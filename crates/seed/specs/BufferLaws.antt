@@ -5,47 +5,47 @@ use Rattle.std.proofs.Common.{sym, ◌∙◌, subst}
 use Rattle.std.proofs.Math.Path.{ap}
 use Rattle.std.specs.Float.{nan}
 use Rattle.floats.specs.Rows.{Row, at}
-use Rattle.elementary.specs.Elementary.{sinCos, sinCosNear, turn}
+use Rattle.elementary.specs.Elementary.{sin_cos, sin_cos_near, turn}
 use Rattle.elementary.specs.declared.SinCos.{SinCos}
 use Rattle.loops.specs.Loops.{tab}
-use Rattle.loops.specs.IterLaws.{iter-same}
-use Rattle.loops.specs.TabLaws.{tab-at, tab-length, tab-same}
+use Rattle.loops.specs.IterLaws.{iter_same}
+use Rattle.loops.specs.TabLaws.{tab_at, tab_length, tab_same}
 use Rattle.seed.specs.declared.Waves.{Waves}
-use Rattle.seed.specs.Seed.{wavedBy, waves}
+use Rattle.seed.specs.Seed.{waved_by, waves}
 use Rattle.solver.specs.Buffers.{RingNear, Sines}
-use Rattle.seed.specs.Buffers.{twice, doubledNear, doubled, wavesFrom}
+use Rattle.seed.specs.Buffers.{twice, doubled_near, doubled, waves_from}
 
 -- angles that turning leaves need no turning
-pub near-doubled : (n : ℕ) (ringPhi turned : Row) → turned ≡ doubledNear n ringPhi → RingNear (length turned) turned → turned ≡ doubled n ringPhi
-unfolding doubledNear doubled
-near-doubled n ringPhi turned e h = e ∙ tab-same _ _ n here
+pub near_doubled : (n : ℕ) (ring_phi turned : Row) → turned ≡ doubled_near n ring_phi → RingNear (length turned) turned → turned ≡ doubled n ring_phi
+unfolding doubled_near doubled
+near_doubled n ring_phi turned e h = e ∙ tab_same _ _ n here
   where
     len : n ≡ length turned
-    len = sym (ap length e ∙ tab-length _ n)
+    len = sym (ap length e ∙ tab_length _ n)
 
-    here : (i : ℕ) → i < n → twice (at ringPhi i) ≡ turn (twice (at ringPhi i))
+    here : (i : ℕ) → i < n → twice (at ring_phi i) ≡ turn (twice (at ring_phi i))
     here i l =
-        let place : at turned i ≡ twice (at ringPhi i) = ap (λ (r : Row). at r i) e ∙ tab-at (λ i. twice (at ringPhi i)) nan n i l in
+        let place : at turned i ≡ twice (at ring_phi i) = ap (λ (r : Row). at r i) e ∙ tab_at (λ i. twice (at ring_phi i)) nan n i l in
         sym place ∙ sym (h.is i (subst (λ (k : ℕ). i < k) len l)) ∙ ap turn place
 
 -- ---- rows first, sums after
-module _ (samples ringPhi turned sphi cphi : Row) (mean : Float) (w : Waves) (same : length ringPhi ≡ length samples) where
+module _ (samples ring_phi turned sphi cphi : Row) (mean : Float) (w : Waves) (same : length ring_phi ≡ length samples) where
   abbrev n : ℕ
   n = length samples
 
-  pub waves-split : turned ≡ doubled (length ringPhi) ringPhi → Sines turned sphi cphi → w ≡ wavesFrom n samples mean sphi cphi
-      → w ≡ waves n samples ringPhi mean
-  unfolding wavesFrom waves wavedBy doubled sinCos
-  waves-split t h e = e ∙ iter-same _ _ _ n (λ i l x. rw (place i l (λ u. u.s) sphi h.s, place i l (λ u. u.c) cphi h.c))
+  pub waves_split : turned ≡ doubled (length ring_phi) ring_phi → Sines turned sphi cphi → w ≡ waves_from n samples mean sphi cphi
+      → w ≡ waves n samples ring_phi mean
+  unfolding waves_from waves waved_by doubled sin_cos
+  waves_split t h e = e ∙ iter_same _ _ _ n (λ i l x. rw (place i l (λ u. u.s) sphi h.s, place i l (λ u. u.c) cphi h.c))
     where
-      t' : turned ≡ tab (λ i. turn (twice (at ringPhi i))) n
-      t' = t ∙ ap (tab (λ i. turn (twice (at ringPhi i)))) same
+      t' : turned ≡ tab (λ i. turn (twice (at ring_phi i))) n
+      t' = t ∙ ap (tab (λ i. turn (twice (at ring_phi i)))) same
 
       len : length turned ≡ n
-      len = ap length t' ∙ tab-length _ n
+      len = ap length t' ∙ tab_length _ n
 
-      place : (i : ℕ) → i < n → (f : SinCos → Float) (row : Row) → row ≡ tab (λ i. f (sinCosNear (at turned i))) (length turned)
-          → at row i ≡ f (sinCosNear (turn (twice (at ringPhi i))))
+      place : (i : ℕ) → i < n → (f : SinCos → Float) (row : Row) → row ≡ tab (λ i. f (sin_cos_near (at turned i))) (length turned)
+          → at row i ≡ f (sin_cos_near (turn (twice (at ring_phi i))))
       place i l f row e =
-          ap (λ (r : Row). at r i) (e ∙ ap (tab (λ i. f (sinCosNear (at turned i)))) len) ∙ tab-at (λ i. f (sinCosNear (at turned i))) nan n i l
-          ∙ ap (λ (x : Float). f (sinCosNear x)) (ap (λ (r : Row). at r i) t' ∙ tab-at (λ i. turn (twice (at ringPhi i))) nan n i l)
+          ap (λ (r : Row). at r i) (e ∙ ap (tab (λ i. f (sin_cos_near (at turned i)))) len) ∙ tab_at (λ i. f (sin_cos_near (at turned i))) nan n i l
+          ∙ ap (λ (x : Float). f (sin_cos_near x)) (ap (λ (r : Row). at r i) t' ∙ tab_at (λ i. turn (twice (at ring_phi i))) nan n i l)

@@ -7,7 +7,7 @@ use Rattle.std.specs.Float.Ieee.Scale.{finite}
 use Rattle.floats.specs.Ops.{◌⊕◌, ◌⊖◌, ◌⊗◌, ◌⊘◌, lit, nought}
 use Rattle.floats.specs.Rows.{Row, at, count}
 use Rattle.floats.specs.Library.{max, sqrt}
-use Rattle.elementary.specs.Elementary.{sinCos, atan2}
+use Rattle.elementary.specs.Elementary.{sin_cos, atan2}
 use Rattle.loops.specs.Loops.{iter}
 use Rattle.seed.specs.declared.Harmonic.{Harmonic}
 use Rattle.seed.specs.declared.Waves.{Waves}
@@ -17,24 +17,24 @@ use Rattle.seed.specs.declared.Seed.{Seed}
 use Rattle.seed.specs.declared.Seed.TheVariants.{Found, Nothing}
 
 -- ---- seed.rs: ROBUST_GRID_STEP_DEG and ROBUST_GRID_STEPS; ROBUST_TOP_SEEDS is 1
-abbrev pub robustGridStepDeg : Float
-robustGridStepDeg = lit 0x4100_0000
+abbrev pub robust_grid_step_deg : Float
+robust_grid_step_deg = lit 0x4100_0000
 
-abbrev pub robustGridSteps : ℕ
-robustGridSteps = 23
+abbrev pub robust_grid_steps : ℕ
+robust_grid_steps = 23
 
 -- ---- seed.rs: second_harmonic
 abbrev pub calm : Waves
 calm = record { c2 = nought; s2 = nought }
 
-unfoldable pub wavedBy : Float → Float → Float → Waves → Waves
-wavedBy v phi mean w =
+unfoldable pub waved_by : Float → Float → Float → Waves → Waves
+waved_by v phi mean w =
     let d = v ⊖ mean in
-    let t = sinCos (lit 0x4000_0000 ⊗ phi) in
+    let t = sin_cos (lit 0x4000_0000 ⊗ phi) in
     record { c2 = w.c2 ⊕ d ⊗ t.c; s2 = w.s2 ⊕ d ⊗ t.s }
 
 unfoldable pub waves : ℕ → Row → Row → Float → Waves
-waves n samples ringPhi mean = iter (λ i. wavedBy (at samples i) (at ringPhi i) mean) calm n
+waves n samples ring_phi mean = iter (λ i. waved_by (at samples i) (at ring_phi i) mean) calm n
 
 -- an angle that is not finite becomes 0
 unfoldable pub settled : Float → Float
@@ -47,21 +47,21 @@ harmonic n w =
     let mag = sqrt binary32 (w.c2 ⊗ w.c2 ⊕ w.s2 ⊗ w.s2) ⊘ count (n / 2) in
     record { theta = theta; mag = mag }
 
-unfoldable pub secondHarmonic : ℕ → Row → Row → Float → Harmonic
-secondHarmonic n samples ringPhi mean = harmonic n (waves n samples ringPhi mean)
+unfoldable pub second_harmonic : ℕ → Row → Row → Float → Harmonic
+second_harmonic n samples ring_phi mean = harmonic n (waves n samples ring_phi mean)
 
 -- ---- seed.rs: score_seed_pair
 abbrev pub zeros : Sums
 zeros = record { q_sum = nought; q2_sum = nought; num = nought }
 
 -- a sample v more, at which the two rows have h1 and h2
-unfoldable pub summedBy : Float → Float → Float → Sums → Sums
-summedBy v h1 h2 s =
+unfoldable pub summed_by : Float → Float → Float → Sums → Sums
+summed_by v h1 h2 s =
     let q = h1 ⊗ h2 in
     record { q_sum = s.q_sum ⊕ q; q2_sum = s.q2_sum ⊕ q ⊗ q; num = s.num ⊕ v ⊗ q }
 
 unfoldable pub pair_sums : ℕ → Row → Row → Row → Sums
-pair_sums n centered h1 h2 = iter (λ i. summedBy (at centered i) (at h1 i) (at h2 i)) zeros n
+pair_sums n centered h1 h2 = iter (λ i. summed_by (at centered i) (at h1 i) (at h2 i)) zeros n
 
 -- a seed is kept where all of it is finite
 unfoldable pub kept : SeedCandidate → Seed
@@ -72,28 +72,28 @@ unfoldable pub flat : Float → Bool
 flat x = not (finite x) || le x (lit 0x3586_37bd)
 
 -- from num on both scores are made alike: n is the number of samples as a float
-unfoldable pub seedFrom : Float → Float → Float → Float → Float → Float → Float → Float → Seed
-seedFrom n centeredSs mean num qMean denom theta1 theta2 =
+unfoldable pub seed_from : Float → Float → Float → Float → Float → Float → Float → Float → Seed
+seed_from n centered_ss mean num q_mean denom theta1 theta2 =
     let amp = num ⊘ denom in
-    let mu = mean ⊖ amp ⊗ qMean in
-    let ssr = max (centeredSs ⊖ num ⊗ num ⊘ denom) nought in
+    let mu = mean ⊖ amp ⊗ q_mean in
+    let ssr = max (centered_ss ⊖ num ⊗ num ⊘ denom) nought in
     let rms = sqrt binary32 (ssr ⊘ n) in
     kept (record { theta1 = theta1; theta2 = theta2; mu = mu; amp = amp; rms = rms })
 
-unfoldable pub scoredFrom : Float → Float → Float → Float → Float → Float → Float → Float → Seed
-scoredFrom n centeredSs mean num qMean denom theta1 theta2 =
-    cond (flat denom) Nothing (seedFrom n centeredSs mean num qMean denom theta1 theta2)
+unfoldable pub scored_from : Float → Float → Float → Float → Float → Float → Float → Float → Seed
+scored_from n centered_ss mean num q_mean denom theta1 theta2 =
+    cond (flat denom) Nothing (seed_from n centered_ss mean num q_mean denom theta1 theta2)
 
 unfoldable pub scored : Float → Float → Float → Sums → Float → Float → Seed
-scored n centeredSs mean s theta1 theta2 =
-    let qMean = s.q_sum ⊘ n in
-    let denom = s.q2_sum ⊖ s.q_sum ⊗ qMean in
-    scoredFrom n centeredSs mean s.num qMean denom theta1 theta2
+scored n centered_ss mean s theta1 theta2 =
+    let q_mean = s.q_sum ⊘ n in
+    let denom = s.q2_sum ⊖ s.q_sum ⊗ q_mean in
+    scored_from n centered_ss mean s.num q_mean denom theta1 theta2
 
-unfoldable pub scoreSeedPair : ℕ → Row → Float → Float → Row → Row → Float → Float → Seed
-scoreSeedPair n centered centeredSs mean h1 h2 theta1 theta2 = scored (count n) centeredSs mean (pair_sums n centered h1 h2) theta1 theta2
+unfoldable pub score_seed_pair : ℕ → Row → Float → Float → Row → Row → Float → Float → Seed
+score_seed_pair n centered centered_ss mean h1 h2 theta1 theta2 = scored (count n) centered_ss mean (pair_sums n centered h1 h2) theta1 theta2
 
 -- ---- seed.rs: insert_seed_candidate, ROBUST_TOP_SEEDS being 1: the earlier stays on a tie
-unfoldable pub insertSeedCandidate : Seed → SeedCandidate → Seed
-insertSeedCandidate Nothing c = Found c
-insertSeedCandidate (Found s) c = cond (lt c.rms s.rms) (Found c) (Found s)
+unfoldable pub insert_seed_candidate : Seed → SeedCandidate → Seed
+insert_seed_candidate Nothing c = Found c
+insert_seed_candidate (Found s) c = cond (lt c.rms s.rms) (Found c) (Found s)

@@ -1,7 +1,7 @@
 // Seeds of the ring fit: ring_fit/seed.rs, second_harmonic, score_seed_pair and
 // insert_seed_candidate.
 ghost use Rattle.std.specs.Prelude.{◌≡◌, ◌≤◌, length};
-ghost use Rattle.solver.specs.Buffers.{maxSamples};
+ghost use Rattle.solver.specs.Buffers.{max_samples};
 ghost use Rattle.seed.specs.Seed as S;
 ghost use Rattle.seed.specs.Buffers as B;
 
@@ -45,7 +45,7 @@ pub enum Seed {
 
 fn double_near(ring_phi: &[f32], turned: &mut [f32])
     requires { length turned.old ≡ length ring_phi.now }
-    ensures { turned.new ≡ B.doubledNear (length ring_phi.now) ring_phi.now }
+    ensures { turned.new ≡ B.doubled_near (length ring_phi.now) ring_phi.now }
 {
     let n = ring_phi.len();
     for i in 0..n {
@@ -79,7 +79,7 @@ fn double_all(ring_phi: &[f32], turned: &mut [f32])
 // The ordered sums, once the sines and cosines of the doubled angles are there.
 fn wave_sums(samples: &[f32], mean: f32, sphi: &[f32], cphi: &[f32]) -> Waves
     requires { (length sphi.now ≡ length samples.now) × (length cphi.now ≡ length samples.now) }
-    ensures { result ≡ B.wavesFrom (length samples.now) samples.now mean sphi.now cphi.now }
+    ensures { result ≡ B.waves_from (length samples.now) samples.now mean sphi.now cphi.now }
 {
     let n = samples.len();
     let mut w = Waves { c2: 0.0, s2: 0.0 };
@@ -110,7 +110,7 @@ pub fn second_harmonic(
     cphi: &mut [f32],
 ) -> Harmonic
     requires { B.HarmonicRoom samples.now ring_phi.now turned.old sphi.old cphi.old }
-    ensures { result ≡ S.secondHarmonic (length samples.now) samples.now ring_phi.now mean }
+    ensures { result ≡ S.second_harmonic (length samples.now) samples.now ring_phi.now mean }
 {
     double_all(ring_phi, turned);
     solver::sin_cos_all(turned, sphi, cphi);
@@ -172,7 +172,7 @@ pub fn seed_from(
     theta1: f32,
     theta2: f32,
 ) -> Seed
-    ensures { result ≡ S.seedFrom n centered_ss mean num q_mean denom theta1 theta2 }
+    ensures { result ≡ S.seed_from n centered_ss mean num q_mean denom theta1 theta2 }
 {
     let amp = num / denom;
     let ssr = floats::max(centered_ss - num * num / denom, 0.0);
@@ -197,7 +197,7 @@ pub fn scored_from(
     theta1: f32,
     theta2: f32,
 ) -> Seed
-    ensures { result ≡ S.scoredFrom n centered_ss mean num q_mean denom theta1 theta2 }
+    ensures { result ≡ S.scored_from n centered_ss mean num q_mean denom theta1 theta2 }
 {
     if is_flat(denom) {
         return Seed::Nothing;
@@ -223,8 +223,8 @@ pub fn score_seed_pair(
     theta1: f32,
     theta2: f32,
 ) -> Seed
-    requires { (length h1.now ≡ length centered.now) × (length h2.now ≡ length centered.now) × (length centered.now ≤ maxSamples) }
-    ensures { result ≡ S.scoreSeedPair (length centered.now) centered.now centered_ss mean
+    requires { (length h1.now ≡ length centered.now) × (length h2.now ≡ length centered.now) × (length centered.now ≤ max_samples) }
+    ensures { result ≡ S.score_seed_pair (length centered.now) centered.now centered_ss mean
         h1.now h2.now theta1 theta2 }
 {
     let s = pair_sums(centered, h1, h2);
@@ -234,7 +234,7 @@ pub fn score_seed_pair(
 
 // One place: the candidate takes it where it is empty, or where its residual is lower.
 pub fn insert_seed_candidate(top: Seed, c: SeedCandidate) -> Seed
-    ensures { result ≡ S.insertSeedCandidate top c }
+    ensures { result ≡ S.insert_seed_candidate top c }
 {
     match top {
         Seed::Nothing => Seed::Found(c),

@@ -3,50 +3,50 @@ use Rattle.std.specs.Prelude.{◌≡◌, Bool, true, false, ℕ, ◌+◌, ◌*�
 use Rattle.floats.specs.Ops.{◌⊗◌}
 use Rattle.floats.specs.Rows.{Row, at}
 use Rattle.loops.specs.Loops.{iter}
-use Rattle.robust_lanes.specs.Lanes.{gridPlaces, GridRoom, four, times, plus, laneSums, modelsOf}
+use Rattle.robust_lanes.specs.Lanes.{grid_places, GridRoom, four, times, plus, lane_sums, models_of}
 use Rattle.robust_lanes.specs.declared.Models.{Models}
 use Rattle.seed.specs.declared.Seed.{Seed}
-use Rattle.robust_grid.specs.Grid.{gridAngle, bestOf}
-use Rattle.robust_grid.specs.Places.{blockPair, scoreAt}
+use Rattle.robust_grid.specs.Grid.{grid_angle, best_of}
+use Rattle.robust_grid.specs.Places.{block_pair, score_at}
 use Rattle.seed_models.specs.declared.QSums.{QSums}
 use Rattle.seed_models.specs.declared.Matched.{Matched}
 use Rattle.seed_models.specs.declared.Matched.TheVariants.{At, Missing}
-use Rattle.seed_models.specs.Models.{SeedModel, noQSums, qSummed, modelOf, num_of, bestCached}
-use Rattle.seed_models.specs.Words.{ringSamples, tableSize, blockPart, modelsIn}
+use Rattle.seed_models.specs.Models.{SeedModel, no_qSums, q_summed, model_of, num_of, best_cached}
+use Rattle.seed_models.specs.Words.{ring_samples, table_size, block_part, models_in}
 
 -- the product of the factors at the angles a and b, of sample i
-abbrev pub qAt : Row → ℕ → ℕ → ℕ → Float
-qAt h a b i = at h (i * gridPlaces + a) ⊗ at h (i * gridPlaces + b)
+abbrev pub q_at : Row → ℕ → ℕ → ℕ → Float
+q_at h a b i = at h (i * grid_places + a) ⊗ at h (i * grid_places + b)
 
-unfoldable pub qSumsAt : ℕ → Row → ℕ → ℕ → QSums
-qSumsAt n h a b = iter (λ i. qSummed (qAt h a b i)) noQSums n
+unfoldable pub q_sums_at : ℕ → Row → ℕ → ℕ → QSums
+q_sums_at n h a b = iter (λ i. q_summed (q_at h a b i)) no_qSums n
 
-abbrev pub modelFrom : Row → ℕ → ℕ → SeedModel
-modelFrom h a b = modelOf ringSamples (qAt h a b) (gridAngle a) (gridAngle b)
+abbrev pub model_from : Row → ℕ → ℕ → SeedModel
+model_from h a b = model_of ring_samples (q_at h a b) (grid_angle a) (grid_angle b)
 
 -- what a block's four models bring to their scores, from the first n samples
-abbrev pub numIn : ℕ → Row → Row → ℕ → Float
-numIn n block centered k = num_of n centered (λ i. at block (8 + 4 * i + k))
+abbrev pub num_in : ℕ → Row → Row → ℕ → Float
+num_in n block centered k = num_of n centered (λ i. at block (8 + 4 * i + k))
 
 abbrev pub lanes_in : ℕ → Row → Row → Models
 lanes_in n block centered =
-    record { q_mean = four (λ k. at block k); denom = four (λ k. at block (4 + k)); num = four (λ k. numIn n block centered k) }
+    record { q_mean = four (λ k. at block k); denom = four (λ k. at block (4 + k)); num = four (λ k. num_in n block centered k) }
 
-abbrev pub numAdded : Models → Float → Row → Models
-numAdded m v q = record { q_mean = m.q_mean; denom = m.denom; num = plus m.num (times v q) }
+abbrev pub num_added : Models → Float → Row → Models
+num_added m v q = record { q_mean = m.q_mean; denom = m.denom; num = plus m.num (times v q) }
 
 -- rows are the grid's, or, where they are stored, a table's words
 abbrev pub RowsOf : Bool → Row → Row → Type 0
-RowsOf true rows centered = (length rows ≡ tableSize) × (length centered ≡ ringSamples)
+RowsOf true rows centered = (length rows ≡ table_size) × (length centered ≡ ring_samples)
 RowsOf false rows centered = GridRoom centered rows
 
 abbrev pub lanes_of : Bool → Row → Row → Float → ℕ → Models
-lanes_of true rows centered n j = lanes_in ringSamples (blockPart rows j) centered
-lanes_of false rows centered n j = let p = blockPair j in modelsOf (laneSums (length centered) centered rows p.a p.b) n
+lanes_of true rows centered n j = lanes_in ring_samples (block_part rows j) centered
+lanes_of false rows centered n j = let p = block_pair j in models_of (lane_sums (length centered) centered rows p.a p.b) n
 
-abbrev pub seedOf : Bool → Row → Row → Float → Float → Seed
-seedOf true rows centered centeredSs mean = bestCached ringSamples centered centeredSs mean (modelsIn rows)
-seedOf false rows centered centeredSs mean = bestOf (scoreAt (length centered) rows centered centeredSs mean)
+abbrev pub seed_of : Bool → Row → Row → Float → Float → Seed
+seed_of true rows centered centered_ss mean = best_cached ring_samples centered centered_ss mean (models_in rows)
+seed_of false rows centered centered_ss mean = best_of (score_at (length centered) rows centered centered_ss mean)
 
 -- the number of a table that is found is below k
 abbrev pub FoundBelow : ℕ → Matched → Type 0

@@ -6,85 +6,85 @@ use Rattle.std.specs.Float.Ieee.{eq}
 use Rattle.floats.specs.Ops.{nought}
 use Rattle.floats.specs.Rows.{Row, at, count}
 use Rattle.loops.specs.Loops.{iter, tab}
-use Rattle.robust_grid.specs.Grid.{gridAngle}
-use Rattle.robust_grid.specs.Places.{last_of, blockPair, blocks}
+use Rattle.robust_grid.specs.Grid.{grid_angle}
+use Rattle.robust_grid.specs.Places.{last_of, block_pair, blocks}
 use Rattle.robust_grid.specs.declared.Pair.{Pair}
-use Rattle.seed_models.specs.Models.{SeedModel, model_at, modelPushed, Table}
+use Rattle.seed_models.specs.Models.{SeedModel, model_at, model_pushed, Table}
 
 -- a table is of 16 samples
-abbrev pub ringSamples : ℕ
-ringSamples = 16
+abbrev pub ring_samples : ℕ
+ring_samples = 16
 
-abbrev pub blockSize : ℕ
-blockSize = 72
+abbrev pub block_size : ℕ
+block_size = 72
 
 -- the angles and 65 blocks
-abbrev pub tableSize : ℕ
-tableSize = 4696
+abbrev pub table_size : ℕ
+table_size = 4696
 
-abbrev pub mostTables : ℕ
-mostTables = 3
+abbrev pub most_tables : ℕ
+most_tables = 3
 
 -- the count and three tables
-abbrev pub stateSize : ℕ
-stateSize = 14089
+abbrev pub state_size : ℕ
+state_size = 14089
 
 -- ---- reading: the count is 1, 2 or 3, and anything else is none
-unfoldable pub heldBy : Float → ℕ
-heldBy x = cond (eq x (count 1)) 1 (cond (eq x (count 2)) 2 (cond (eq x (count 3)) 3 0))
+unfoldable pub held_by : Float → ℕ
+held_by x = cond (eq x (count 1)) 1 (cond (eq x (count 2)) 2 (cond (eq x (count 3)) 3 0))
 
-abbrev pub heldIn : Row → ℕ
-heldIn words = heldBy (at words 0)
+abbrev pub held_in : Row → ℕ
+held_in words = held_by (at words 0)
 
-abbrev pub tablePart : Row → ℕ → Row
-tablePart words t = take tableSize (drop (1 + t * tableSize) words)
+abbrev pub table_part : Row → ℕ → Row
+table_part words t = take table_size (drop (1 + t * table_size) words)
 
-abbrev pub blockPart : Row → ℕ → Row
-blockPart table j = take blockSize (drop (ringSamples + j * blockSize) table)
+abbrev pub block_part : Row → ℕ → Row
+block_part table j = take block_size (drop (ring_samples + j * block_size) table)
 
 -- the model in lane k of a block; its angles are the pair's, whatever the words are
-abbrev pub modelIn : Row → Pair → ℕ → SeedModel
-modelIn block p k =
+abbrev pub model_in : Row → Pair → ℕ → SeedModel
+model_in block p k =
     record {
-      theta1 = gridAngle p.a;
-      theta2 = gridAngle (p.b + k);
-      qMean = at block k;
-      qCentered = tab (λ i. at block (8 + 4 * i + k)) ringSamples;
+      theta1 = grid_angle p.a;
+      theta2 = grid_angle (p.b + k);
+      q_mean = at block k;
+      q_centered = tab (λ i. at block (8 + 4 * i + k)) ring_samples;
       denom = at block (4 + k);
     }
 
-unfoldable pub blockModels : Row → Pair → List SeedModel → List SeedModel
-blockModels block p models = iter (λ k models. cond (leb (p.b + k) (last_of p.a)) (modelPushed models (modelIn block p k)) models) models 4
+unfoldable pub block_models : Row → Pair → List SeedModel → List SeedModel
+block_models block p models = iter (λ k models. cond (leb (p.b + k) (last_of p.a)) (model_pushed models (model_in block p k)) models) models 4
 
-unfoldable pub modelsIn : Row → List SeedModel
-modelsIn table = iter (λ j. blockModels (blockPart table j) (blockPair j)) [] blocks
+unfoldable pub models_in : Row → List SeedModel
+models_in table = iter (λ j. block_models (block_part table j) (block_pair j)) [] blocks
 
-abbrev pub tableIn : Row → ℕ → Table
-tableIn words t = let table = tablePart words t in record { angles = take ringSamples table; models = modelsIn table }
+abbrev pub table_in : Row → ℕ → Table
+table_in words t = let table = table_part words t in record { angles = take ring_samples table; models = models_in table }
 
-unfoldable pub tablesIn : Row → List Table
-tablesIn words = tab (tableIn words) (heldIn words)
+unfoldable pub tables_in : Row → List Table
+tables_in words = tab (table_in words) (held_in words)
 
 -- ---- writing: the row r of a block has q_mean, denom, or q_centered of sample r - 2
-unfoldable pub laneWord : SeedModel → ℕ → Float
-laneWord m r = cond (eqb r 0) m.qMean (cond (eqb r 1) m.denom (at m.qCentered (r - 2)))
+unfoldable pub lane_word : SeedModel → ℕ → Float
+lane_word m r = cond (eqb r 0) m.q_mean (cond (eqb r 1) m.denom (at m.q_centered (r - 2)))
 
-abbrev pub blockWord : (ℕ → ℕ → SeedModel) → Pair → ℕ → Float
-blockWord model p w = let k = w % 4 in cond (leb (p.b + k) (last_of p.a)) (laneWord (model p.a (p.b + k)) (w / 4)) nought
+abbrev pub block_word : (ℕ → ℕ → SeedModel) → Pair → ℕ → Float
+block_word model p w = let k = w % 4 in cond (leb (p.b + k) (last_of p.a)) (lane_word (model p.a (p.b + k)) (w / 4)) nought
 
 unfoldable pub block_of : (ℕ → ℕ → SeedModel) → Pair → Row
-block_of model p = tab (blockWord model p) blockSize
+block_of model p = tab (block_word model p) block_size
 
-unfoldable pub tableWords : Row → (ℕ → ℕ → SeedModel) → Row
-tableWords angles model = iter (λ j words. words ++ block_of model (blockPair j)) angles blocks
+unfoldable pub table_words : Row → (ℕ → ℕ → SeedModel) → Row
+table_words angles model = iter (λ j words. words ++ block_of model (block_pair j)) angles blocks
 
 -- a table more, behind those that are held, and the count
-unfoldable pub storedIn : Row → Row → Row
-storedIn words angles =
-    let t = heldIn words in
-    let b = 1 + t * tableSize in
-    set (take b words ++ (tableWords angles (model_at ringSamples angles) ++ drop tableSize (drop b words))) 0 (count (t + 1))
+unfoldable pub stored_in : Row → Row → Row
+stored_in words angles =
+    let t = held_in words in
+    let b = 1 + t * table_size in
+    set (take b words ++ (table_words angles (model_at ring_samples angles) ++ drop table_size (drop b words))) 0 (count (t + 1))
 
 -- no table
-abbrev pub freshIn : Row → Row
-freshIn words = set words 0 nought
+abbrev pub fresh_in : Row → Row
+fresh_in words = set words 0 nought

@@ -2,9 +2,9 @@
 // that a caller supplies, in memory that the caller lends.
 ghost use Rattle.std.specs.Prelude.{◌≡◌, ◌&&◌, ◌++◌, ◌+◌, ◌*◌, ◌≤◌, ◌<◌, length, drop};
 ghost use Rattle.floats.specs.Rows.{at, count};
-ghost use Rattle.solver.specs.Buffers.{maxSamples};
-ghost use Rattle.robust_lanes.specs.Lanes.{gridPlaces};
-ghost use Rattle.robust_grid.specs.Places.{blockPair, blocks};
+ghost use Rattle.solver.specs.Buffers.{max_samples};
+ghost use Rattle.robust_lanes.specs.Lanes.{grid_places};
+ghost use Rattle.robust_grid.specs.Places.{block_pair, blocks};
 ghost use Rattle.seed_models.specs.Models as M;
 ghost use Rattle.seed_models.specs.Words as W;
 ghost use Rattle.seed_models.specs.Parts as P;
@@ -68,9 +68,9 @@ pub fn score_cached_seed_model(
     q_centered: &[f32],
     denom: f32,
 ) -> Seed
-    requires { (length q_centered.now ≡ length centered.now) × (length centered.now ≤ maxSamples) }
-    ensures { result ≡ M.scoreCachedSeedModel (length centered.now) centered.now centered_ss mean
-        (record { theta1 = theta1; theta2 = theta2; qMean = q_mean; qCentered = q_centered.now; denom = denom }) }
+    requires { (length q_centered.now ≡ length centered.now) × (length centered.now ≤ max_samples) }
+    ensures { result ≡ M.score_cached_seed_model (length centered.now) centered.now centered_ss mean
+        (record { theta1 = theta1; theta2 = theta2; q_mean = q_mean; q_centered = q_centered.now; denom = denom }) }
 {
     let num = num_of(centered, q_centered);
     let n = floats::count_f32(centered.len());
@@ -80,13 +80,13 @@ pub fn score_cached_seed_model(
 // ---- the match of angles
 
 fn is_near(got: f32, want: f32) -> bool
-    ensures { result ≡ M.angleNear got want }
+    ensures { result ≡ M.angle_near got want }
 {
     floats::abs(got - want) <= 1e-6
 }
 
 fn still_near(all: bool, got: f32, want: f32) -> bool
-    ensures { result ≡ (all && M.angleNear got want) }
+    ensures { result ≡ (all && M.angle_near got want) }
 {
     if all {
         return is_near(got, want);
@@ -96,7 +96,7 @@ fn still_near(all: bool, got: f32, want: f32) -> bool
 
 fn is_ring_phi(ring_phi: &[f32], expected: &[f32]) -> bool
     requires { length expected.now ≡ length ring_phi.now }
-    ensures { result ≡ M.isRingPhi (length ring_phi.now) ring_phi.now expected.now }
+    ensures { result ≡ M.is_ring_phi (length ring_phi.now) ring_phi.now expected.now }
 {
     let n = ring_phi.len();
     let mut all = true;
@@ -108,8 +108,8 @@ fn is_ring_phi(ring_phi: &[f32], expected: &[f32]) -> bool
 
 // How many tables the words hold: whatever the first word is, at most three.
 pub fn held(words: &[f32]) -> usize
-    requires { length words.now ≡ W.stateSize }
-    ensures { (result ≡ W.heldIn words.now) × (result ≤ W.mostTables) }
+    requires { length words.now ≡ W.state_size }
+    ensures { (result ≡ W.held_in words.now) × (result ≤ W.most_tables) }
 {
     let x = words[0];
     if x == 1.0 {
@@ -126,9 +126,9 @@ pub fn held(words: &[f32]) -> usize
 
 // The first table whose angles are all within 1e-6 of the ring's.
 pub fn first_table(words: &[f32], ring_phi: &[f32]) -> Matched
-    requires { (length words.now ≡ W.stateSize) × (length ring_phi.now ≡ W.ringSamples) }
-    ensures { (result ≡ M.firstTable W.ringSamples (W.tablesIn words.now) ring_phi.now)
-        × P.FoundBelow (W.heldIn words.now) result }
+    requires { (length words.now ≡ W.state_size) × (length ring_phi.now ≡ W.ring_samples) }
+    ensures { (result ≡ M.first_table W.ring_samples (W.tables_in words.now) ring_phi.now)
+        × P.FoundBelow (W.held_in words.now) result }
 {
     let k = held(words);
     for t in 0..k {
@@ -144,7 +144,7 @@ pub fn first_table(words: &[f32], ring_phi: &[f32]) -> Matched
 
 // A sample v more, which has the factors q in the four models.
 fn num_added(m: Models, v: f32, q: [f32; 4]) -> Models
-    ensures { result ≡ P.numAdded m v q }
+    ensures { result ≡ P.num_added m v q }
 {
     let q_mean = m.q_mean;
     let denom = m.denom;
@@ -155,8 +155,8 @@ fn num_added(m: Models, v: f32, q: [f32; 4]) -> Models
 
 // What the four models of a block bring to their scores: each lane adds its samples in their order.
 fn block_lanes(block: &[f32], centered: &[f32]) -> Models
-    requires { (length block.now ≡ W.blockSize) × (length centered.now ≡ W.ringSamples) }
-    ensures { result ≡ P.lanes_in W.ringSamples block.now centered.now }
+    requires { (length block.now ≡ W.block_size) × (length centered.now ≡ W.ring_samples) }
+    ensures { result ≡ P.lanes_in W.ring_samples block.now centered.now }
 {
     let mut m = Models {
         q_mean: [block[0], block[1], block[2], block[3]],
@@ -183,7 +183,7 @@ fn lanes_of(
     j: usize,
 ) -> Models
     requires { P.RowsOf stored rows.now centered.now × (samples ≡ length centered.now) × (n ≡ count samples)
-        × (j < blocks) × (p ≡ blockPair j) }
+        × (j < blocks) × (p ≡ block_pair j) }
     ensures { result ≡ P.lanes_of stored rows.now centered.now n j }
 {
     if stored {
@@ -202,7 +202,7 @@ fn lanes_of(
 // callers a ring of two starts took two fifths longer.
 pub fn best_seed(rows: &[f32], stored: bool, centered: &[f32], centered_ss: f32, mean: f32) -> Seed
     requires { P.RowsOf stored rows.now centered.now }
-    ensures { result ≡ P.seedOf stored rows.now centered.now centered_ss mean }
+    ensures { result ≡ P.seed_of stored rows.now centered.now centered_ss mean }
 {
     let samples = centered.len();
     let n = floats::count_f32(samples);
@@ -219,16 +219,16 @@ pub fn best_seed(rows: &[f32], stored: bool, centered: &[f32], centered_ss: f32,
 // ---- the building of a table
 
 fn q_at(h: &[f32], a: usize, b: usize, i: usize) -> f32
-    requires { (length h.now ≡ gridPlaces * W.ringSamples + 2) × (a < 23) × (b < 23) × (i < W.ringSamples) }
-    ensures { result ≡ P.qAt h.now a b i }
+    requires { (length h.now ≡ grid_places * W.ring_samples + 2) × (a < 23) × (b < 23) × (i < W.ring_samples) }
+    ensures { result ≡ P.q_at h.now a b i }
 {
     let k = i * robust_lanes::GRID_PLACES;
     h[k + a] * h[k + b]
 }
 
 fn q_sums(h: &[f32], a: usize, b: usize) -> QSums
-    requires { (length h.now ≡ gridPlaces * W.ringSamples + 2) × (a < 23) × (b < 23) }
-    ensures { result ≡ P.qSumsAt W.ringSamples h.now a b }
+    requires { (length h.now ≡ grid_places * W.ring_samples + 2) × (a < 23) × (b < 23) }
+    ensures { result ≡ P.q_sums_at W.ring_samples h.now a b }
 {
     let mut s = QSums {
         q_sum: 0.0,
@@ -244,8 +244,8 @@ fn q_sums(h: &[f32], a: usize, b: usize) -> QSums
 
 // The row r of the model of a and b: its sums are made anew for each word, since tables are stored once.
 fn lane_word(h: &[f32], a: usize, b: usize, r: usize) -> f32
-    requires { (length h.now ≡ gridPlaces * W.ringSamples + 2) × (a < 23) × (b < 23) × (r < 18) }
-    ensures { result ≡ W.laneWord (P.modelFrom h.now a b) r }
+    requires { (length h.now ≡ grid_places * W.ring_samples + 2) × (a < 23) × (b < 23) × (r < 18) }
+    ensures { result ≡ W.lane_word (P.model_from h.now a b) r }
 {
     let s = q_sums(h, a, b);
     let q_mean = s.q_sum / 16.0;
@@ -260,8 +260,8 @@ fn lane_word(h: &[f32], a: usize, b: usize, r: usize) -> f32
 
 // A word of a block: 0 in a lane that has no pair.
 fn block_word(h: &[f32], p: Pair, w: usize) -> f32
-    requires { (length h.now ≡ gridPlaces * W.ringSamples + 2) × (p.a < 21) × (p.b < 23) × (w < W.blockSize) }
-    ensures { result ≡ W.blockWord (P.modelFrom h.now) p w }
+    requires { (length h.now ≡ grid_places * W.ring_samples + 2) × (p.a < 21) × (p.b < 23) × (w < W.block_size) }
+    ensures { result ≡ W.block_word (P.model_from h.now) p w }
 {
     let k = w % 4;
     if robust_grid::is_pair(p, k) {
@@ -271,8 +271,8 @@ fn block_word(h: &[f32], p: Pair, w: usize) -> f32
 }
 
 fn fill_block(h: &[f32], p: Pair, block: &mut [f32])
-    requires { (length h.now ≡ gridPlaces * W.ringSamples + 2) × (p.a < 21) × (p.b < 23) × (length block.old ≡ W.blockSize) }
-    ensures { block.new ≡ W.block_of (P.modelFrom h.now) p }
+    requires { (length h.now ≡ grid_places * W.ring_samples + 2) × (p.a < 21) × (p.b < 23) × (length block.old ≡ W.block_size) }
+    ensures { block.new ≡ W.block_of (P.model_from h.now) p }
 {
     for w in 0..BLOCK_SIZE {
         block[w] = block_word(h, p, w);
@@ -280,8 +280,8 @@ fn fill_block(h: &[f32], p: Pair, block: &mut [f32])
 }
 
 fn put_angles(angles: &[f32], table: &mut [f32])
-    requires { (length angles.now ≡ W.ringSamples) × (length table.old ≡ W.tableSize) }
-    ensures { table.new ≡ angles.now ++ drop W.ringSamples table.old }
+    requires { (length angles.now ≡ W.ring_samples) × (length table.old ≡ W.table_size) }
+    ensures { table.new ≡ angles.now ++ drop W.ring_samples table.old }
 {
     for i in 0..RING_SAMPLES {
         table[i] = angles[i];
@@ -290,8 +290,8 @@ fn put_angles(angles: &[f32], table: &mut [f32])
 
 // The angles, then block by block.
 fn fill_table(angles: &[f32], h: &[f32], table: &mut [f32])
-    requires { (length angles.now ≡ W.ringSamples) × (length h.now ≡ gridPlaces * W.ringSamples + 2) × (length table.old ≡ W.tableSize) }
-    ensures { table.new ≡ W.tableWords angles.now (P.modelFrom h.now) }
+    requires { (length angles.now ≡ W.ring_samples) × (length h.now ≡ grid_places * W.ring_samples + 2) × (length table.old ≡ W.table_size) }
+    ensures { table.new ≡ W.table_words angles.now (P.model_from h.now) }
 {
     put_angles(angles, table);
     let mut p = robust_grid::first_block();
@@ -304,8 +304,8 @@ fn fill_table(angles: &[f32], h: &[f32], table: &mut [f32])
 
 // The table of these angles. The grid's rows are on this call's stack, and are of no use afterwards.
 fn build_table(angles: &[f32], table: &mut [f32])
-    requires { (length angles.now ≡ W.ringSamples) × (length table.old ≡ W.tableSize) }
-    ensures { table.new ≡ W.tableWords angles.now (M.model_at W.ringSamples angles.now) }
+    requires { (length angles.now ≡ W.ring_samples) × (length table.old ≡ W.table_size) }
+    ensures { table.new ≡ W.table_words angles.now (M.model_at W.ring_samples angles.now) }
 {
     let mut turned = [0.0f32; RING_SAMPLES];
     let mut sphi = [0.0f32; RING_SAMPLES];
@@ -318,8 +318,8 @@ fn build_table(angles: &[f32], table: &mut [f32])
 
 // A table more, behind those that are held.
 pub fn store(words: &mut [f32], angles: &[f32])
-    requires { (length words.old ≡ W.stateSize) × (length angles.now ≡ W.ringSamples) × (W.heldIn words.old < W.mostTables) }
-    ensures { words.new ≡ W.storedIn words.old angles.now }
+    requires { (length words.old ≡ W.state_size) × (length angles.now ≡ W.ring_samples) × (W.held_in words.old < W.most_tables) }
+    ensures { words.new ≡ W.stored_in words.old angles.now }
 {
     let t = held(words);
     let b = 1 + t * TABLE_SIZE;
@@ -329,8 +329,8 @@ pub fn store(words: &mut [f32], angles: &[f32])
 
 // No table.
 pub fn fresh(words: &mut [f32])
-    requires { length words.old ≡ W.stateSize }
-    ensures { words.new ≡ W.freshIn words.old }
+    requires { length words.old ≡ W.state_size }
+    ensures { words.new ≡ W.fresh_in words.old }
 {
     words[0] = 0.0;
 }

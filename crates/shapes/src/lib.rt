@@ -41,7 +41,7 @@ pub enum Shape {
 
 // The samples of a ring: 16 of type 01, 24 of type 03.
 pub fn samples_of(kind: u32) -> usize
-    ensures { (result ≤ 24) × (result ≡ S.samplesOf kind) }
+    ensures { (result ≤ 24) × (result ≡ S.samples_of kind) }
 {
     if kind == 3 {
         return 24;
@@ -51,7 +51,7 @@ pub fn samples_of(kind: u32) -> usize
 
 // A frame is answered by its type plus 80, and a malformed line by ff.
 pub fn answer_type(kind: u32) -> u32
-    ensures { (result ≡ S.answerType kind) × (result ≤ 128 + kind) }
+    ensures { (result ≡ S.answer_type kind) × (result ≤ 128 + kind) }
 {
     if kind < 128 {
         return kind + 128;
@@ -61,7 +61,7 @@ pub fn answer_type(kind: u32) -> u32
 
 fn ring_shape(line: &[u8], kind: u32) -> Shape
     requires { S.RingType kind }
-    ensures { (result ≡ S.ringShape line.now kind) × S.ShapeSized (length line.now) result }
+    ensures { (result ≡ S.ring_shape line.now kind) × S.ShapeSized (length line.now) result }
 {
     let n = samples_of(kind);
     if line.len() == RING_HEAD + SAMPLE * n {
@@ -72,7 +72,7 @@ fn ring_shape(line: &[u8], kind: u32) -> Shape
 
 fn counted_shape(line: &[u8], n: u32) -> Shape
     requires { n < 65536 }
-    ensures { (result ≡ S.countedShape (length line.now) n) × S.ShapeSized (length line.now) result }
+    ensures { (result ≡ S.counted_shape (length line.now) n) × S.ShapeSized (length line.now) result }
 {
     let pixels = n as usize;
     if pixels == 0 {
@@ -88,7 +88,7 @@ fn counted_shape(line: &[u8], n: u32) -> Shape
 }
 
 fn disk_shape(line: &[u8]) -> Shape
-    ensures { (result ≡ S.diskShape line.now) × S.ShapeSized (length line.now) result }
+    ensures { (result ≡ S.disk_shape line.now) × S.ShapeSized (length line.now) result }
 {
     if line.len() < DISK_HEAD {
         return Shape::Malformed(Fault::DiskShort);
@@ -99,7 +99,7 @@ fn disk_shape(line: &[u8]) -> Shape
 
 fn typed_shape(line: &[u8]) -> Shape
     requires { 2 ≤ length line.now }
-    ensures { (result ≡ S.typedShape line.now) × S.ShapeSized (length line.now) result }
+    ensures { (result ≡ S.typed_shape line.now) × S.ShapeSized (length line.now) result }
 {
     let kind = hex::byte_at(line, 0);
     if kind == 1 || kind == 3 {

@@ -1,7 +1,7 @@
 -- What the lent buffers of a start hold, and the sums in which a pass leaves its normal matrix. Definitions only.
 use Rattle.std.specs.Prelude.{◌≡◌, [], ◌∷◌, ℕ, ◌+◌, ◌*◌, ◌≤◌, ◌<◌, length, Float}
 use Rattle.floats.specs.Ops.{◌⊕◌, ◌⊗◌, nought, one}
-use Rattle.elementary.specs.Elementary.{sinCosNear, turn}
+use Rattle.elementary.specs.Elementary.{sin_cos_near, turn}
 use Rattle.elementary.specs.declared.SinCos.{SinCos}
 use Rattle.loops.specs.Loops.{iter, tab}
 use Rattle.solver_elimination.specs.Solve.{Matrix}
@@ -9,51 +9,51 @@ use Rattle.floats.specs.Rows.{Row, at}
 use Rattle.solver_record.specs.declared.Params.{Params}
 use Rattle.solver.specs.declared.Sample.{Sample}
 use Rattle.solver.specs.declared.Sums.{Sums}
-use Rattle.solver.specs.Solver.{sampleAt, Normal, empty, added, sines, cosines, Final}
+use Rattle.solver.specs.Solver.{sample_at, Normal, empty, added, sines, cosines, Final}
 
 -- ---- the angles
 -- the first n angles are so near that turning leaves them
-pub record RingNear (n : ℕ) (ringPhi : Row) : Type 0 where
-  pub is : (i : ℕ) → i < n → turn (at ringPhi i) ≡ at ringPhi i
+pub record RingNear (n : ℕ) (ring_phi : Row) : Type 0 where
+  pub is : (i : ℕ) → i < n → turn (at ring_phi i) ≡ at ring_phi i
 
-pub record TurnedTo (ringPhi turned : Row) : Type 0 where
-  pub is : turned ≡ tab (λ i. turn (at ringPhi i)) (length ringPhi)
+pub record TurnedTo (ring_phi turned : Row) : Type 0 where
+  pub is : turned ≡ tab (λ i. turn (at ring_phi i)) (length ring_phi)
 
 pub record Sines (turned sphi cphi : Row) : Type 0 where
-  pub s : sphi ≡ tab (λ i. (sinCosNear (at turned i)).s) (length turned)
-  pub c : cphi ≡ tab (λ i. (sinCosNear (at turned i)).c) (length turned)
+  pub s : sphi ≡ tab (λ i. (sin_cos_near (at turned i)).s) (length turned)
+  pub c : cphi ≡ tab (λ i. (sin_cos_near (at turned i)).c) (length turned)
 
 -- the sines and cosines of the samples' angles
-pub record Prepared (ringPhi sphi cphi : Row) : Type 0 where
-  pub s : sphi ≡ sines (length ringPhi) ringPhi
-  pub c : cphi ≡ cosines (length ringPhi) ringPhi
+pub record Prepared (ring_phi sphi cphi : Row) : Type 0 where
+  pub s : sphi ≡ sines (length ring_phi) ring_phi
+  pub c : cphi ≡ cosines (length ring_phi) ring_phi
 
 -- ---- a pass
 -- the most samples that the buffers have room for
-abbrev pub maxSamples : ℕ
-maxSamples = 24
+abbrev pub max_samples : ℕ
+max_samples = 24
 
 -- a sine and a cosine for each sample, and four places in js
 pub record PassRoom (samples sphi cphi js : Row) : Type 0 where
-  pub few : length samples ≤ maxSamples
+  pub few : length samples ≤ max_samples
   pub s : length sphi ≡ length samples
   pub c : length cphi ≡ length samples
   pub j : length js ≡ 4 * length samples
 
 -- sample i as it stands in js
-abbrev pub sampleFrom : Row → ℕ → Sample
-sampleFrom js i = record { r = at js (4 * i); q = at js (4 * i + 1); d1 = at js (4 * i + 2); d2 = at js (4 * i + 3) }
+abbrev pub sample_from : Row → ℕ → Sample
+sample_from js i = record { r = at js (4 * i); q = at js (4 * i + 1); d1 = at js (4 * i + 2); d2 = at js (4 * i + 3) }
 
 pub record PassFilled (p : Params) (t1 t2 : SinCos) (samples sphi cphi js : Row) : Type 0 where
-  pub is : (i : ℕ) → i < length samples → sampleFrom js i ≡ sampleAt p t1 t2 (at samples i) (at sphi i) (at cphi i)
+  pub is : (i : ℕ) → i < length samples → sample_from js i ≡ sample_at p t1 t2 (at samples i) (at sphi i) (at cphi i)
 
 -- the normal matrix, the right-hand side and the sum of squares of the samples in js
 abbrev pub summed : ℕ → Row → Normal
-summed n js = iter (λ i. added (sampleFrom js i)) empty n
+summed n js = iter (λ i. added (sample_from js i)) empty n
 
 -- ---- the same, each entry of the symmetric matrix summed once
-abbrev pub noSums : Sums
-noSums =
+abbrev pub no_sums : Sums
+no_sums =
     record {
       r = nought;
       q = nought;

@@ -7,11 +7,11 @@ use Rattle.solver_record.specs.declared.Params.{Params}
 use Rattle.solver_record.specs.declared.Started.{Started}
 use Rattle.solver.specs.Solver.{Final, updates, sines, cosines}
 
-abbrev pub startFrom : ℕ → Final → Started
-startFrom n f = start_of n f.p f.last.m f.last.ssr f.updates
+abbrev pub start_from : ℕ → Final → Started
+start_from n f = start_of n f.p f.last.m f.last.ssr f.updates
 
 -- a start that is degenerate has its seed's mean
-unfoldable pub recordWithSeed : ℕ → Row → Row → Params → Float → Started
-recordWithSeed n samples ringPhi seed centeredVar =
-    cond (degenerate seed.amp centeredVar) (refused centeredVar seed.mu)
-    (startFrom n (updates n samples (sines n ringPhi) (cosines n ringPhi) seed))
+unfoldable pub record_with_seed : ℕ → Row → Row → Params → Float → Started
+record_with_seed n samples ring_phi seed centered_var =
+    cond (degenerate seed.amp centered_var) (refused centered_var seed.mu)
+    (start_from n (updates n samples (sines n ring_phi) (cosines n ring_phi) seed))

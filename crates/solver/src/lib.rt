@@ -48,7 +48,7 @@ pub struct Sums {
 }
 
 fn sample_at(p: Params, t1: SinCos, t2: SinCos, v: f32, s: f32, c: f32) -> Sample
-    ensures { result ≡ S.sampleAt p t1 t2 v s c }
+    ensures { result ≡ S.sample_at p t1 t2 v s c }
 {
     let s1a = s * t1.c - c * t1.s;
     let c1a = c * t1.c + s * t1.s;
@@ -175,7 +175,7 @@ fn packed(s: Sums, t: Sample) -> Sums
 }
 
 fn no_sums() -> Sums
-    ensures { result ≡ B.noSums }
+    ensures { result ≡ B.no_sums }
 {
     Sums {
         r: 0.0,
@@ -198,7 +198,7 @@ fn no_sums() -> Sums
 
 // The sums of all samples, in their order.
 fn add_up(js: &[f32], n: usize) -> Sums
-    requires { (n ≤ B.maxSamples) × (length js.now ≡ 4 * n) }
+    requires { (n ≤ B.max_samples) × (length js.now ≡ 4 * n) }
     ensures { B.spread result ≡ B.summed n js.now }
 {
     let mut s = no_sums();
@@ -330,7 +330,7 @@ pub fn fit_prepared(
     js: &mut [f32],
 ) -> Started
     requires { B.PassRoom samples.now sphi.now cphi.now js.old }
-    ensures { result ≡ R.startFrom (length samples.now)
+    ensures { result ≡ R.start_from (length samples.now)
         (S.updates (length samples.now) samples.now sphi.now cphi.now seed) }
 {
     let mut jtj = [[0.0f32; 4]; 4];
@@ -350,7 +350,7 @@ pub fn fit_with_seed(
     js: &mut [f32],
 ) -> Started
     requires { (length ring_phi.now ≡ length samples.now) × B.PassRoom samples.now sphi.old cphi.old js.old }
-    ensures { result ≡ R.recordWithSeed (length samples.now) samples.now ring_phi.now seed centered_var }
+    ensures { result ≡ R.record_with_seed (length samples.now) samples.now ring_phi.now seed centered_var }
 {
     if solver_record::is_degenerate(seed.amp, centered_var) {
         return solver_record::refused(centered_var, seed.mu);

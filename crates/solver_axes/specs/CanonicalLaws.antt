@@ -10,69 +10,69 @@ use lib.Ieee.{Float, nan, inf, fin, binary32, neg, lt, le, eq, fits, of_bits, is
 use Rattle.std.specs.Float.Ieee.Fits.{add-fits}
 use Rattle.std.specs.Float.Ieee.Scale.{overflow, finite}
 use Rattle.floats.specs.Ops.{◌⊕◌, ◌⊖◌, nought, pi, tau}
-use Rattle.floats.specs.Library.{remEuclid}
-use Rattle.floats.specs.UnitLaws.{Val, lt_val, neg-val, pos_plus}
-use Rattle.floats.specs.RoundingLaws.{R, Rep, counted, R-exact, R-mono, R-upper, R-lower, R-zero, R-rep, rep_step, rep-mod}
-use Rattle.floats.specs.NonNegLaws.{NonNeg, or_r, plus-nn, lt-is, le_is, lt_of, le_of, add-nn, sub-nn, sub-neg}
-use Rattle.floats.specs.RemLaws.{P, W, pi-val, tau-val, pi-rep, tau-rep, pi-nn, tau-nn, nought-val, nought-nn}
-use Rattle.floats.specs.RemLaws.{remEuclid-nn, remEuclid-neg, remEuclid-zero, remEuclid-range, remEuclid-wild}
+use Rattle.floats.specs.Library.{rem_euclid}
+use Rattle.floats.specs.UnitLaws.{Val, lt_val, neg_val, pos_plus}
+use Rattle.floats.specs.RoundingLaws.{R, Rep, counted, R-exact, R-mono, R-upper, R-lower, R-zero, R-rep, rep_step, rep_mod}
+use Rattle.floats.specs.NonNegLaws.{NonNeg, or_r, plus_nn, lt_is, le_is, lt_of, le_of, add_nn, sub_nn, sub_neg}
+use Rattle.floats.specs.RemLaws.{P, W, pi_val, tau_val, pi_rep, tau_rep, pi_nn, tau_nn, nought_val, nought_nn}
+use Rattle.floats.specs.RemLaws.{rem_euclid_nn, rem_euclid_neg, rem_euclid_zero, rem_euclid_range, rem_euclid_wild}
 use Rattle.solver_axes.specs.declared.Axes.{Axes}
-use Rattle.solver_axes.specs.Canonical.{wrapToTau, arc, placed, axesSettled, canonicalizeTrackingSwap, WrappedTau, CanonicalRange}
+use Rattle.solver_axes.specs.Canonical.{wrap_to_tau, arc, placed, axes_settled, canonicalize_tracking_swap, WrappedTau, CanonicalRange}
 
 -- ---- wrapping
 abbrev Wrapped : Float → Type 0
-Wrapped x = (c : ℕ) × NonNeg binary32 (wrapToTau x) c × (c ≤ W)
+Wrapped x = (c : ℕ) × NonNeg binary32 (wrap_to_tau x) c × (c ≤ W)
 
-wrap-go : (x : Float) (b : Bool) → T (fits binary32 x) → (T b → T (finite x)) → (T (not b) → T (not (finite x))) → Wrapped x
-unfolding wrapToTau
-wrap-go x true p h n =
+wrap_go : (x : Float) (b : Bool) → T (fits binary32 x) → (T b → T (finite x)) → (T (not b) → T (not (finite x))) → Wrapped x
+unfolding wrap_to_tau
+wrap_go x true p h n =
     let q = counted binary32 x p (h tt) in
-    let r = remEuclid-range binary32 x tau q.count W (lit< tt) tau-val tau-rep q.sign q.val q.rep in
-    let y = remEuclid binary32 x tau in
+    let r = rem_euclid_range binary32 x tau q.count W (lit< tt) tau_val tau_rep q.sign q.val q.rep in
+    let y = rem_euclid binary32 x tau in
     (r.0, subst (λ (b : Bool). NonNeg binary32 (cond b y nought) r.0) (sym (fine y r.0 r.1)) r.1, r.2)
   where
     fine : (z : Float) (c : ℕ) → NonNeg binary32 z c → finite z ≡ true
     fine nan c v = absurd v.val
     fine (inf s) c v = absurd v.val
     fine (fin s m e) c v = refl
-wrap-go x false p h n =
-    (0, subst (λ (z : Float). NonNeg binary32 (cond (finite z) z nought) 0) (sym (remEuclid-wild binary32 x tau (n tt))) nought-nn, zero-le)
+wrap_go x false p h n =
+    (0, subst (λ (z : Float). NonNeg binary32 (cond (finite z) z nought) 0) (sym (rem_euclid_wild binary32 x tau (n tt))) nought_nn, zero-le)
 
-wrap-range : (x : Float) → T (fits binary32 x) → Wrapped x
-wrap-range x p = wrap-go x (finite x) p (λ t. t) (λ t. t)
+wrap_range : (x : Float) → T (fits binary32 x) → Wrapped x
+wrap_range x p = wrap_go x (finite x) p (λ t. t) (λ t. t)
 
-pub wrapToTau-range : (x : Float) → T (fits binary32 x) → WrappedTau x (wrapToTau x)
-wrapToTau-range x p =
-    let r = wrap-range x p in
+pub wrap_to_tau_range : (x : Float) → T (fits binary32 x) → WrappedTau x (wrap_to_tau x)
+wrap_to_tau_range x p =
+    let r = wrap_range x p in
     record {
-      low = le_of binary32 nought (wrapToTau x) 0 r.0 nought-nn r.1 zero-le;
-      high = le_of binary32 (wrapToTau x) tau r.0 W r.1 tau-nn r.2;
-      wild = λ t. unfold wrapToTau in ap (λ (z : Float). cond (finite z) z nought) (remEuclid-wild binary32 x tau t);
+      low = le_of binary32 nought (wrap_to_tau x) 0 r.0 nought_nn r.1 zero-le;
+      high = le_of binary32 (wrap_to_tau x) tau r.0 W r.1 tau_nn r.2;
+      wild = λ t. unfold wrap_to_tau in ap (λ (z : Float). cond (finite z) z nought) (rem_euclid_wild binary32 x tau t);
     }
 
 -- ---- the arc from one wrapped axis to another
 -- a difference of two wrapped angles rounds to at most TAU
 within : (a b : ℕ) → b ≤ W → (R binary32 (b - a) < overflow binary32) × (R binary32 (b - a) ≤ W)
-within a b h = R-upper binary32 (b - a) W tau-rep (le_trans (sub-le b a) h)
+within a b h = R-upper binary32 (b - a) W tau_rep (le_trans (sub-le b a) h)
 
 module _ (x y : Float) (a b : ℕ) (h : NonNeg binary32 x a) (g : NonNeg binary32 y b) where
   turn_up : a ≤ b → b ≤ W → NonNeg binary32 (arc x y) (R binary32 (b - a) % W)
   unfolding arc
-  turn_up l u = remEuclid-nn binary32 (y ⊖ x) tau (R binary32 (b - a)) W (lit< tt) tau-val tau-rep (sub-nn binary32 y x b a g h l (within a b u).0)
+  turn_up l u = rem_euclid_nn binary32 (y ⊖ x) tau (R binary32 (b - a)) W (lit< tt) tau_val tau_rep (sub_nn binary32 y x b a g h l (within a b u).0)
 
-  turn-none : b < a → a ≤ W → R binary32 (a - b) % W ≡ 0 → NonNeg binary32 (arc x y) 0
+  turn_none : b < a → a ≤ W → R binary32 (a - b) % W ≡ 0 → NonNeg binary32 (arc x y) 0
   unfolding arc
-  turn-none l u e =
+  turn_none l u e =
       let z = (within b a u).0 in
-      let v = sub-neg binary32 y x b a g h l z in
-      remEuclid-zero binary32 (y ⊖ x) tau (R binary32 (a - b)) W (lit< tt) tau-val tau-rep v (R-rep binary32 (a - b) z) e
+      let v = sub_neg binary32 y x b a g h l z in
+      rem_euclid_zero binary32 (y ⊖ x) tau (R binary32 (a - b)) W (lit< tt) tau_val tau_rep v (R-rep binary32 (a - b) z) e
 
-  turn-down : b < a → a ≤ W → 0 < R binary32 (a - b) % W → NonNeg binary32 (arc x y) (R binary32 (W - R binary32 (a - b) % W))
+  turn_down : b < a → a ≤ W → 0 < R binary32 (a - b) % W → NonNeg binary32 (arc x y) (R binary32 (W - R binary32 (a - b) % W))
   unfolding arc
-  turn-down l u e =
+  turn_down l u e =
       let z = (within b a u).0 in
-      let v = sub-neg binary32 y x b a g h l z in
-      remEuclid-neg binary32 (y ⊖ x) tau (R binary32 (a - b)) W (lit< tt) tau-val tau-rep v (R-rep binary32 (a - b) z) e
+      let v = sub_neg binary32 y x b a g h l z in
+      rem_euclid_neg binary32 (y ⊖ x) tau (R binary32 (a - b)) W (lit< tt) tau_val tau_rep v (R-rep binary32 (a - b) z) e
 
 -- ---- the whole numbers of it
 -- e units, a value the format holds, above PI and below TAU: TAU - e is held too, so the difference is exact, and below PI
@@ -140,8 +140,8 @@ turned x y a b h A g B = go (leb a b) (leb→le a b) (nleb→lt a b)
       | inl e ↦ absurd (no (ap (λ (z : ℕ). R binary32 z % W) (nothing e) ∙ ap (λ (z : ℕ). z % W) (R-zero binary32) ∙ zero-mod W) p)
       | inr u ↦ (
         R binary32 (W - R binary32 (b - a) % W),
-        turn-down y x b a g h u B (lt_of_lt_of_le (lit< tt) p),
-        (R-upper binary32 (W - R binary32 (b - a) % W) P pi-rep (gap (R binary32 (b - a) % W) p)).1,
+        turn_down y x b a g h u B (lt_of_lt_of_le (lit< tt) p),
+        (R-upper binary32 (W - R binary32 (b - a) % W) P pi_rep (gap (R binary32 (b - a) % W) p)).1,
       )
     ]
 
@@ -149,12 +149,12 @@ turned x y a b h A g B = go (leb a b) (leb→le a b) (nleb→lt a b)
     down : b < a → Turned x y
     down l =
         let e = R binary32 (a - b) % W in
-        let held : Rep binary32 e = rep-mod binary32 (R binary32 (a - b)) W (lit< tt) (R-rep binary32 (a - b) (within b a A).0) tau-rep in
+        let held : Rep binary32 e = rep_mod binary32 (R binary32 (a - b)) W (lit< tt) (R-rep binary32 (a - b) (within b a A).0) tau_rep in
         elim (eq-zero-or-pos e) [
-          | inl z ↦ record { c = 0; here = turn-none x y a b h g l A z; back = λ p. absurd (no refl p) }
+          | inl z ↦ record { c = 0; here = turn_none x y a b h g l A z; back = λ p. absurd (no refl p) }
           | inr u ↦ record {
             c = R binary32 (W - e);
-            here = turn-down x y a b h g l A u;
+            here = turn_down x y a b h g l A u;
             back = λ p. (e, turn_up y x b a g h (le_of_lt l) A, at_most e held p);
           }
         ]
@@ -176,89 +176,89 @@ AmpRange a = T (is_nan a || le nought a)
 abbrev sized : Bool → Float → Float
 sized n a = cond n (neg a) a
 
-amp-kept : (a : Float) (n : ℕ) → NonNeg binary32 a n → AmpRange (sized (lt a nought) a)
-amp-kept a n h =
-    let e = lt-is binary32 a nought n 0 h nought-nn ∙ le-ltb n 0 zero-le in
-    subst (λ (b : Bool). AmpRange (sized b a)) (sym e) (or_r (is_nan a) (le nought a) (le_of binary32 nought a 0 n nought-nn h zero-le))
+amp_kept : (a : Float) (n : ℕ) → NonNeg binary32 a n → AmpRange (sized (lt a nought) a)
+amp_kept a n h =
+    let e = lt_is binary32 a nought n 0 h nought_nn ∙ le-ltb n 0 zero-le in
+    subst (λ (b : Bool). AmpRange (sized b a)) (sym e) (or_r (is_nan a) (le nought a) (le_of binary32 nought a 0 n nought_nn h zero-le))
 
-amp-turned : (a : Float) (n : ℕ) → Val binary32 a true n → Rep binary32 n → 0 < n → AmpRange (sized (lt a nought) a)
-amp-turned a n v r p =
-    let e = lt_val binary32 a nought true n false 0 v nought-val ∙ lt-ltb 0 (n + 0) (pos_plus n 0 p) in
-    let h = plus-nn binary32 (neg a) n (neg-val binary32 a true n v) r in
+amp_turned : (a : Float) (n : ℕ) → Val binary32 a true n → Rep binary32 n → 0 < n → AmpRange (sized (lt a nought) a)
+amp_turned a n v r p =
+    let e = lt_val binary32 a nought true n false 0 v nought_val ∙ lt-ltb 0 (n + 0) (pos_plus n 0 p) in
+    let h = plus_nn binary32 (neg a) n (neg_val binary32 a true n v) r in
     subst (λ (b : Bool). AmpRange (sized b a)) (sym e)
-    (or_r (is_nan (neg a)) (le nought (neg a)) (le_of binary32 nought (neg a) 0 n nought-nn h zero-le))
+    (or_r (is_nan (neg a)) (le nought (neg a)) (le_of binary32 nought (neg a) 0 n nought_nn h zero-le))
 
-amp-counted : (a : Float) (s : Bool) (n : ℕ) → Val binary32 a s n → Rep binary32 n → AmpRange (sized (lt a nought) a)
-amp-counted a false n v r = amp-kept a n (plus-nn binary32 a n v r)
-amp-counted a true n v r = elim (eq-zero-or-pos n) [
-  | inl e ↦ amp-kept a n (record { sign = true; val = v; none = λ t. e; rep = r })
-  | inr p ↦ amp-turned a n v r p
+amp_counted : (a : Float) (s : Bool) (n : ℕ) → Val binary32 a s n → Rep binary32 n → AmpRange (sized (lt a nought) a)
+amp_counted a false n v r = amp_kept a n (plus_nn binary32 a n v r)
+amp_counted a true n v r = elim (eq-zero-or-pos n) [
+  | inl e ↦ amp_kept a n (record { sign = true; val = v; none = λ t. e; rep = r })
+  | inr p ↦ amp_turned a n v r p
 ]
 
-amp-all : (a : Float) → T (fits binary32 a) → AmpRange (sized (lt a nought) a)
-amp-all nan p = unfold is_nan lt of_bits in tt
-amp-all (inf true) p = unfold is_nan lt le neg eq of_bits in tt
-amp-all (inf false) p = unfold is_nan lt le neg eq of_bits in tt
-amp-all (fin s m e) p = let q = counted binary32 (fin s m e) p tt in amp-counted (fin s m e) q.sign q.count q.val q.rep
+amp_all : (a : Float) → T (fits binary32 a) → AmpRange (sized (lt a nought) a)
+amp_all nan p = unfold is_nan lt of_bits in tt
+amp_all (inf true) p = unfold is_nan lt le neg eq of_bits in tt
+amp_all (inf false) p = unfold is_nan lt le neg eq of_bits in tt
+amp_all (fin s m e) p = let q = counted binary32 (fin s m e) p tt in amp_counted (fin s m e) q.sign q.count q.val q.rep
 
-pub canonical-amp : (t1 t2 a : Float) → T (fits binary32 a) → let r = canonicalizeTrackingSwap t1 t2 a in T (is_nan r.amp || le nought r.amp)
-unfolding canonicalizeTrackingSwap axesSettled placed
-canonical-amp t1 t2 a p = amp-all a p
+pub canonical_amp : (t1 t2 a : Float) → T (fits binary32 a) → let r = canonicalize_tracking_swap t1 t2 a in T (is_nan r.amp || le nought r.amp)
+unfolding canonicalize_tracking_swap axes_settled placed
+canonical_amp t1 t2 a p = amp_all a p
 
 -- ---- the range
 abbrev InRange : Axes → Type 0
 InRange r = CanonicalRange r.theta1 r.theta2 r.amp
 
-placed-range : (t d a : Float) (w : Bool) (n c : ℕ) → NonNeg binary32 t n → NonNeg binary32 d c → c ≤ P → AmpRange a → InRange (placed t d a w)
+placed_range : (t d a : Float) (w : Bool) (n c : ℕ) → NonNeg binary32 t n → NonNeg binary32 d c → c ≤ P → AmpRange a → InRange (placed t d a w)
 unfolding placed
-placed-range t d a w n c h g l z =
-    let x = remEuclid binary32 t pi in
+placed_range t d a w n c h g l z =
+    let x = rem_euclid binary32 t pi in
     let m = n % P in
-    let u : NonNeg binary32 x m = remEuclid-nn binary32 t pi n P (lit< tt) pi-val pi-rep h in
+    let u : NonNeg binary32 x m = rem_euclid_nn binary32 t pi n P (lit< tt) pi_val pi_rep h in
     let m-lt : m < P = mod-lt n (lit< tt) in
     let top : m + c ≤ 26353589 * 2 ^ 127 = le_trans (add-le-add (next_down m u.rep m-lt) l) (lit≤ tt) in
     let s = R-mono binary32 (m + c) (26353589 * 2 ^ 127) top (lt_of_le_of_lt (le_of_eq tie) (lit< tt)) in
-    let v : NonNeg binary32 (x ⊕ d) (R binary32 (m + c)) = add-nn binary32 x d m c u g s.0 in
+    let v : NonNeg binary32 (x ⊕ d) (R binary32 (m + c)) = add_nn binary32 x d m c u g s.0 in
     let o = R-lower binary32 m (m + c) u.rep (le-add_right m c) s.0 in
     record {
-      low = le_of binary32 nought x 0 m nought-nn u zero-le;
-      first = lt_of binary32 x pi m P u pi-nn m-lt;
+      low = le_of binary32 nought x 0 m nought_nn u zero-le;
+      first = lt_of binary32 x pi m P u pi_nn m-lt;
       order = le_of binary32 x (x ⊕ d) m (R binary32 (m + c)) u v o;
-      second = lt_of binary32 (x ⊕ d) tau (R binary32 (m + c)) W v tau-nn (lt_of_le_of_lt (le_trans s.1 (le_of_eq tie)) (lit< tt));
+      second = lt_of binary32 (x ⊕ d) tau (R binary32 (m + c)) W v tau_nn (lt_of_le_of_lt (le_trans s.1 (le_of_eq tie)) (lit< tt));
       size = z;
     }
 
 module _ (t1 t2 a : Float) (m n : ℕ) (h : NonNeg binary32 t1 m) (M : m ≤ W) (g : NonNeg binary32 t2 n) (N : n ≤ W) (z : AmpRange a) where
-  settled-range : InRange (axesSettled t1 t2 a)
-  unfolding axesSettled
-  settled-range =
+  settled_range : InRange (axes_settled t1 t2 a)
+  unfolding axes_settled
+  settled_range =
       go (le pi (arc t1 t2)) (λ t. leb→le P q.c (subst T is t)) (λ t. nleb→lt P q.c (subst (λ (b : Bool). T (not b)) is t))
     where
       q : Turned t1 t2
       q = turned t1 t2 m n h M g N
 
       is : le pi (arc t1 t2) ≡ leb P q.c
-      is = le_is binary32 pi (arc t1 t2) P q.c pi-nn q.here
+      is = le_is binary32 pi (arc t1 t2) P q.c pi_nn q.here
 
       go : (w : Bool) → (T w → P ≤ q.c) → (T (not w) → q.c < P) → InRange (placed (cond w t2 t1) (cond w (arc t2 t1) (arc t1 t2)) a w)
-      go true u v = let b = q.back (u tt) in placed-range t2 (arc t2 t1) a true n b.0 g b.1 b.2 z
-      go false u v = placed-range t1 (arc t1 t2) a false m q.c h q.here (le_of_lt (v tt)) z
+      go true u v = let b = q.back (u tt) in placed_range t2 (arc t2 t1) a true n b.0 g b.1 b.2 z
+      go false u v = placed_range t1 (arc t1 t2) a false m q.c h q.here (le_of_lt (v tt)) z
 
 module _ (t1 t2 a : Float) (p : T (fits binary32 t1)) (q : T (fits binary32 t2)) (r : T (fits binary32 a)) where
-  pub canonical-range : let r = canonicalizeTrackingSwap t1 t2 a in CanonicalRange r.theta1 r.theta2 r.amp
-  unfolding canonicalizeTrackingSwap
-  canonical-range = go (lt a nought) (amp-all a r)
+  pub canonical_range : let r = canonicalize_tracking_swap t1 t2 a in CanonicalRange r.theta1 r.theta2 r.amp
+  unfolding canonicalize_tracking_swap
+  canonical_range = go (lt a nought) (amp_all a r)
     where
       first : Bool → Float
-      first n = cond n (wrapToTau (wrapToTau t1 ⊕ pi)) (wrapToTau t1)
+      first n = cond n (wrap_to_tau (wrap_to_tau t1 ⊕ pi)) (wrap_to_tau t1)
 
-      go : (n : Bool) → AmpRange (cond n (neg a) a) → InRange (axesSettled (first n) (wrapToTau t2) (cond n (neg a) a))
+      go : (n : Bool) → AmpRange (cond n (neg a) a) → InRange (axes_settled (first n) (wrap_to_tau t2) (cond n (neg a) a))
       go true z =
-          let x = wrapToTau t1 ⊕ pi in
-          let u = wrap-range x (add-fits binary32 (wrapToTau t1) pi) in
-          let v = wrap-range t2 q in
-          settled-range (wrapToTau x) (wrapToTau t2) (neg a) u.0 v.0 u.1 u.2 v.1 v.2 z
+          let x = wrap_to_tau t1 ⊕ pi in
+          let u = wrap_range x (add-fits binary32 (wrap_to_tau t1) pi) in
+          let v = wrap_range t2 q in
+          settled_range (wrap_to_tau x) (wrap_to_tau t2) (neg a) u.0 v.0 u.1 u.2 v.1 v.2 z
       go false z =
-          let u = wrap-range t1 p in
-          let v = wrap-range t2 q in
-          settled-range (wrapToTau t1) (wrapToTau t2) a u.0 v.0 u.1 u.2 v.1 v.2 z
+          let u = wrap_range t1 p in
+          let v = wrap_range t2 q in
+          settled_range (wrap_to_tau t1) (wrap_to_tau t2) a u.0 v.0 u.1 u.2 v.1 v.2 z

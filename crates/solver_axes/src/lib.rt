@@ -13,7 +13,7 @@ pub struct Axes {
 }
 
 pub fn wrap_to_tau(x: f32) -> f32
-    ensures value { result ≡ C.wrapToTau x }
+    ensures value { result ≡ C.wrap_to_tau x }
     ensures wrapped_tau { C.WrappedTau x result }
 {
     let r = remainders::rem_euclid_tau(x);
@@ -43,7 +43,7 @@ fn placed(t: f32, d: f32, a: f32, w: bool) -> Axes
 
 // Exchanging the axes is the one way to the short arc that leaves the model as it is.
 fn axes_settled(t1: f32, t2: f32, a: f32) -> Axes
-    ensures { result ≡ C.axesSettled t1 t2 a }
+    ensures { result ≡ C.axes_settled t1 t2 a }
 {
     let diff = arc(t1, t2);
     if diff >= floats::PI {
@@ -54,7 +54,7 @@ fn axes_settled(t1: f32, t2: f32, a: f32) -> Axes
 
 // An axis turned by PI with the amplitude negated is the same model.
 pub fn canonicalize_tracking_swap(theta1: f32, theta2: f32, amp: f32) -> Axes
-    ensures value { result ≡ C.canonicalizeTrackingSwap theta1 theta2 amp }
+    ensures value { result ≡ C.canonicalize_tracking_swap theta1 theta2 amp }
     ensures canonical_range { C.CanonicalRange result.theta1 result.theta2 result.amp }
 {
     let t1 = wrap_to_tau(theta1);

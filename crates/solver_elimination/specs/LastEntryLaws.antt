@@ -17,50 +17,50 @@ use Rattle.floats.specs.Ops.{◌⊖◌, ◌⊗◌, ◌⊘◌, nought, one}
 use Rattle.floats.specs.Library.{abs}
 use Rattle.floats.specs.Rows.{Row, at}
 use Rattle.floats.specs.UnitLaws.{Val}
-use Rattle.floats.specs.NanLaws.{add-nan}
+use Rattle.floats.specs.NanLaws.{add_nan}
 use Rattle.floats.specs.FiniteLaws.{zero32}
-use Rattle.floats.specs.WithinLaws.{Within, within-finite, within_more, rep-pow, mul-within, div-within, sub_within}
+use Rattle.floats.specs.WithinLaws.{Within, within_finite, within_more, rep_pow, mul_within, div_within, sub_within}
 use Rattle.loops.specs.Loops.{iter}
 use Rattle.solver_elimination.specs.declared.Solved.{Solved}
 use Rattle.solver_elimination.specs.declared.Solved.TheVariants.{Values, Failed}
 use Rattle.solver_elimination.specs.Solve as S
 use Rattle.solver_elimination.specs.Solve.{Matrix, Elim, gone, going, entry}
 use Rattle.solver_elimination.specs.Wide.{failed}
-use Rattle.solver_elimination.specs.WideLaws.{at_scaled, at-reduced}
-use Rattle.solver_elimination.specs.PivotLaws.{Best, best, Pivot, usable, no-larger}
+use Rattle.solver_elimination.specs.WideLaws.{at_scaled, at_reduced}
+use Rattle.solver_elimination.specs.PivotLaws.{Best, best, Pivot, usable, no_larger}
 
 -- ---- what a column makes of a right side of at most 2 ^ b units
-one-is : one ≡ fin false 1 (pos 0)
+one_is : one ≡ fin false 1 (pos 0)
 unfolding of_bits
-one-is = refl
+one_is = refl
 
-one-within : Within binary32 (2 ^ 149) one
-one-within =
-    subst (λ (x : Float). Within binary32 (2 ^ 149) x) (sym one-is)
+one_within : Within binary32 (2 ^ 149) one
+one_within =
+    subst (λ (x : Float). Within binary32 (2 ^ 149) x) (sym one_is)
     (record { sign = false; count = 2 ^ 149; val = (refl, refl); most = le_refl (2 ^ 149) })
 
-nought-within : Within binary32 (2 ^ 149) nought
-nought-within = subst (λ (x : Float). Within binary32 (2 ^ 149) x) (sym zero32) (record { sign = false; count = 0; val = (refl, refl); most = lit≤ tt })
+nought_within : Within binary32 (2 ^ 149) nought
+nought_within = subst (λ (x : Float). Within binary32 (2 ^ 149) x) (sym zero32) (record { sign = false; count = 0; val = (refl, refl); most = lit≤ tt })
 
 module _ (p : Float) (w : Pivot p) (b : ℕ) (from : 149 ≤ b) (below : b < 200) where
-  scaled-within : (x : Float) → Within binary32 (2 ^ b) x → Within binary32 (2 ^ (b + 149 - w.e)) (x ⊗ (one ⊘ p))
-  scaled-within x v =
+  scaled_within : (x : Float) → Within binary32 (2 ^ b) x → Within binary32 (2 ^ (b + 149 - w.e)) (x ⊗ (one ⊘ p))
+  scaled_within x v =
       let h = w.from in
       let k = w.below in
-      mul-within binary32 x (one ⊘ p) b (298 - w.e) (b + 149 - w.e) v
-      (div-within binary32 one p 149 w.e (298 - w.e) w.sign w.count one-within w.val w.least (omega (arith, k)) (omega (arith, h)))
+      mul_within binary32 x (one ⊘ p) b (298 - w.e) (b + 149 - w.e) v
+      (div_within binary32 one p 149 w.e (298 - w.e) w.sign w.count one_within w.val w.least (omega (arith, k)) (omega (arith, h)))
       (omega (arith, k, from)) (omega (arith, h, below))
 
   -- f is no larger than p, which is at most twice its power of two: so the product is within twice the bound
-  reduced-within :
+  reduced_within :
       (r f x : Float) → Within binary32 (2 ^ b) r → Within binary32 w.count f → Within binary32 (2 ^ b) x →
       Within binary32 (2 ^ suc (suc b)) (r ⊖ f ⊗ (x ⊗ (one ⊘ p)))
-  reduced-within r f x u g v =
+  reduced_within r f x u g v =
       let k = w.below in
       sub_within binary32 r (f ⊗ (x ⊗ (one ⊘ p))) (2 ^ b) (2 ^ suc b) (2 ^ suc (suc b)) u
-      (mul-within binary32 f (x ⊗ (one ⊘ p)) (suc w.e) (b + 149 - w.e) (suc b) (within_more (2 ^ suc w.e) w.most g) (scaled-within x v)
+      (mul_within binary32 f (x ⊗ (one ⊘ p)) (suc w.e) (b + 149 - w.e) (suc b) (within_more (2 ^ suc w.e) w.most g) (scaled_within x v)
       (omega (arith, k, from)) (omega (arith, below)))
-      (rep-pow binary32 (suc (suc b)) (omega (arith, below))) (omega arith)
+      (rep_pow binary32 (suc (suc b)) (omega (arith, below))) (omega arith)
 
 -- ---- rows: of f32s, and all NaN or with a right side of at most 2 ^ b units
 abbrev Dead : Row → Type 0
@@ -76,10 +76,10 @@ alive b r j s n g v = elim g.small [ inl d ↦ absurd (subst (λ (y : Float). Va
 
 spoilt : (x y : Float) → cond (eq nan nought) x (x ⊖ nan ⊗ y) ≡ nan
 unfolding eq mul sub neg
-spoilt x y = add-nan binary32 x
+spoilt x y = add_nan binary32 x
 
-nan-reduced : (r p : Row) (f : Float) → f ≡ nan → Dead (S.reduced r p f)
-nan-reduced r p f e j = rw (at-reduced r p f j, e) (spoilt (at r j) (at p j))
+nan_reduced : (r p : Row) (f : Float) → f ≡ nan → Dead (S.reduced r p f)
+nan_reduced r p f e j = rw (at_reduced r p f j, e) (spoilt (at r j) (at p j))
 
 -- the pivot's row, scaled to 1 in column i
 abbrev leading : Row → ℕ → Row
@@ -89,25 +89,25 @@ module _ (b : ℕ) (from : 149 ≤ b) (below : b < 200) (top : Row) (i : ℕ) (w
   top_small : Within binary32 (2 ^ b) (at top 4)
   top_small = alive b top i w.sign w.count t w.val
 
-  leading-finite : T (finite (at (leading top i) 4))
-  leading-finite =
+  leading_finite : T (finite (at (leading top i) 4))
+  leading_finite =
       rw (at_scaled top (one ⊘ at top i) 4)
-      (within-finite (scaled-within (at top i) w b from below (at top 4) top_small))
+      (within_finite (scaled_within (at top i) w b from below (at top 4) top_small))
 
-  small-reduced : (r : Row) → Within binary32 w.count (at r i) → Within binary32 (2 ^ b) (at r 4) →
+  small_reduced : (r : Row) → Within binary32 w.count (at r i) → Within binary32 (2 ^ b) (at r 4) →
       Within binary32 (2 ^ suc (suc b)) (at (S.reduced r (leading top i) (at r i)) 4)
-  small-reduced r f s = rw (at-reduced r (leading top i) (at r i) 4, at_scaled top (one ⊘ at top i) 4) (go (eq (at r i) nought))
+  small_reduced r f s = rw (at_reduced r (leading top i) (at r i) 4, at_scaled top (one ⊘ at top i) 4) (go (eq (at r i) nought))
     where
       go : (c : Bool) → Within binary32 (2 ^ suc (suc b)) (cond c (at r 4) (at r 4 ⊖ at r i ⊗ (at top 4 ⊗ (one ⊘ at top i))))
       go true = within_more (2 ^ suc (suc b)) (pow_mono (omega arith)) s
-      go false = reduced-within (at top i) w b from below (at r 4) (at r i) (at top 4) s f top_small
+      go false = reduced_within (at top i) w b from below (at r 4) (at r i) (at top 4) s f top_small
 
-  reduced-good : (r : Row) → Good b r → lt (abs (at top i)) (abs (at r i)) ≡ false → Good (suc (suc b)) (S.reduced r (leading top i) (at r i))
-  reduced-good r g e = record {
-    held = λ j. rw (at-reduced r (leading top i) (at r i) j) (cond-fits binary32 (eq (at r i) nought) _ _ (g.held j) (sub-fits binary32 _ _));
-    small = elim (no-larger (at top i) (at r i) w.sign w.count w.val (g.held i) e) [
-      | inl n ↦ inl (nan-reduced r (leading top i) (at r i) n)
-      | inr f ↦ inr (small-reduced r f (alive b r i f.sign f.count g f.val))
+  reduced_good : (r : Row) → Good b r → lt (abs (at top i)) (abs (at r i)) ≡ false → Good (suc (suc b)) (S.reduced r (leading top i) (at r i))
+  reduced_good r g e = record {
+    held = λ j. rw (at_reduced r (leading top i) (at r i) j) (cond-fits binary32 (eq (at r i) nought) _ _ (g.held j) (sub-fits binary32 _ _));
+    small = elim (no_larger (at top i) (at r i) w.sign w.count w.val (g.held i) e) [
+      | inl n ↦ inl (nan_reduced r (leading top i) (at r i) n)
+      | inr f ↦ inr (small_reduced r f (alive b r i f.sign f.count g f.val))
     ];
   }
 
@@ -161,12 +161,12 @@ exchanged m t u i b k len B I K = go (eqb k b) (eqb→eq k b) (λ n e. T_not (eq
     go true e n = (i, le_refl i, omega arith, upper ∙ rw (e tt) (get_or-set_same (set m i t) b r [] (rw (length-set m i t, len) B)))
     go false e n = (k, le_of_lt I, K, upper ∙ get_or-set_other (set m i t) b k r [] (n tt) ∙ get_or-set_other m i k t [] apart)
 
-columned-kept : (m : Matrix) (i : ℕ) → i < 4 → Kept i m → S.stopped m i ≡ false → Kept (suc i) (S.columned m i)
-unfolding S.columned S.clear S.stopped S.topRow S.cleared
-columned-kept m i h w u = record { len = cleared.len ∙ len; rows = rows; last = last }
+columned_kept : (m : Matrix) (i : ℕ) → i < 4 → Kept i m → S.stopped m i ≡ false → Kept (suc i) (S.columned m i)
+unfolding S.columned S.clear S.stopped S.top_row S.cleared
+columned_kept m i h w u = record { len = cleared.len ∙ len; rows = rows; last = last }
   where
     b : ℕ
-    b = S.pivotRow m i
+    b = S.pivot_row m i
 
     top : Row
     top = get_or m b []
@@ -199,39 +199,39 @@ columned-kept m i h w u = record { len = cleared.len ∙ len; rows = rows; last 
           is_true (eqb i i) (eqb_refl i),
           get_or-set_same (set (set m i top) b (get_or m i [])) i (leading top i) [] (simp length-set (rw w.len h)),
         )
-        (leading-finite (149 + 2 * i) (omega arith) (omega arith) top i p g)
+        (leading_finite (149 + 2 * i) (omega arith) (omega arith) top i p g)
 
     rows : (k : ℕ) → suc i ≤ k → k < 4 → Good (149 + 2 * suc i) (get_or (S.columned m i) k [])
     rows k a l =
         let (j, J, L, e) = exchanged m top (leading top i) i b k w.len x.below a l in
         let z : 149 + 2 * suc i ≡ suc (suc (149 + 2 * i)) = omega arith in
         rw (z, cleared.done k l (rw len l), ne_eqb k i (λ q. omega (arith, a, q)), e)
-        (reduced-good (149 + 2 * i) (omega arith) (omega arith) top i p g (get_or m j []) (w.rows j J L) (x.largest j J L))
+        (reduced_good (149 + 2 * i) (omega arith) (omega arith) top i p g (get_or m j []) (w.rows j J L) (x.largest j J L))
 
 -- ---- the elimination: it is gone, or its matrix is kept
 data Stays (i : ℕ) : Elim → Type 0 where
   over : Stays i gone
   on : {m : Matrix} → Kept i m → Stays i (going m)
 
-column-stays : (i : ℕ) (e : Elim) → i < 4 → Stays i e → Stays (suc i) (S.column i e)
-column-stays i gone h s = over
-column-stays i (going m) h (on w) = go (S.stopped m i) refl
+column_stays : (i : ℕ) (e : Elim) → i < 4 → Stays i e → Stays (suc i) (S.column i e)
+column_stays i gone h s = over
+column_stays i (going m) h (on w) = go (S.stopped m i) refl
   where
     go : (b : Bool) → S.stopped m i ≡ b → Stays (suc i) (cond b gone (going (S.columned m i)))
     go true e = over
-    go false e = on (columned-kept m i h w e)
+    go false e = on (columned_kept m i h w e)
 
 stays : (e : Elim) → Stays 0 e → (n : ℕ) → n ≤ 4 → Stays n (iter S.column e n)
 unfolding iter
 stays e s zero h = s
-stays e s (suc n) h = column-stays n (iter S.column e n) h (stays e s n (omega arith))
+stays e s (suc n) h = column_stays n (iter S.column e n) h (stays e s n (omega arith))
 
 -- ---- the right side 0, 0, 0, 1, of which no entry is above 1
 unit_row : (r : Row) (b : Float) → ((j : ℕ) → j < 4 → T (fits binary32 (at r j))) → T (fits binary32 b) → Within binary32 (2 ^ 149) b →
-    Good 149 (S.augmentedRow r b)
+    Good 149 (S.augmented_row r b)
 unit_row r b h f w = record { held = held; small = inr w }
   where
-    held : (j : ℕ) → T (fits binary32 (at (S.augmentedRow r b) j))
+    held : (j : ℕ) → T (fits binary32 (at (S.augmented_row r b) j))
     held zero = h 0 (lit≤ tt)
     held (suc zero) = h 1 (lit≤ tt)
     held (suc (suc zero)) = h 2 (lit≤ tt)
@@ -243,14 +243,14 @@ start : (m : Matrix) → ((k j : ℕ) → k < 4 → j < 4 → T (fits binary32 (
 unfolding S.augmented
 start m h = record { len = refl; rows = λ k g l. rows k l; last = λ k e. absurd (omega (arith, e)) }
   where
-    clear-row : (k : ℕ) → k < 4 → Good 149 (S.augmentedRow (get_or m k []) nought)
-    clear-row k l = unit_row (get_or m k []) nought (λ j g. h k j l g) (of_bits-fits binary32 0) nought-within
+    clear_row : (k : ℕ) → k < 4 → Good 149 (S.augmented_row (get_or m k []) nought)
+    clear_row k l = unit_row (get_or m k []) nought (λ j g. h k j l g) (of_bits-fits binary32 0) nought_within
 
     rows : (k : ℕ) → k < 4 → Good 149 (get_or (S.augmented m S.unit3) k [])
-    rows zero l = clear-row 0 l
-    rows (suc zero) l = clear-row 1 l
-    rows (suc (suc zero)) l = clear-row 2 l
-    rows (suc (suc (suc zero))) l = unit_row (get_or m 3 []) one (λ j g. h 3 j l g) (of_bits-fits binary32 0x3f80_0000) one-within
+    rows zero l = clear_row 0 l
+    rows (suc zero) l = clear_row 1 l
+    rows (suc (suc zero)) l = clear_row 2 l
+    rows (suc (suc (suc zero))) l = unit_row (get_or m 3 []) one (λ j g. h 3 j l g) (of_bits-fits binary32 0x3f80_0000) one_within
     rows (suc (suc (suc (suc k)))) l = absurd (omega arith)
 
 abbrev fourth : Solved → Float
@@ -258,14 +258,14 @@ fourth Failed = nan
 fourth (Values b0 b1 b2 b3) = b3
 
 -- Whatever the matrix holds, NaN and infinities included: the last entry of its inverse is finite, where it has one.
-pub last-entry-finite :
+pub last_entry_finite :
     (m : Matrix) → ((k j : ℕ) → k < 4 → j < 4 → T (fits binary32 (entry m k j))) → (b0 b1 b2 b3 : Float) →
     S.solve4x4 m S.unit3 ≡ Values b0 b1 b2 b3 → finite b3 ≡ true
 unfolding S.solve4x4
-last-entry-finite m h b0 b1 b2 b3 s =
+last_entry_finite m h b0 b1 b2 b3 s =
     let e = going (S.augmented m S.unit3) in
     is_true (finite b3) (go (iter S.column e 4) (stays e (on (start m h)) 4 (lit≤ tt)) s)
   where
-    go : (e : Elim) → Stays 4 e → S.lastColumn e ≡ Values b0 b1 b2 b3 → T (finite b3)
+    go : (e : Elim) → Stays 4 e → S.last_column e ≡ Values b0 b1 b2 b3 → T (finite b3)
     go gone t q = absurd (true≢false (ap failed q))
     go (going n) (on w) q = rw (ap fourth q) at (w.last 3 refl)

@@ -7,27 +7,27 @@ use native.Mathlib.Omega.{arith}
 use Rattle.std.proofs.Math.Dec.{T}
 use Rattle.std.specs.Float.{nan, inf, fin}
 use Rattle.std.specs.Float.Ieee.{binary32, up, down, size, lt, fits, is_nan, of_bits}
-use Rattle.std.specs.Float.Ieee.Digits.{size-lt, size-le, size_reaches}
+use Rattle.std.specs.Float.Ieee.Digits.{size-lt, size_le, size_reaches}
 use Rattle.std.specs.Float.Ieee.Scale.{finite}
 use Rattle.floats.specs.Ops.{lit}
 use Rattle.floats.specs.Library.{abs}
 use Rattle.floats.specs.UnitLaws.{Val, lt_val}
 use Rattle.floats.specs.RoundingLaws.{counted}
-use Rattle.floats.specs.SignLaws.{abs-fits, abs-val}
-use Rattle.floats.specs.RankLaws.{rank_of, rank_lt, not-lt→rank, lt-no-nan}
-use Rattle.floats.specs.RootOrderLaws.{nan-none}
+use Rattle.floats.specs.SignLaws.{abs_fits, abs_val}
+use Rattle.floats.specs.RankLaws.{rank_of, rank_lt, not_lt→rank, lt_no_nan}
+use Rattle.floats.specs.RootOrderLaws.{nan_none}
 use Rattle.floats.specs.WithinLaws.{Within}
 use Rattle.loops.specs.Loops.{range}
-use Rattle.loops.specs.IterLaws.{range-start, range-next}
+use Rattle.loops.specs.IterLaws.{range_start, range_next}
 use Rattle.solver_elimination.specs.Solve as S
 use Rattle.solver_elimination.specs.Solve.{Matrix, entry}
 
 -- ---- comparisons
-lt-self : (x : Float) → lt (abs x) (abs x) ≡ false
+lt_self : (x : Float) → lt (abs x) (abs x) ≡ false
 unfolding lt abs
-lt-self nan = refl
-lt-self (inf s) = refl
-lt-self (fin s m e) = let a = m * up e * down e in le-ltb a a (le_refl a)
+lt_self nan = refl
+lt_self (inf s) = refl
+lt_self (fin s m e) = let a = m * up e * down e in le-ltb a a (le_refl a)
 
 -- what is not above x is not above a y that is: a NaN is above neither
 passed : (x y z : Float) → T (fits binary32 x) → T (fits binary32 y) → T (fits binary32 z) → T (lt x y) → lt x z ≡ false → lt y z ≡ false
@@ -35,14 +35,14 @@ passed x y z p q r h e = go z r e
   where
     number : (z : Float) → T (fits binary32 z) → lt x z ≡ false → T (not (is_nan z)) → lt y z ≡ false
     number z r e n =
-        let k = lt-no-nan x y h in
+        let k = lt_no_nan x y h in
         rank_lt binary32 y z q r k.1 n ∙
         le-ltb (rank_of binary32 y) (rank_of binary32 z)
-        (le_trans (not-lt→rank binary32 x z p r k.0 n e)
+        (le_trans (not_lt→rank binary32 x z p r k.0 n e)
         (le_of_lt (ltb→lt (rank_of binary32 x) (rank_of binary32 y) (subst T (rank_lt binary32 x y p q k.0 k.1) h))))
 
     go : (z : Float) → T (fits binary32 z) → lt x z ≡ false → lt y z ≡ false
-    go nan r e = nan-none y
+    go nan r e = nan_none y
     go (inf s) r e = number (inf s) r e (unfold is_nan in tt)
     go (fin s m d) r e = number (fin s m d) r e (unfold is_nan in tt)
 
@@ -53,12 +53,12 @@ pub record Best (m : Matrix) (i n b : ℕ) : Type 0 where
   pub largest : (k : ℕ) → i ≤ k → k < n → lt (abs (entry m b i)) (abs (entry m k i)) ≡ false
 
 module _ (m : Matrix) (i : ℕ) (held : (k : ℕ) → i ≤ k → k < 4 → T (fits binary32 (entry m k i))) where
-  best-next : (n b : ℕ) → i ≤ n → n < 4 → Best m i n b → Best m i (n + 1) (S.larger m i n b)
+  best_next : (n b : ℕ) → i ≤ n → n < 4 → Best m i n b → Best m i (n + 1) (S.larger m i n b)
   unfolding S.larger
-  best-next n b h l w = go (lt (abs (entry m b i)) (abs (entry m n i))) refl
+  best_next n b h l w = go (lt (abs (entry m b i)) (abs (entry m n i))) refl
     where
       fit : (k : ℕ) → i ≤ k → k < 4 → T (fits binary32 (abs (entry m k i)))
-      fit k g u = abs-fits binary32 (entry m k i) (held k g u)
+      fit k g u = abs_fits binary32 (entry m k i) (held k g u)
 
       -- the rows up to n are n and those before
       upto : (c : ℕ) → lt (abs (entry m c i)) (abs (entry m n i)) ≡ false →
@@ -76,30 +76,30 @@ module _ (m : Matrix) (i : ℕ) (held : (k : ℕ) → i ≤ k → k < 4 → T (f
           record {
             from = h;
             below = omega arith;
-            largest = upto n (lt-self (entry m n i)) (λ k g q.
+            largest = upto n (lt_self (entry m n i)) (λ k g q.
                 passed (abs (entry m b i)) (abs (entry m n i)) (abs (entry m k i)) (fit b w.from (omega (arith, y))) (fit n h l)
                 (fit k g (omega (arith, q))) (subst T (sym e) tt) (w.largest k g q));
           }
       go false e = let y = w.below in record { from = w.from; below = omega (arith, y); largest = upto b e w.largest }
 
-  best-after : (d : ℕ) → i + 1 + d ≤ 4 → Best m i (i + 1 + d) (range (S.larger m i) i (i + 1) (i + 1 + d))
-  best-after zero h =
+  best_after_lem : (d : ℕ) → i + 1 + d ≤ 4 → Best m i (i + 1 + d) (range (S.larger m i) i (i + 1) (i + 1 + d))
+  best_after_lem zero h =
       let z : i + 1 + 0 ≡ i + 1 = omega arith in
-      rw (z, range-start (S.larger m i) i (i + 1)) (record {
+      rw (z, range_start (S.larger m i) i (i + 1)) (record {
         from = le_refl i;
         below = omega arith;
-        largest = λ k g u. subst (λ (j : ℕ). lt (abs (entry m i i)) (abs (entry m j i)) ≡ false) (omega (arith, g, u)) (lt-self (entry m i i));
+        largest = λ k g u. subst (λ (j : ℕ). lt (abs (entry m i i)) (abs (entry m j i)) ≡ false) (omega (arith, g, u)) (lt_self (entry m i i));
       })
-  best-after (suc d) h =
+  best_after_lem (suc d) h =
       let z : i + 1 + suc d ≡ i + 1 + d + 1 = omega arith in
-      rw (z, range-next (S.larger m i) i (i + 1) (i + 1 + d) (omega arith))
-      (best-next (i + 1 + d) (range (S.larger m i) i (i + 1) (i + 1 + d)) (omega arith) (omega arith) (best-after d (omega arith)))
+      rw (z, range_next (S.larger m i) i (i + 1) (i + 1 + d) (omega arith))
+      (best_next (i + 1 + d) (range (S.larger m i) i (i + 1) (i + 1 + d)) (omega arith) (omega arith) (best_after_lem d (omega arith)))
 
-  pub best : i < 4 → Best m i 4 (S.pivotRow m i)
-  unfolding S.pivotRow
+  pub best : i < 4 → Best m i 4 (S.pivot_row m i)
+  unfolding S.pivot_row
   best h =
       let z : i + 1 + (3 - i) ≡ 4 = omega arith in
-      subst (λ (n : ℕ). Best m i n (range (S.larger m i) i (i + 1) n)) z (best-after (3 - i) (le_of_eq z))
+      subst (λ (n : ℕ). Best m i n (range (S.larger m i) i (i + 1) n)) z (best_after_lem (3 - i) (le_of_eq z))
 
 -- ---- a pivot that does not stop: of 2 ^ e units at least, and of no more than twice as many. 1e-20 is above 2 ^ 82 units.
 pub record Pivot (p : Float) : Type 0 where
@@ -116,20 +116,20 @@ tiny : lit 0x1e3c_e508 ≡ fin false 1547425 (negsuc 86)
 unfolding of_bits
 tiny = refl
 
-or-false : (a b : Bool) → (a || b) ≡ false → (a ≡ false) × (b ≡ false)
-or-false true b h = absurd (true≢false h)
-or-false false b h = (refl, h)
+or_false : (a b : Bool) → (a || b) ≡ false → (a ≡ false) × (b ≡ false)
+or_false true b h = absurd (true≢false h)
+or_false false b h = (refl, h)
 
-not-false : (b : Bool) → not b ≡ false → T b
-not-false true e = tt
-not-false false e = absurd (true≢false e)
+not_false : (b : Bool) → not b ≡ false → T b
+not_false true e = tt
+not_false false e = absurd (true≢false e)
 
 -- a number of digits, as the power of two below
 powered : (p : Float) (s : Bool) (c : ℕ) → Val binary32 p s c → 2 ^ 82 ≤ c → c < 2 ^ 277 → Pivot p
 powered p s c v h k =
     let z = size c in
     let low : 82 < z = lt_of_not-le (λ (q : z ≤ 82). not-le_of_lt (size-lt c) (le_trans (pow_mono q) h)) in
-    let high : z ≤ 277 = size-le c 277 k in
+    let high : z ≤ 277 = size_le c 277 k in
     let n : z ≡ suc (z - 1) = omega (arith, low) in
     record {
       sign = s;
@@ -145,25 +145,25 @@ powered p s c v h k =
 pub usable : (p : Float) → T (fits binary32 p) → S.unusable p ≡ false → Pivot p
 unfolding S.unusable
 usable p h u =
-    let o = or-false (not (finite p)) (lt (abs p) (lit 0x1e3c_e508)) u in
-    let k = counted binary32 p h (not-false (finite p) o.0) in
+    let o = or_false (not (finite p)) (lt (abs p) (lit 0x1e3c_e508)) u in
+    let k = counted binary32 p h (not_false (finite p) o.0) in
     let l = lt_val binary32 (abs p) (fin false 1547425 (negsuc 86)) false k.count false (1547425 * 2 ^ 62)
-    (abs-val binary32 p k.sign k.count k.val) (refl, refl) in
+    (abs_val binary32 p k.sign k.count k.val) (refl, refl) in
     let g : 1547425 * 2 ^ 62 ≤ k.count =
     nltb→le k.count (1547425 * 2 ^ 62) (subst (λ (b : Bool). T (not b)) (sym o.1 ∙ ap (lt (abs p)) tiny ∙ l) tt) in
     powered p k.sign k.count k.val (le_trans (lit≤ tt) g) k.rep.4
 
 -- ---- what is not above a finite p in size has no more units, or is a NaN
-pub no-larger : (p x : Float) (t : Bool) (c : ℕ) → Val binary32 p t c → T (fits binary32 x) → lt (abs p) (abs x) ≡ false → (x ≡ nan) ⊎ Within binary32 c x
-no-larger p nan t c v h e = inl refl
-no-larger p (inf s) t c v h e = absurd (true≢false (sym (below_inf p v) ∙ e))
+pub no_larger : (p x : Float) (t : Bool) (c : ℕ) → Val binary32 p t c → T (fits binary32 x) → lt (abs p) (abs x) ≡ false → (x ≡ nan) ⊎ Within binary32 c x
+no_larger p nan t c v h e = inl refl
+no_larger p (inf s) t c v h e = absurd (true≢false (sym (below_inf p v) ∙ e))
   where
     below_inf : (p : Float) → Val binary32 p t c → lt (abs p) (abs (inf s)) ≡ true
     below_inf nan w = absurd w
     below_inf (inf u) w = absurd w
     below_inf (fin u m d) w = unfold lt abs in refl
-no-larger p (fin s m d) t c v h e =
+no_larger p (fin s m d) t c v h e =
     let x = fin s m d in
     let k = counted binary32 x h tt in
-    let l = lt_val binary32 (abs p) (abs x) false c false k.count (abs-val binary32 p t c v) (abs-val binary32 x k.sign k.count k.val) in
+    let l = lt_val binary32 (abs p) (abs x) false c false k.count (abs_val binary32 p t c v) (abs_val binary32 x k.sign k.count k.val) in
     inr (record { sign = k.sign; count = k.count; val = k.val; most = nltb→le c k.count (subst (λ (b : Bool). T (not b)) (sym e ∙ l) tt) })

@@ -19,20 +19,20 @@ entry m k i = get_or (get_or m k []) i nan
 
 -- ---- solver.rs: solve_4x4
 -- the matrix with the right-hand side as a fifth column
-abbrev pub augmentedRow : Row → Float → Row
-augmentedRow r b = at r 0 ∷ at r 1 ∷ at r 2 ∷ at r 3 ∷ b ∷ []
+abbrev pub augmented_row : Row → Float → Row
+augmented_row r b = at r 0 ∷ at r 1 ∷ at r 2 ∷ at r 3 ∷ b ∷ []
 
 unfoldable pub augmented : Matrix → Row → Matrix
 augmented a b =
-    augmentedRow (get_or a 0 []) (at b 0) ∷ augmentedRow (get_or a 1 []) (at b 1) ∷ augmentedRow (get_or a 2 []) (at b 2) ∷
-    augmentedRow (get_or a 3 []) (at b 3) ∷ []
+    augmented_row (get_or a 0 []) (at b 0) ∷ augmented_row (get_or a 1 []) (at b 1) ∷ augmented_row (get_or a 2 []) (at b 2) ∷
+    augmented_row (get_or a 3 []) (at b 3) ∷ []
 
 -- row k in the place of the best so far, if its entry of column i is larger in size by strict >: a NaN on the diagonal stays
 unfoldable pub larger : Matrix → ℕ → ℕ → ℕ → ℕ
 larger m i k best = cond (lt (abs (entry m best i)) (abs (entry m k i))) k best
 
-unfoldable pub pivotRow : Matrix → ℕ → ℕ
-pivotRow m i = range (larger m i) i (i + 1) 4
+unfoldable pub pivot_row : Matrix → ℕ → ℕ
+pivot_row m i = range (larger m i) i (i + 1) 4
 
 -- a pivot that is not finite, or below 1e-20 in size
 unfoldable pub unusable : Float → Bool
@@ -53,15 +53,15 @@ unfoldable pub clear : Matrix → ℕ → Row → Matrix
 clear m i p = iter (λ k m. set m k (cleared i p k (get_or m k []))) m 4
 
 -- the row that column i takes its pivot from
-unfoldable pub topRow : Matrix → ℕ → Row
-topRow m i = get_or m (pivotRow m i) []
+unfoldable pub top_row : Matrix → ℕ → Row
+top_row m i = get_or m (pivot_row m i) []
 
 -- the matrix after column i: the pivot's row comes to the diagonal, is scaled to 1 there, and clears the column in the others
 unfoldable pub columned : Matrix → ℕ → Matrix
 columned m i =
-    let top = topRow m i in
+    let top = top_row m i in
     let row = scaled top (one ⊘ at top i) in
-    clear (set (set (set m i top) (pivotRow m i) (get_or m i [])) i row) i row
+    clear (set (set (set m i top) (pivot_row m i) (get_or m i [])) i row) i row
 
 -- the matrix on its way, or no more
 pub data Elim : Type 0 where
@@ -69,21 +69,21 @@ pub data Elim : Type 0 where
   going : Matrix → Elim
 
 unfoldable pub stopped : Matrix → ℕ → Bool
-stopped m i = unusable (at (topRow m i) i)
+stopped m i = unusable (at (top_row m i) i)
 
 abbrev pub column : ℕ → Elim → Elim
 column i gone = gone
 column i (going m) = cond (stopped m i) gone (going (columned m i))
 
-abbrev pub columnOf : ℕ → Elim → Solved
-columnOf c gone = Failed
-columnOf c (going m) = Values (entry m 0 c) (entry m 1 c) (entry m 2 c) (entry m 3 c)
+abbrev pub column_of : ℕ → Elim → Solved
+column_of c gone = Failed
+column_of c (going m) = Values (entry m 0 c) (entry m 1 c) (entry m 2 c) (entry m 3 c)
 
-abbrev pub lastColumn : Elim → Solved
-lastColumn = columnOf 4
+abbrev pub last_column : Elim → Solved
+last_column = column_of 4
 
 unfoldable pub solve4x4 : Matrix → Row → Solved
-solve4x4 a b = lastColumn (iter column (going (augmented a b)) 4)
+solve4x4 a b = last_column (iter column (going (augmented a b)) 4)
 
 -- ---- the two right sides of axis_std_errors
 abbrev pub unit2 : Row

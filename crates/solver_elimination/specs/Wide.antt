@@ -12,17 +12,17 @@ use Rattle.solver_elimination.specs.declared.Sides.TheVariants.{Both, Neither}
 use Rattle.solver_elimination.specs.Solve.{Matrix, Elim, going, column}
 
 -- a row of the matrix, its entries of two right sides, and two places that lie idle
-abbrev pub widenedRow : Row → Float → Float → Row
-widenedRow r b c = at r 0 ∷ at r 1 ∷ at r 2 ∷ at r 3 ∷ b ∷ c ∷ nought ∷ nought ∷ []
+abbrev pub widened_row : Row → Float → Float → Row
+widened_row r b c = at r 0 ∷ at r 1 ∷ at r 2 ∷ at r 3 ∷ b ∷ c ∷ nought ∷ nought ∷ []
 
 unfoldable pub widened : Matrix → Row → Row → Matrix
 widened a b c =
-    widenedRow (get_or a 0 []) (at b 0) (at c 0) ∷ widenedRow (get_or a 1 []) (at b 1) (at c 1) ∷
-    widenedRow (get_or a 2 []) (at b 2) (at c 2) ∷ widenedRow (get_or a 3 []) (at b 3) (at c 3) ∷ []
+    widened_row (get_or a 0 []) (at b 0) (at c 0) ∷ widened_row (get_or a 1 []) (at b 1) (at c 1) ∷
+    widened_row (get_or a 2 []) (at b 2) (at c 2) ∷ widened_row (get_or a 3 []) (at b 3) (at c 3) ∷ []
 
 -- a right side, by its entries
-abbrev pub rightSide : Float → Float → Float → Float → Row
-rightSide b0 b1 b2 b3 = b0 ∷ b1 ∷ b2 ∷ b3 ∷ []
+abbrev pub right_side : Float → Float → Float → Float → Row
+right_side b0 b1 b2 b3 = b0 ∷ b1 ∷ b2 ∷ b3 ∷ []
 
 abbrev pub eliminated : Matrix → Elim
 eliminated m = iter column (going m) 4
@@ -37,9 +37,9 @@ sides Failed t = Neither
 sides (Values a0 a1 a2 a3) Failed = Neither
 sides (Values a0 a1 a2 a3) (Values b0 b1 b2 b3) = Both a0 a1 a2 a3 b0 b1 b2 b3
 
-abbrev pub firstSide : Sides → Solved
-firstSide Neither = Failed
-firstSide (Both a0 a1 a2 a3 b0 b1 b2 b3) = Values a0 a1 a2 a3
+abbrev pub first_side : Sides → Solved
+first_side Neither = Failed
+first_side (Both a0 a1 a2 a3 b0 b1 b2 b3) = Values a0 a1 a2 a3
 
 -- ---- a system that a wider one carries: behind the same left side its column c stands there as column d
 module _ (c d : ℕ) where

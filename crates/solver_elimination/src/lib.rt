@@ -21,7 +21,7 @@ pub enum Sides {
 }
 
 fn widened_row(r: [f32; 4], b: f32, c: f32) -> [f32; 8]
-    ensures { result ≡ W.widenedRow r b c }
+    ensures { result ≡ W.widened_row r b c }
 {
     [r[0], r[1], r[2], r[3], b, c, 0.0, 0.0]
 }
@@ -40,7 +40,7 @@ fn larger(m: &[[f32; 8]; 4], i: usize, k: usize, best: usize) -> usize
 // The row, from the diagonal down, that has the largest size in column i.
 fn pivot_row(m: &[[f32; 8]; 4], i: usize) -> usize
     requires { i < 4 }
-    ensures { (result < 4) × (result ≡ S.pivotRow m.now i) }
+    ensures { (result < 4) × (result ≡ S.pivot_row m.now i) }
 {
     let mut best = i;
     for k in i + 1..4 {
@@ -149,7 +149,7 @@ pub fn eliminate(
     c2: f32,
     c3: f32,
 ) -> Sides
-    ensures { result ≡ W.sides (S.solve4x4 a.now (W.rightSide b0 b1 b2 b3)) (S.solve4x4 a.now (W.rightSide c0 c1 c2 c3)) }
+    ensures { result ≡ W.sides (S.solve4x4 a.now (W.right_side b0 b1 b2 b3)) (S.solve4x4 a.now (W.right_side c0 c1 c2 c3)) }
 {
     let r0 = widened_row(a[0], b0, c0);
     let r1 = widened_row(a[1], b1, c1);

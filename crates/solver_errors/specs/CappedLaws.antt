@@ -10,28 +10,28 @@ use Rattle.floats.specs.Ops.{◌⊗◌, nought}
 use Rattle.floats.specs.Library.{max}
 use Rattle.floats.specs.Rows.{at}
 use Rattle.floats.specs.SquareSumLaws.{Upright}
-use Rattle.floats.specs.UprightLaws.{FiniteUpright, mul-upright, share-upright, max-upright, max-finite}
-use Rattle.floats.specs.RootRangeLaws.{capped-above}
+use Rattle.floats.specs.UprightLaws.{FiniteUpright, mul_upright, share_upright, max_upright, max_finite}
+use Rattle.floats.specs.RootRangeLaws.{capped_above}
 use Rattle.solver_elimination.specs.Solve.{Matrix}
-use Rattle.solver_errors.specs.StdErrors.{axisError, bothErrors, axisStdErrors}
-use Rattle.solver_errors.specs.Known.{KnownErrors, residualVar, Estimated}
+use Rattle.solver_errors.specs.StdErrors.{axis_error, both_errors, axis_std_errors}
+use Rattle.solver_errors.specs.Known.{KnownErrors, residual_var, Estimated}
 
-estimated : (v c : Float) → FiniteUpright v → T (finite c) → Estimated v c (axisError v c)
-unfolding axisError
+estimated : (v c : Float) → FiniteUpright v → T (finite c) → Estimated v c (axis_error v c)
+unfolding axis_error
 estimated v c w q =
     record {
       word = refl;
-      capped = capped-above (v ⊗ max c nought) (mul-upright binary32 v (max c nought) w.size (max-finite c q) w.sign (max-upright c));
+      capped = capped_above (v ⊗ max c nought) (mul_upright binary32 v (max c nought) w.size (max_finite c q) w.sign (max_upright c));
     }
 
 -- both errors, of a residual sum that is not below zero
-pub known-estimated :
+pub known_estimated :
     (m : Matrix) (ssr : Float) (n : ℕ) → T (fits binary32 ssr) → Upright ssr → n ≤ 2 ^ 24 → (k : KnownErrors m ssr n) →
-    let e = axisStdErrors m ssr n in
-    let v = residualVar ssr n in
+    let e = axis_std_errors m ssr n in
+    let v = residual_var ssr n in
     Estimated v (at k.first.solution 2) e.error1 × Estimated v (at k.second.solution 3) e.error2
-unfolding axisStdErrors bothErrors
-known-estimated m ssr n p h few k =
+unfolding axis_std_errors both_errors
+known_estimated m ssr n p h few k =
     let s = k.samples in
-    let w = share-upright binary32 ssr (n - 4) p k.sum h (omega (arith, s)) (omega (arith, few)) in
+    let w = share_upright binary32 ssr (n - 4) p k.sum h (omega (arith, s)) (omega (arith, few)) in
     rw (lt-leb n 4 s, k.first.solved, k.second.solved) (estimated _ _ w k.first.value, estimated _ _ w k.second.value)

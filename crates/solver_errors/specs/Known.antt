@@ -25,8 +25,8 @@ pub record KnownErrors (m : Matrix) (ssr : Float) (n : ℕ) : Type 0 where
   pub second : FiniteAt 3 (solve4x4 m unit3)
 
 -- the Rust's residual_var
-abbrev pub residualVar : Float → ℕ → Float
-residualVar ssr n = ssr ⊘ of_int binary32 (pos (n - 4))
+abbrev pub residual_var : Float → ℕ → Float
+residual_var ssr n = ssr ⊘ of_int binary32 (pos (n - 4))
 
 -- an error of the variance v and the entry c, before it is capped
 abbrev pub uncapped : Float → Float → Float

@@ -13,19 +13,19 @@ use Rattle.solver_errors.specs.declared.Standing.{Standing}
 use Rattle.solver_errors.specs.declared.Estimate.{Estimate}
 
 -- the root of the variance times the entry of the inverse, capped at PI; a NaN entry counts as 0, a NaN root as PI
-unfoldable pub axisError : Float → Float → Float
-axisError v c = min (sqrt binary32 (v ⊗ max c nought)) pi
+unfoldable pub axis_error : Float → Float → Float
+axis_error v c = min (sqrt binary32 (v ⊗ max c nought)) pi
 
 abbrev pub unknown : Errors
 unknown = record { error1 = pi; error2 = pi }
 
-unfoldable pub bothErrors : Float → Solved → Solved → Errors
-bothErrors v Failed t = unknown
-bothErrors v (Values a0 a1 a2 a3) Failed = unknown
-bothErrors v (Values a0 a1 a2 a3) (Values b0 b1 b2 b3) = record { error1 = axisError v a2; error2 = axisError v b3 }
+unfoldable pub both_errors : Float → Solved → Solved → Errors
+both_errors v Failed t = unknown
+both_errors v (Values a0 a1 a2 a3) Failed = unknown
+both_errors v (Values a0 a1 a2 a3) (Values b0 b1 b2 b3) = record { error1 = axis_error v a2; error2 = axis_error v b3 }
 
-unfoldable pub axisStdErrors : Matrix → Float → ℕ → Errors
-axisStdErrors m ssr n = cond (leb n 4) unknown (bothErrors (ssr ⊘ of_int binary32 (pos (n - 4))) (solve4x4 m unit2) (solve4x4 m unit3))
+unfoldable pub axis_std_errors : Matrix → Float → ℕ → Errors
+axis_std_errors m ssr n = cond (leb n 4) unknown (both_errors (ssr ⊘ of_int binary32 (pos (n - 4))) (solve4x4 m unit2) (solve4x4 m unit3))
 
 -- ---- ours: whether those errors are known (docs/RULES.md, Known)
 -- nothing is known of a start that is refused, of too few samples and of an elimination that failed
@@ -33,17 +33,17 @@ abbrev pub unfounded : Standing
 unfounded = record { known = false }
 
 -- the residual sum and the two entries on the inverse's diagonal are finite, before an entry below 0 is taken as 0 and an error is capped
-unfoldable pub standingBy : Float → Float → Float → Standing
-standingBy ssr c2 c3 = record { known = finite ssr && (finite c2 && finite c3) }
+unfoldable pub standing_by : Float → Float → Float → Standing
+standing_by ssr c2 c3 = record { known = finite ssr && (finite c2 && finite c3) }
 
-unfoldable pub bothStanding : Float → Solved → Solved → Standing
-bothStanding ssr Failed t = unfounded
-bothStanding ssr (Values a0 a1 a2 a3) Failed = unfounded
-bothStanding ssr (Values a0 a1 a2 a3) (Values b0 b1 b2 b3) = standingBy ssr a2 b3
+unfoldable pub both_standing : Float → Solved → Solved → Standing
+both_standing ssr Failed t = unfounded
+both_standing ssr (Values a0 a1 a2 a3) Failed = unfounded
+both_standing ssr (Values a0 a1 a2 a3) (Values b0 b1 b2 b3) = standing_by ssr a2 b3
 
 unfoldable pub standing : Matrix → Float → ℕ → Standing
-standing m ssr n = cond (leb n 4) unfounded (bothStanding ssr (solve4x4 m unit2) (solve4x4 m unit3))
+standing m ssr n = cond (leb n 4) unfounded (both_standing ssr (solve4x4 m unit2) (solve4x4 m unit3))
 
 -- the Rust's numbers, with their standing
 abbrev pub estimate : Matrix → Float → ℕ → Estimate
-estimate m ssr n = record { errors = axisStdErrors m ssr n; standing = standing m ssr n }
+estimate m ssr n = record { errors = axis_std_errors m ssr n; standing = standing m ssr n }

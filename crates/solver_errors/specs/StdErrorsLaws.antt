@@ -10,22 +10,22 @@ use Rattle.std.specs.Float.Ieee.Scale.{finite}
 use Rattle.floats.specs.Ops.{◌⊗◌, ◌⊘◌, nought, pi}
 use Rattle.floats.specs.Library.{max}
 use Rattle.floats.specs.Rows.{at}
-use Rattle.floats.specs.RootRangeLaws.{capped-root, pi-between}
+use Rattle.floats.specs.RootRangeLaws.{capped_root, pi_between}
 use Rattle.solver_elimination.specs.declared.Solved.{Solved}
 use Rattle.solver_elimination.specs.declared.Solved.TheVariants.{Values, Failed}
 use Rattle.solver_elimination.specs.Solve.{Matrix, solve4x4, unit2, unit3}
 use Rattle.solver_elimination.specs.Wide.{sides}
 use Rattle.solver_errors.specs.declared.Errors.{Errors}
-use Rattle.solver_errors.specs.StdErrors.{axisError, unknown, bothErrors, axisStdErrors, unfounded, bothStanding, standingBy, standing}
-use Rattle.solver_errors.specs.Parts.{bothEstimated, estimateBy}
+use Rattle.solver_errors.specs.StdErrors.{axis_error, unknown, both_errors, axis_std_errors, unfounded, both_standing, standing_by, standing}
+use Rattle.solver_errors.specs.Parts.{both_estimated, estimate_by}
 use Rattle.solver_errors.specs.Known.{FiniteAt, KnownErrors}
 
 -- ---- what one elimination gives for both
-pub estimate-by : (ssr v : Float) (s t : Solved) → bothEstimated ssr v s t ≡ estimateBy ssr v (sides s t)
-unfolding bothErrors bothStanding sides
-estimate-by ssr v Failed t = refl
-estimate-by ssr v (Values a0 a1 a2 a3) Failed = refl
-estimate-by ssr v (Values a0 a1 a2 a3) (Values b0 b1 b2 b3) = refl
+pub estimate_by_lem : (ssr v : Float) (s t : Solved) → both_estimated ssr v s t ≡ estimate_by ssr v (sides s t)
+unfolding both_errors both_standing sides
+estimate_by_lem ssr v Failed t = refl
+estimate_by_lem ssr v (Values a0 a1 a2 a3) Failed = refl
+estimate_by_lem ssr v (Values a0 a1 a2 a3) (Values b0 b1 b2 b3) = refl
 
 -- ---- ranges
 pub record Bounded (e : Errors) : Type 0 where
@@ -34,33 +34,33 @@ pub record Bounded (e : Errors) : Type 0 where
   pub low2 : T (le nought e.error2)
   pub high2 : T (le e.error2 pi)
 
-both-bounded : (v : Float) (s t : Solved) → Bounded (bothErrors v s t)
-unfolding bothErrors axisError
-both-bounded v Failed t = let p = pi-between in record { low1 = p.0; high1 = p.1; low2 = p.0; high2 = p.1 }
-both-bounded v (Values a0 a1 a2 a3) Failed = let p = pi-between in record { low1 = p.0; high1 = p.1; low2 = p.0; high2 = p.1 }
-both-bounded v (Values a0 a1 a2 a3) (Values b0 b1 b2 b3) =
-    let p = capped-root (v ⊗ max a2 nought) (lib.Ieee.Fits.mul-fits binary32 v (max a2 nought)) in
-    let q = capped-root (v ⊗ max b3 nought) (lib.Ieee.Fits.mul-fits binary32 v (max b3 nought)) in
+both_bounded : (v : Float) (s t : Solved) → Bounded (both_errors v s t)
+unfolding both_errors axis_error
+both_bounded v Failed t = let p = pi_between in record { low1 = p.0; high1 = p.1; low2 = p.0; high2 = p.1 }
+both_bounded v (Values a0 a1 a2 a3) Failed = let p = pi_between in record { low1 = p.0; high1 = p.1; low2 = p.0; high2 = p.1 }
+both_bounded v (Values a0 a1 a2 a3) (Values b0 b1 b2 b3) =
+    let p = capped_root (v ⊗ max a2 nought) (lib.Ieee.Fits.mul-fits binary32 v (max a2 nought)) in
+    let q = capped_root (v ⊗ max b3 nought) (lib.Ieee.Fits.mul-fits binary32 v (max b3 nought)) in
     record { low1 = p.0; high1 = p.1; low2 = q.0; high2 = q.1 }
 
-pub errors-bounded : (m : Matrix) (ssr : Float) (n : ℕ) → Bounded (axisStdErrors m ssr n)
-unfolding axisStdErrors
-errors-bounded m ssr n = go (leb n 4)
+pub errors_bounded : (m : Matrix) (ssr : Float) (n : ℕ) → Bounded (axis_std_errors m ssr n)
+unfolding axis_std_errors
+errors_bounded m ssr n = go (leb n 4)
   where
     both : Errors
-    both = bothErrors (ssr ⊘ of_int binary32 (pos (n - 4))) (solve4x4 m unit2) (solve4x4 m unit3)
+    both = both_errors (ssr ⊘ of_int binary32 (pos (n - 4))) (solve4x4 m unit2) (solve4x4 m unit3)
 
     go : (b : Bool) → Bounded (cond b unknown both)
-    go true = let p = pi-between in record { low1 = p.0; high1 = p.1; low2 = p.0; high2 = p.1 }
-    go false = both-bounded (ssr ⊘ of_int binary32 (pos (n - 4))) (solve4x4 m unit2) (solve4x4 m unit3)
+    go true = let p = pi_between in record { low1 = p.0; high1 = p.1; low2 = p.0; high2 = p.1 }
+    go false = both_bounded (ssr ⊘ of_int binary32 (pos (n - 4))) (solve4x4 m unit2) (solve4x4 m unit3)
 
 -- ---- known
 module _ (ssr : Float) where
-  both-known : (s t : Solved) → (bothStanding ssr s t).known ≡ true → T (finite ssr) × FiniteAt 2 s × FiniteAt 3 t
-  unfolding bothStanding standingBy
-  both-known Failed t e = absurd (false≢true e)
-  both-known (Values a0 a1 a2 a3) Failed e = absurd (false≢true e)
-  both-known (Values a0 a1 a2 a3) (Values b0 b1 b2 b3) e =
+  both_known : (s t : Solved) → (both_standing ssr s t).known ≡ true → T (finite ssr) × FiniteAt 2 s × FiniteAt 3 t
+  unfolding both_standing standing_by
+  both_known Failed t e = absurd (false≢true e)
+  both_known (Values a0 a1 a2 a3) Failed e = absurd (false≢true e)
+  both_known (Values a0 a1 a2 a3) (Values b0 b1 b2 b3) e =
       let h = three (finite ssr) (finite a2) (finite b3) e in (
         h.0,
         record { solution = a0 ∷ a1 ∷ a2 ∷ a3 ∷ []; solved = refl; value = h.1 },
@@ -73,8 +73,8 @@ module _ (ssr : Float) where
       three true false c e = absurd (false≢true e)
       three false b c e = absurd (false≢true e)
 
-  known_both : (s t : Solved) → T (finite ssr) → FiniteAt 2 s → FiniteAt 3 t → (bothStanding ssr s t).known ≡ true
-  unfolding bothStanding standingBy
+  known_both : (s t : Solved) → T (finite ssr) → FiniteAt 2 s → FiniteAt 3 t → (both_standing ssr s t).known ≡ true
+  unfolding both_standing standing_by
   known_both s t h u v =
       rw (u.solved, v.solved, is_true (finite ssr) h, is_true (finite (at u.solution 2)) u.value, is_true (finite (at v.solution 3)) v.value)
 
@@ -84,12 +84,12 @@ module _ (m : Matrix) (ssr : Float) (n : ℕ) where
   unfolding standing
   known_only = go (leb n 4) refl
     where
-      go : (b : Bool) → leb n 4 ≡ b → (cond b unfounded (bothStanding ssr (solve4x4 m unit2) (solve4x4 m unit3))).known ≡ true → KnownErrors m ssr n
+      go : (b : Bool) → leb n 4 ≡ b → (cond b unfounded (both_standing ssr (solve4x4 m unit2) (solve4x4 m unit3))).known ≡ true → KnownErrors m ssr n
       go true p e = absurd (false≢true e)
       go false p e =
-          let h = both-known ssr (solve4x4 m unit2) (solve4x4 m unit3) e in
+          let h = both_known ssr (solve4x4 m unit2) (solve4x4 m unit3) e in
           record { samples = nleb→lt n 4 (rw p tt); sum = h.0; first = h.1; second = h.2 }
 
-  pub known-if : KnownErrors m ssr n → (standing m ssr n).known ≡ true
+  pub known_if : KnownErrors m ssr n → (standing m ssr n).known ≡ true
   unfolding standing
-  known-if k = rw (lt-leb n 4 k.samples) (known_both ssr (solve4x4 m unit2) (solve4x4 m unit3) k.sum k.first k.second)
+  known_if k = rw (lt-leb n 4 k.samples) (known_both ssr (solve4x4 m unit2) (solve4x4 m unit3) k.sum k.first k.second)

@@ -29,7 +29,7 @@ pub struct Estimate {
 }
 
 fn axis_error(v: f32, c: f32) -> f32
-    ensures { result ≡ S.axisError v c }
+    ensures { result ≡ S.axis_error v c }
 {
     floats::min(roots::sqrt(v * floats::max(c, 0.0)), floats::PI)
 }
@@ -42,7 +42,7 @@ pub fn unfounded() -> Standing
 
 // No errors to be had: PI stands in their place.
 fn no_estimate() -> Estimate
-    ensures { result ≡ P.noEstimate }
+    ensures { result ≡ P.no_estimate }
 {
     let errors = Errors {
         error1: floats::PI,
@@ -54,7 +54,7 @@ fn no_estimate() -> Estimate
 
 // The residual sum and the two entries on the inverse's diagonal, as the elimination left them.
 fn standing_by(ssr: f32, c2: f32, c3: f32) -> Standing
-    ensures { result ≡ S.standingBy ssr c2 c3 }
+    ensures { result ≡ S.standing_by ssr c2 c3 }
 {
     let known = floats::is_finite(ssr) & (floats::is_finite(c2) & floats::is_finite(c3));
     Standing { known }
@@ -62,7 +62,7 @@ fn standing_by(ssr: f32, c2: f32, c3: f32) -> Standing
 
 // Of the inverse the two columns that matter, by one elimination: a failure answers PI.
 fn both_errors(jtj: &[[f32; 4]; 4], ssr: f32, v: f32) -> Estimate
-    ensures { result ≡ P.bothEstimated ssr v (solve4x4 jtj.now unit2) (solve4x4 jtj.now unit3) }
+    ensures { result ≡ P.both_estimated ssr v (solve4x4 jtj.now unit2) (solve4x4 jtj.now unit3) }
 {
     let sides = solver_elimination::eliminate(jtj, 0.0, 0.0, 1.0, 0.0, 0.0, 0.0, 0.0, 1.0);
     let Sides::Both(_, _, c2, _, _, _, _, c3) = sides else {

@@ -4,22 +4,22 @@ use Rattle.std.specs.Prelude.{Bool, cond, not, ◌||◌, ℕ, Float}
 use Rattle.std.specs.Float.{binary32}
 use Rattle.std.specs.Float.Ieee.{lt}
 use Rattle.std.specs.Float.Ieee.Scale.{finite}
-use Rattle.floats.specs.Ops.{◌⊘◌, lit, nought, pi, halfPi}
+use Rattle.floats.specs.Ops.{◌⊘◌, lit, nought, pi, half_pi}
 use Rattle.floats.specs.Library.{abs, max, sqrt}
 use Rattle.floats.specs.Rows.{count}
 use Rattle.solver_elimination.specs.Solve.{Matrix}
-use Rattle.solver_errors.specs.StdErrors.{axisStdErrors}
+use Rattle.solver_errors.specs.StdErrors.{axis_std_errors}
 use Rattle.solver_errors.specs.declared.Errors.{Errors}
-use Rattle.solver_axes.specs.Canonical.{canonicalizeTrackingSwap}
+use Rattle.solver_axes.specs.Canonical.{canonicalize_tracking_swap}
 use Rattle.solver_axes.specs.declared.Axes.{Axes}
 use Rattle.solver_record.specs.declared.Params.{Params}
 
 -- solver.rs has these as bare numbers: 1e-4 and 1e-6, below which a start is degenerate
-abbrev pub minAmpSeed : Float
-minAmpSeed = lit 0x38d1_b717
+abbrev pub min_amp_seed : Float
+min_amp_seed = lit 0x38d1_b717
 
-abbrev pub minCenteredVar : Float
-minCenteredVar = lit 0x3586_37bd
+abbrev pub min_centered_var : Float
+min_centered_var = lit 0x3586_37bd
 
 -- ---- mod.rs: TwoAxisFit, of six fields
 pub record RustFit : Type 0 where
@@ -31,20 +31,20 @@ pub record RustFit : Type 0 where
   pub rms : Float
 
 -- ---- solver.rs: degenerate_fit
-unfoldable pub degenerateFit : Float → RustFit
-degenerateFit centeredVar =
+unfoldable pub degenerate_fit : Float → RustFit
+degenerate_fit centered_var =
     record {
       amp = nought;
       theta1 = nought;
-      theta2 = halfPi;
+      theta2 = half_pi;
       fit_std_error_theta1 = pi;
       fit_std_error_theta2 = pi;
-      rms = sqrt binary32 (max centeredVar nought);
+      rms = sqrt binary32 (max centered_var nought);
     }
 
 -- solver.rs: fit_with_seed refuses such a start
 unfoldable pub degenerate : Float → Float → Bool
-degenerate amp centeredVar = not (finite amp) || (lt (abs amp) minAmpSeed || lt centeredVar minCenteredVar)
+degenerate amp centered_var = not (finite amp) || (lt (abs amp) min_amp_seed || lt centered_var min_centered_var)
 
 -- the errors follow their axes where these were exchanged
 unfoldable pub assembled : Axes → Errors → Float → RustFit
@@ -61,11 +61,11 @@ assembled a e rms =
 -- the fit at the final parameters p, with the matrix and the sum of squares of the last pass
 unfoldable pub finished : ℕ → Params → Matrix → Float → RustFit
 finished n p m ssr =
-    let e = axisStdErrors m ssr n in
+    let e = axis_std_errors m ssr n in
     let rms = sqrt binary32 (ssr ⊘ count n) in
-    let a = canonicalizeTrackingSwap p.theta1 p.theta2 p.amp in
+    let a = canonicalize_tracking_swap p.theta1 p.theta2 p.amp in
     assembled a e rms
 
 -- its axes, and whether they were exchanged
-abbrev pub axesOf : Params → Axes
-axesOf p = canonicalizeTrackingSwap p.theta1 p.theta2 p.amp
+abbrev pub axes_of : Params → Axes
+axes_of p = canonicalize_tracking_swap p.theta1 p.theta2 p.amp

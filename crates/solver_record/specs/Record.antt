@@ -6,11 +6,11 @@ use Rattle.solver_errors.specs.StdErrors.{unfounded, standing}
 use Rattle.solver_record.specs.declared.Params.{Params}
 use Rattle.solver_record.specs.declared.TwoAxisFit.{TwoAxisFit}
 use Rattle.solver_record.specs.declared.Started.{Started}
-use Rattle.solver_record.specs.Fit.{RustFit, degenerateFit, finished}
+use Rattle.solver_record.specs.Fit.{RustFit, degenerate_fit, finished}
 
 -- the Rust's fit with a mean, and the projection that drops it
-abbrev pub withMean : RustFit → Float → TwoAxisFit
-withMean f mean =
+abbrev pub with_mean : RustFit → Float → TwoAxisFit
+with_mean f mean =
     record {
       amp = f.amp;
       theta1 = f.theta1;
@@ -21,8 +21,8 @@ withMean f mean =
       mean = mean;
     }
 
-abbrev pub withoutMean : TwoAxisFit → RustFit
-withoutMean f =
+abbrev pub without_mean : TwoAxisFit → RustFit
+without_mean f =
     record {
       amp = f.amp;
       theta1 = f.theta1;
@@ -32,13 +32,13 @@ withoutMean f =
       rms = f.rms;
     }
 
-unfoldable pub degenerateRecord : Float → Float → TwoAxisFit
-degenerateRecord centeredVar mean = withMean (degenerateFit centeredVar) mean
+unfoldable pub degenerate_record : Float → Float → TwoAxisFit
+degenerate_record centered_var mean = with_mean (degenerate_fit centered_var) mean
 
 -- a start that is degenerate
 abbrev pub refused : Float → Float → Started
-refused centeredVar mean = record { fit = degenerateRecord centeredVar mean; standing = unfounded; updates = 0 }
+refused centered_var mean = record { fit = degenerate_record centered_var mean; standing = unfounded; updates = 0 }
 
 -- any other: the fit at the final parameters p, whose mu is its mean
 abbrev pub start_of : ℕ → Params → Matrix → Float → ℕ → Started
-start_of n p m ssr k = record { fit = withMean (finished n p m ssr) p.mu; standing = standing m ssr n; updates = k }
+start_of n p m ssr k = record { fit = with_mean (finished n p m ssr) p.mu; standing = standing m ssr n; updates = k }

@@ -43,7 +43,7 @@ pub struct Params {
 }
 
 pub fn degenerate_fit(centered_var: f32, mean: f32) -> TwoAxisFit
-    ensures { result ≡ R.degenerateRecord centered_var mean }
+    ensures { result ≡ R.degenerate_record centered_var mean }
 {
     TwoAxisFit {
         amp: 0.0,
@@ -77,7 +77,7 @@ pub fn is_degenerate(amp: f32, centered_var: f32) -> bool
 
 // The errors follow their axes where these were exchanged.
 fn assembled(a: Axes, e: Errors, rms: f32, mean: f32) -> TwoAxisFit
-    ensures { result ≡ R.withMean (F.assembled a e rms) mean }
+    ensures { result ≡ R.with_mean (F.assembled a e rms) mean }
 {
     if a.swapped {
         return TwoAxisFit {

@@ -5,8 +5,8 @@ use Rattle.candidates.proofs.bin_angle.Statement.{statement}
 use Rattle.candidates.proofs.bin_angle.Tie as tie
 
 returns : tie.Need-returns
-unfolding C.binAngle
+unfolding C.bin_angle
 returns c = rw (c.before.count-f32.ensures, c.count-f322.ensures)
 
-pub bin-angle-spec : {M : Type 1} → statement M
-bin-angle-spec = tie.close (tie.spec (λ c κs. search rules) (λ c κs. search rules) returns)
+pub bin_angle_spec : {M : Type 1} → statement M
+bin_angle_spec = tie.close (tie.spec (λ c κs. search rules) (λ c κs. search rules) returns)

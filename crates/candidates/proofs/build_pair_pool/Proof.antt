@@ -2,82 +2,82 @@
 use mathlib.Core.Path.{◌≡◌, ap}
 use Prim.Native.Nat.{◌≤◌, ◌<◌, ◌+◌, ◌-◌}
 use native.Mathlib.Omega.{arith}
-use borrow.Author.Tests.{not-true, not-false}
+use borrow.Author.Tests.{not-true, not_false}
 use Rattle.loops.specs.Loops.{iter, range}
-use Rattle.loops.specs.IterLaws.{iter-zero, range-start, iter-more, range-more}
+use Rattle.loops.specs.IterLaws.{iter_zero, range_start, iter_more, range_more}
 use Rattle.candidates.specs.declared.Pool.{Pool}
 use Rattle.candidates.specs.Candidates as C
-use Rattle.candidates.specs.CandidatesLaws.{rowsBefore, rows-zero, rows_next, row_room}
+use Rattle.candidates.specs.CandidatesLaws.{rows_before, rows_zero, rows_next, row_room}
 use borrow.Author.Rules.{rules}
 use Rattle.candidates.proofs.build_pair_pool.Statement.{statement}
 use Rattle.candidates.proofs.build_pair_pool.Tie as tie
 
 abbrev invariant-pairs : tie.invariant-pairs
-invariant-pairs edgeAlign gradTotal forceSeed forceHist candidates n pool₀ i j₀ pool j =
-    (i < n) × (i + 1 ≤ j) × (j ≤ n) × (rowsBefore n i + (n - 1 - i) ≤ C.maxPairs) × (pool.n ≤ rowsBefore n i + (j - 1 - i))
-    × (pool ≡ range (C.pooledPair candidates edgeAlign gradTotal forceSeed forceHist i) pool₀ (i + 1) j)
+invariant-pairs edge_align grad_total force_seed force_hist candidates n pool₀ i j₀ pool j =
+    (i < n) × (i + 1 ≤ j) × (j ≤ n) × (rows_before n i + (n - 1 - i) ≤ C.max_pairs) × (pool.n ≤ rows_before n i + (j - 1 - i))
+    × (pool ≡ range (C.pooled_pair candidates edge_align grad_total force_seed force_hist i) pool₀ (i + 1) j)
 
 abbrev decreases-pairs : tie.decreases-pairs
-decreases-pairs edgeAlign gradTotal forceSeed forceHist candidates n pool₀ i j₀ pool j = n - j
+decreases-pairs edge_align grad_total force_seed force_hist candidates n pool₀ i j₀ pool j = n - j
 
 abbrev invariant-loop : tie.invariant-loop
-invariant-loop edgeAlign gradTotal forceSeed forceHist candidates n pool₀ i₀ pool i =
-    (i ≤ n) × (pool.n ≤ rowsBefore n i) × (rowsBefore n i ≤ C.maxPairs)
-    × (pool ≡ iter (C.pooledFrom candidates edgeAlign gradTotal forceSeed forceHist) C.noPairs i)
+invariant-loop edge_align grad_total force_seed force_hist candidates n pool₀ i₀ pool i =
+    (i ≤ n) × (pool.n ≤ rows_before n i) × (rows_before n i ≤ C.max_pairs)
+    × (pool ≡ iter (C.pooled_from candidates edge_align grad_total force_seed force_hist) C.no_pairs i)
 
 abbrev decreases-loop : tie.decreases-loop
-decreases-loop edgeAlign gradTotal forceSeed forceHist candidates n pool₀ i₀ pool i = n - i
+decreases-loop edge_align grad_total force_seed force_hist candidates n pool₀ i₀ pool i = n - i
 
 loop-holds : tie.Need-loop-init invariant-pairs decreases-pairs invariant-loop decreases-loop
 loop-holds c =
     let e = c.no_pairs.ensures in
     let z = ap (λ (p : Pool). p.n) e in
-    (search rules, omega arith, rw rows-zero (omega arith), rw iter-zero e)
+    (search rules, omega arith, rw rows_zero (omega arith), rw iter_zero e)
 
 pairs-holds : tie.Need-pairs-init invariant-pairs decreases-pairs invariant-loop decreases-loop
 pairs-holds c =
     let h = row_room c.before.before.before.before.args.t1.n c.before.loop.i (search rules) (search rules) in
-    (search rules, search rules, search rules, h, omega arith, rw range-start)
+    (search rules, search rules, search rules, h, omega arith, rw range_start)
 
 pairs-again : tie.Need-pairs-preserved invariant-pairs decreases-pairs invariant-loop decreases-loop
-unfolding C.pooledPair
+unfolding C.pooled_pair
 pairs-again c =
     let v = c.before in
     let e = v.before.before.before.before.pairs.invariant.5 in
     let no = not-true v.valid-pair.result c.if1.true in
-    (search rules, search rules, search rules, search rules, omega arith, range-more _ _ _ _ _ _ (search rules) e (rw (← v.valid-pair.ensures, no)))
+    (search rules, search rules, search rules, search rules, omega arith, range_more _ _ _ _ _ _ (search rules) e (rw (← v.valid-pair.ensures, no)))
 
 pairs-again-2 : tie.Need-pairs-preserved-2 invariant-pairs decreases-pairs invariant-loop decreases-loop
-unfolding C.pooledPair C.pooled
+unfolding C.pooled_pair C.pooled
 pairs-again-2 c =
     let v = c.before.before in
     let e = v.before.before.before.before.pairs.invariant.5 in
-    let yes = not-false v.valid-pair.result c.before.if1.false in (
+    let yes = not_false v.valid-pair.result c.before.if1.false in (
       search rules,
       search rules,
       search rules,
       search rules,
       omega arith,
-      range-more _ _ _ _ _ _ (search rules) e (rw (← v.valid-pair.ensures, yes, c.pair-score.ensures)),
+      range_more _ _ _ _ _ _ (search rules) e (rw (← v.valid-pair.ensures, yes, c.pair-score.ensures)),
     )
 
 loop-again : tie.Need-loop-preserved invariant-pairs decreases-pairs invariant-loop decreases-loop
-unfolding C.pooledFrom
+unfolding C.pooled_from
 loop-again c =
     let l = c.before.before.before in
     let n = l.before.before.before.args.t1.n in
     let e = rows_next n l.loop.i in
     let h : c.before.pairs.j ≡ n = omega arith in
-    (search rules, omega arith, omega arith, iter-more _ _ _ _ _ l.loop.invariant.3 (rw h at c.before.pairs.invariant.5))
+    (search rules, omega arith, omega arith, iter_more _ _ _ _ _ l.loop.invariant.3 (rw h at c.before.pairs.invariant.5))
 
 returns : tie.Need-returns invariant-pairs decreases-pairs invariant-loop decreases-loop
-unfolding C.buildPairPool
+unfolding C.build_pair_pool
 returns c =
     let h : c.before.loop.i ≡ c.before.before.before.before.args.t1.n = omega arith in
     (omega arith, rw h at c.before.loop.invariant.3)
 
-pub build-pair-pool-spec : {M : Type 1} → statement M
-build-pair-pool-spec =
+pub build_pair_pool_spec : {M : Type 1} → statement M
+build_pair_pool_spec =
     tie.close
     (tie.spec
     invariant-pairs decreases-pairs invariant-loop decreases-loop (λ c κs. search rules) loop-holds (λ c. search rules) pairs-holds

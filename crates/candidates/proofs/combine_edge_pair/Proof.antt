@@ -5,15 +5,15 @@ use Rattle.candidates.proofs.combine_edge_pair.Statement.{statement}
 use Rattle.candidates.proofs.combine_edge_pair.Tie as tie
 
 returns : tie.Need-returns
-unfolding C.combineEdgePair
+unfolding C.combine_edge_pair
 returns c = rw c.if1.true
 
 returns-2 : tie.Need-returns-2
-unfolding C.combineEdgePair
+unfolding C.combine_edge_pair
 returns-2 c = rw (c.before.before.if1.false, ← c.before.min.ensures, ← c.max.ensures)
 
-pub combine-edge-pair-spec : {M : Type 1} → statement M
-combine-edge-pair-spec =
+pub combine_edge_pair_spec : {M : Type 1} → statement M
+combine_edge_pair_spec =
     tie.close
     (tie.spec
     returns (λ c κs. search rules) (λ c κs. search rules) returns-2)

@@ -6,7 +6,7 @@ use Rattle.candidates.proofs.histogram_candidates.Statement.{statement}
 use Rattle.candidates.proofs.histogram_candidates.Tie as tie
 
 returns : tie.Need-returns
-unfolding C.gradientCandidates
+unfolding C.gradient_candidates
 returns c =
     let p = c.before.before.before in
     let s = p.before.before.before in
@@ -17,8 +17,8 @@ returns c =
       rw (← h.histogram.ensures.1, ← s.smooth-bins.ensures.1, ← p.histogram-peaks.ensures.1, ← first, ← second) c.coarse.ensures.1,
     )
 
-pub histogram-candidates-spec : {M : Type 1} → statement M
-histogram-candidates-spec =
+pub histogram_candidates_spec : {M : Type 1} → statement M
+histogram_candidates_spec =
     tie.close
     (tie.spec
     (λ c. search rules) (λ c κs. search rules) (λ c. search rules) (λ c. search rules) (λ c κs. search rules)

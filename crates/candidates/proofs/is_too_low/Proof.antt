@@ -6,15 +6,15 @@ use Rattle.candidates.proofs.is_too_low.Statement.{statement}
 use Rattle.candidates.proofs.is_too_low.Tie as tie
 
 returns : tie.Need-returns
-unfolding C.tooLow
+unfolding C.too_low
 returns c = rw (le-leb _ _ c.if1.true)
 
 returns-2 : tie.Need-returns-2
-unfolding C.tooLow
+unfolding C.too_low
 returns-2 c = rw (lt-leb _ _ c.before.if1.false)
 
-pub is-too-low-spec : {M : Type 1} → statement M
-is-too-low-spec =
+pub is_too_low_spec : {M : Type 1} → statement M
+is_too_low_spec =
     tie.close
     (tie.spec
     returns (λ c. search rules) (λ c. search rules) returns-2)

@@ -6,16 +6,16 @@ use Rattle.candidates.proofs.matches_pair.Statement.{statement}
 use Rattle.candidates.proofs.matches_pair.Tie as tie
 
 returns : tie.Need-returns
-unfolding C.matchesPair
+unfolding C.matches_pair
 returns c = rw c.enum_told.given.1
 
 returns-2 : tie.Need-returns-2
-unfolding C.matchesPair
+unfolding C.matches_pair
 returns-2 c = rw (c.before.before.forced.given.1, eq-eqb _ _ c.if1.true)
 
 returns-3 : tie.Need-returns-3
-unfolding C.matchesPair
+unfolding C.matches_pair
 returns-3 c = rw (c.before.before.forced.given.1, ne_eqb _ _ c.if1.false)
 
-pub matches-pair-spec : {M : Type 1} → statement M
-matches-pair-spec = tie.close (tie.spec (λ c. search rules) (λ c. search rules) returns returns-2 returns-3)
+pub matches_pair_spec : {M : Type 1} → statement M
+matches_pair_spec = tie.close (tie.spec (λ c. search rules) (λ c. search rules) returns returns-2 returns-3)

@@ -6,15 +6,15 @@ use Rattle.candidates.proofs.next_bin.Statement.{statement}
 use Rattle.candidates.proofs.next_bin.Tie as tie
 
 returns : tie.Need-returns
-unfolding C.nextBin
+unfolding C.next_bin
 returns c = (search rules, rw (eq-eqb _ _ c.if1.true))
 
 returns-2 : tie.Need-returns-2
-unfolding C.nextBin
+unfolding C.next_bin
 returns-2 c = (search rules, rw (ne_eqb _ _ c.if1.false))
 
-pub next-bin-spec : {M : Type 1} → statement M
-next-bin-spec =
+pub next_bin_spec : {M : Type 1} → statement M
+next_bin_spec =
     tie.close
     (tie.spec
     (λ c. search rules) returns (λ c. search rules) returns-2)

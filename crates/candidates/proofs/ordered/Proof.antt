@@ -16,8 +16,8 @@ returns-3 : tie.Need-returns-3
 unfolding C.ordered
 returns-3 c = rw (ne_eqb _ _ c.before.if1.false, le-ltb _ _ c.if2.false)
 
-pub ordered-spec : {M : Type 1} → statement M
-ordered-spec =
+pub ordered_spec : {M : Type 1} → statement M
+ordered_spec =
     tie.close
     (tie.spec
     returns returns-2 returns-3)

@@ -6,12 +6,12 @@ use Rattle.candidates.proofs.prev_bin.Statement.{statement}
 use Rattle.candidates.proofs.prev_bin.Tie as tie
 
 returns : tie.Need-returns
-unfolding C.prevBin
+unfolding C.prev_bin
 returns c = (search rules, rw (eq-eqb _ _ c.if1.true))
 
 returns-2 : tie.Need-returns-2
-unfolding C.prevBin
+unfolding C.prev_bin
 returns-2 c = (search rules, rw (ne_eqb _ _ c.if1.false))
 
-pub prev-bin-spec : {M : Type 1} → statement M
-prev-bin-spec = tie.close (tie.spec (λ c. search rules) returns (λ c. search rules) returns-2)
+pub prev_bin_spec : {M : Type 1} → statement M
+prev_bin_spec = tie.close (tie.spec (λ c. search rules) returns (λ c. search rules) returns-2)

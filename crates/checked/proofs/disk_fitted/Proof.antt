@@ -1,6 +1,6 @@
 -- The search, and its errors or its trials; these are at most 96 where nothing is answered. Assumes nothing.
-use Rattle.checked.specs.CheckedLaws.{refused-place}
-use Rattle.search.specs.BillLaws.{missing-trials}
+use Rattle.checked.specs.CheckedLaws.{refused_place}
+use Rattle.search.specs.BillLaws.{missing_trials}
 use Rattle.checked.specs.Checked as C
 use Rattle.checked.specs.declared.DiskAnswer.TheVariants.{Fitted}
 use mathlib.Core.Path.{sym, ap, ◌∙◌}
@@ -9,22 +9,22 @@ use Rattle.checked.proofs.disk_fitted.Statement.{statement}
 use Rattle.checked.proofs.disk_fitted.Tie as tie
 
 returns : tie.Need-returns
-unfolding C.diskFitted C.diskMeasured
+unfolding C.disk_fitted C.disk_measured
 returns c =
     let a = c.before.before.before.before.before.before.before.before.before.before.args in
     rw (← c.before.before.before.before.best-disk-fit.ensures, c.before.before.found.given.1)
-    (ap Fitted (c.with-errors.ensures a.val-energy a.grad-angles.now a.grad-weights.now))
+    (ap Fitted (c.with_errors.ensures a.val-energy a.grad-angles.now a.grad-weights.now))
 
 returns-2 : tie.Need-returns-2
-unfolding C.diskFitted C.diskMeasured
+unfolding C.disk_fitted C.disk_measured
 returns-2 c =
     let at-best-disk-fit = c.before.before.before.best-disk-fit in
     let at-found2 = c.before.found2 in
-    let m = missing-trials _ _ _ _ (sym at-best-disk-fit.ensures ∙ at-found2.given.1) in
-    rw (← at-best-disk-fit.ensures, at-found2.given.1) (refused-place _ m)
+    let m = missing_trials _ _ _ _ (sym at-best-disk-fit.ensures ∙ at-found2.given.1) in
+    rw (← at-best-disk-fit.ensures, at-found2.given.1) (refused_place _ m)
 
-pub disk-fitted-spec : {M : Type 1} → statement M
-disk-fitted-spec =
+pub disk_fitted_spec : {M : Type 1} → statement M
+disk_fitted_spec =
     tie.close
     (tie.spec
     (λ c κs. search rules) (λ c. search rules) (λ c κs. search rules) (λ c. search rules) (λ c. search rules) returns

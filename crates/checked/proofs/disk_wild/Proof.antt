@@ -1,6 +1,6 @@
 -- Each list is looked through, and a place found in it is moved to its place among all values. Assumes nothing.
 use mathlib.Core.Path.{refl, ◌∙◌}
-use Rattle.checked.specs.CheckedLaws.{below_more, disk-places}
+use Rattle.checked.specs.CheckedLaws.{below_more, disk_places_lem}
 use lib.ListN.{length}
 use native.Mathlib.Omega.{arith}
 use borrow.Author.Rules.{rules}
@@ -79,11 +79,11 @@ returns c =
       ← at-shifted5.ensures,
       ← at-lone.ensures,
       ← at-lone2.ensures,
-    ) at (disk-places (length at-args.xs.now) at-args.val-energy at-args.base0 at-args.base1 at-args.xs.now
+    ) at (disk_places_lem (length at-args.xs.now) at-args.val-energy at-args.base0 at-args.base1 at-args.xs.now
     at-args.ys.now at-args.vals-centered.now at-args.grad-angles.now at-args.grad-weights.now refl at_pre.y at_pre.v at_pre.a))
 
-pub disk-wild-spec : {M : Type 1} → statement M
-disk-wild-spec =
+pub disk_wild_spec : {M : Type 1} → statement M
+disk_wild_spec =
     tie.close
     (tie.spec
     (λ c. search rules) (λ c κs. search rules) (λ c. search rules) (λ c. search rules) shifted-requires

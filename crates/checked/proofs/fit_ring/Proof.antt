@@ -21,8 +21,8 @@ returns-2 c =
     let looked = subst (P.RingRefusal 16 _ _) b1.enum_told.given.1 b1.before.before.ring-refusal.ensures in
     rw (c.fit-ring.ensures, looked.0) (looked.2 [])
 
-pub fit-ring-spec : {M : Type 1} → statement M
-fit-ring-spec =
+pub fit_ring_spec : {M : Type 1} → statement M
+fit_ring_spec =
     tie.close
     (tie.spec
     (λ c κs. search rules) (λ c. search rules) (λ c. search rules) fit-ring-requires returns returns-2)

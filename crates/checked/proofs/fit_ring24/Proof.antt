@@ -21,8 +21,8 @@ returns-2 c =
     let looked = subst (P.RingRefusal 24 _ _) b1.enum_told.given.1 b1.before.before.ring-refusal.ensures in
     rw (c.fit-ring24.ensures, looked.0) (looked.2 [])
 
-pub fit-ring24-spec : {M : Type 1} → statement M
-fit-ring24-spec =
+pub fit_ring24_spec : {M : Type 1} → statement M
+fit_ring24_spec =
     tie.close
     (tie.spec
     (λ c κs. search rules) (λ c. search rules) (λ c. search rules) fit-ring24-requires returns returns-2)

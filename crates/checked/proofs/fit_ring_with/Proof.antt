@@ -1,6 +1,6 @@
 -- Refused, or fitted. Assumes nothing.
 use mathlib.Core.Path.{subst}
-use Rattle.seed_models.specs.Words.{tablesIn}
+use Rattle.seed_models.specs.Words.{tables_in}
 use Rattle.checked.specs.Parts as P
 use borrow.Author.Rules.{rules}
 use Rattle.checked.proofs.fit_ring_with.Statement.{statement}
@@ -14,7 +14,7 @@ fit-ring-with-requires c κs =
 returns : tie.Need-returns
 returns c =
     let a = c.before.before.before.before.before.before.args in
-    subst (P.RingRefusal 16 _ _) c.before.number.given.1 c.before.before.before.ring-refusal.ensures (tablesIn a.words.now)
+    subst (P.RingRefusal 16 _ _) c.before.number.given.1 c.before.before.before.ring-refusal.ensures (tables_in a.words.now)
 
 returns-2 : tie.Need-returns-2
 returns-2 c =
@@ -22,10 +22,10 @@ returns-2 c =
     let c4 = c2.before.before in
     let a = c4.before.before.before.args in
     let looked = subst (P.RingRefusal 16 _ _) c2.enum_told.given.1 c4.ring-refusal.ensures in
-    rw (c.fit-ring-with.ensures, looked.0) (looked.2 (tablesIn a.words.now))
+    rw (c.fit-ring-with.ensures, looked.0) (looked.2 (tables_in a.words.now))
 
-pub fit-ring-with-spec : {M : Type 1} → statement M
-fit-ring-with-spec =
+pub fit_ring_with_spec : {M : Type 1} → statement M
+fit_ring_with_spec =
     tie.close
     (tie.spec
     (λ c κs. search rules) (λ c. search rules) (λ c. search rules) fit-ring-with-requires returns returns-2)

@@ -9,8 +9,8 @@ returns c = rw (← c.before.is_finite.ensures, c.if1.true)
 returns-2 : tie.Need-returns-2
 returns-2 c = rw (← c.before.is_finite.ensures, c.if1.false)
 
-pub lone-spec : {M : Type 1} → statement M
-lone-spec =
+pub lone_spec : {M : Type 1} → statement M
+lone_spec =
     tie.close
     (tie.spec
     (λ c κs. search rules) returns returns-2)

@@ -1,5 +1,5 @@
 -- The samples come first, and the angles behind them. Assumes nothing.
-use Rattle.checked.specs.CheckedLaws.{below_more, ring-places}
+use Rattle.checked.specs.CheckedLaws.{below_more, ring_places}
 use mathlib.Core.Path.{◌∙◌, refl}
 use lib.ListN.{length}
 use native.Mathlib.Omega.{arith}
@@ -26,10 +26,10 @@ returns c =
       ← b3.first-wild.ensures.0,
       ← c.before.first-wild2.ensures.0,
       ← c.before.before.shifted.ensures,
-    ) at (ring-places (length a.samples.now) a.samples.now a.angles.now refl))
+    ) at (ring_places (length a.samples.now) a.samples.now a.angles.now refl))
 
-pub ring-wild-spec : {M : Type 1} → statement M
-ring-wild-spec =
+pub ring_wild_spec : {M : Type 1} → statement M
+ring_wild_spec =
     tie.close
     (tie.spec
     (λ c. search rules) (λ c κs. search rules) shifted-requires (λ c κs. search rules) shifted-requires-2 returns)

@@ -15,8 +15,8 @@ add-t5 c = let b = subst (Below 320) c.before.w.given.1 c.before.before.before.r
 returns-2 : tie.Need-returns-2
 returns-2 c = rw c.before.w.given.1
 
-pub shifted-spec : {M : Type 1} → statement M
-shifted-spec =
+pub shifted_spec : {M : Type 1} → statement M
+shifted_spec =
     tie.close
     (tie.spec
     (λ c. search rules) (λ c. search rules) returns add-t5 returns-2)

@@ -6,8 +6,8 @@ use Rattle.checked.proofs.with_errors.Tie as tie
 returns : tie.Need-returns
 returns c = λ energy angles weights. rw (c.fit-std-errors.ensures energy angles weights)
 
-pub with-errors-spec : {M : Type 1} → statement M
-with-errors-spec =
+pub with_errors_spec : {M : Type 1} → statement M
+with_errors_spec =
     tie.close
     (tie.spec
     (λ c κs. search rules) returns)

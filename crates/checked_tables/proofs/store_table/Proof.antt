@@ -12,20 +12,20 @@ store-requires c κs =
     (search rules, looked.0, looked.1)
 
 returns : tie.Need-returns
-unfolding T.wordsAfter
+unfolding T.words_after
 returns c =
     let is = subst (P.TableRefusal _ _) c.before.number.given.1 c.before.before.before.table-refusal.ensures in
     (is, rw (← is) refl)
 
 returns-2 : tie.Need-returns-2
-unfolding T.wordsAfter
+unfolding T.words_after
 returns-2 c =
     let c2 = c.before.before in
     let is = (subst (P.TableRefusal _ _) c2.enum_told.given.1 c2.before.before.table-refusal.ensures).2 in
     (is, rw (← is) c.store.ensures)
 
-pub store-table-spec : {M : Type 1} → statement M
-store-table-spec =
+pub store_table_spec : {M : Type 1} → statement M
+store_table_spec =
     tie.close
     (tie.spec
     (λ c κs. search rules) (λ c. search rules) (λ c. search rules) store-requires returns returns-2)

@@ -20,8 +20,8 @@ returns c =
       ← c.before.capped.ensures,
     ) c.raised.ensures
 
-pub atan2-spec : {M : Type 1} → statement M
-atan2-spec =
+pub atan2_spec : {M : Type 1} → statement M
+atan2_spec =
     tie.close
     (tie.spec
     (λ c κs. search rules) (λ c κs. search rules) (λ c κs. search rules) (λ c κs. search rules) (λ c κs. search rules)

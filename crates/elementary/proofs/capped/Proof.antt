@@ -8,8 +8,8 @@ returns c = rw c.if1.true
 returns-2 : tie.Need-returns-2
 returns-2 c = rw c.if1.false
 
-pub capped-spec : {M : Type 1} → statement M
-capped-spec =
+pub capped_spec : {M : Type 1} → statement M
+capped_spec =
     tie.close
     (tie.spec
     returns returns-2)

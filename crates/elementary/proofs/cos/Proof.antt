@@ -8,8 +8,8 @@ returns : tie.Need-returns
 unfolding cos
 returns c = rw c.sin-cos.ensures
 
-pub cos-spec : {M : Type 1} → statement M
-cos-spec =
+pub cos_spec : {M : Type 1} → statement M
+cos_spec =
     tie.close
     (tie.spec
     (λ c κs. search rules) returns)

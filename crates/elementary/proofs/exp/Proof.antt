@@ -12,8 +12,8 @@ returns-2 : tie.Need-returns-2
 unfolding exp
 returns-2 c = rw (c.before.if1.false, c.exp-neg2.ensures)
 
-pub exp-spec : {M : Type 1} → statement M
-exp-spec =
+pub exp_spec : {M : Type 1} → statement M
+exp_spec =
     tie.close
     (tie.spec
     (λ c κs. search rules) returns (λ c κs. search rules) returns-2)

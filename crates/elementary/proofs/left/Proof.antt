@@ -11,8 +11,8 @@ returns-2 : tie.Need-returns-2
 unfolding left
 returns-2 c = rw c.if1.false
 
-pub left-spec : {M : Type 1} → statement M
-left-spec =
+pub left_spec : {M : Type 1} → statement M
+left_spec =
     tie.close
     (tie.spec
     returns returns-2)

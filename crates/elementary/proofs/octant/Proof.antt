@@ -15,8 +15,8 @@ returns-3 : tie.Need-returns-3
 unfolding octant
 returns-3 c = rw (c.before.if1.false, c.if2.false)
 
-pub octant-spec : {M : Type 1} → statement M
-octant-spec =
+pub octant_spec : {M : Type 1} → statement M
+octant_spec =
     tie.close
     (tie.spec
     returns returns-2 returns-3)

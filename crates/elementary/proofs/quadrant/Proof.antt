@@ -14,8 +14,8 @@ returns c =
       c.before.before.before.whole.ensures,
     )
 
-pub quadrant-spec : {M : Type 1} → statement M
-quadrant-spec =
+pub quadrant_spec : {M : Type 1} → statement M
+quadrant_spec =
     tie.close
     (tie.spec
     (λ c κs. search rules) (λ c κs. search rules) (λ c κs. search rules) (λ c κs. search rules) returns)

@@ -8,8 +8,8 @@ returns c = rw c.if1.true
 returns-2 : tie.Need-returns-2
 returns-2 c = rw c.if1.false
 
-pub raised-spec : {M : Type 1} → statement M
-raised-spec =
+pub raised_spec : {M : Type 1} → statement M
+raised_spec =
     tie.close
     (tie.spec
     returns returns-2)

@@ -19,8 +19,8 @@ returns-4 : tie.Need-returns-4
 unfolding ratio
 returns-4 c = rw (c.before.if1.false, c.if3.false)
 
-pub ratio-spec : {M : Type 1} → statement M
-ratio-spec =
+pub ratio_spec : {M : Type 1} → statement M
+ratio_spec =
     tie.close
     (tie.spec
     returns returns-2 returns-3 returns-4)

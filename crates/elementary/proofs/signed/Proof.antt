@@ -11,8 +11,8 @@ returns-2 : tie.Need-returns-2
 unfolding signed
 returns-2 c = rw c.if1.false
 
-pub signed-spec : {M : Type 1} → statement M
-signed-spec =
+pub signed_spec : {M : Type 1} → statement M
+signed_spec =
     tie.close
     (tie.spec
     returns returns-2)

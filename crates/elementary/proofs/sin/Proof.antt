@@ -8,8 +8,8 @@ returns : tie.Need-returns
 unfolding sin
 returns c = rw c.sin-cos.ensures
 
-pub sin-spec : {M : Type 1} → statement M
-sin-spec =
+pub sin_spec : {M : Type 1} → statement M
+sin_spec =
     tie.close
     (tie.spec
     (λ c κs. search rules) returns)

@@ -1,11 +1,11 @@
 -- `sin_cos_near` meets its contract: the calls have theirs. Assumes nothing.
-use Rattle.elementary.specs.Elementary.{sinCosNear}
+use Rattle.elementary.specs.Elementary.{sin_cos_near}
 use borrow.Author.Rules.{rules}
 use Rattle.elementary.proofs.sin_cos_near.Statement.{statement}
 use Rattle.elementary.proofs.sin_cos_near.Tie as tie
 
 returns : tie.Need-returns
-unfolding sinCosNear
+unfolding sin_cos_near
 returns c =
     rw (
       c.quadrant.ensures,
@@ -14,8 +14,8 @@ returns c =
       c.before.before.before.whole.ensures,
     )
 
-pub sin-cos-near-spec : {M : Type 1} → statement M
-sin-cos-near-spec =
+pub sin_cos_near_spec : {M : Type 1} → statement M
+sin_cos_near_spec =
     tie.close
     (tie.spec
     (λ c κs. search rules) (λ c κs. search rules) (λ c κs. search rules) (λ c κs. search rules) returns)

@@ -11,8 +11,8 @@ returns-2 : tie.Need-returns-2
 unfolding size
 returns-2 c = rw c.if1.false
 
-pub size-spec : {M : Type 1} → statement M
-size-spec =
+pub size_spec : {M : Type 1} → statement M
+size_spec =
     tie.close
     (tie.spec
     returns returns-2)

@@ -1,5 +1,5 @@
 -- `tanh` meets its contract: the calls have theirs, and what `scale` is given has passed a test or is a constant. Assumes nothing.
-use Rattle.elementary.specs.SelectLaws.{under-number}
+use Rattle.elementary.specs.SelectLaws.{under_number}
 use Rattle.elementary.specs.Elementary.{tanh}
 use borrow.Author.Rules.{rules}
 use Rattle.elementary.proofs.tanh.Statement.{statement}
@@ -7,7 +7,7 @@ use Rattle.elementary.proofs.tanh.Tie as tie
 
 scale-requires : tie.Need-scale-requires
 unfolding lib.Ieee.is_nan lib.Ieee.of_bits
-scale-requires c κs = rw c.under.ensures (under-number c.before.above.result _ tt)
+scale-requires c κs = rw c.under.ensures (under_number c.before.above.result _ tt)
 
 returns : tie.Need-returns
 unfolding tanh
@@ -22,8 +22,8 @@ returns c =
       c.before.before.before.before.before.before.capped.ensures,
     )
 
-pub tanh-spec : {M : Type 1} → statement M
-tanh-spec =
+pub tanh_spec : {M : Type 1} → statement M
+tanh_spec =
     tie.close
     (tie.spec
     (λ c κs. search rules) (λ c κs. search rules) (λ c κs. search rules) (λ c κs. search rules) scale-requires

@@ -1,15 +1,15 @@
 -- `tanh_rest` meets its contract: the code is the definition, step by step. Assumes nothing.
 use mathlib.Core.Path.{refl}
-use Rattle.elementary.specs.Elementary.{tanhRest}
+use Rattle.elementary.specs.Elementary.{tanh_rest}
 use Rattle.elementary.proofs.tanh_rest.Statement.{statement}
 use Rattle.elementary.proofs.tanh_rest.Tie as tie
 
 returns : tie.Need-returns
-unfolding tanhRest
+unfolding tanh_rest
 returns c = refl
 
-pub tanh-rest-spec : {M : Type 1} → statement M
-tanh-rest-spec =
+pub tanh_rest_spec : {M : Type 1} → statement M
+tanh_rest_spec =
     tie.close
     (tie.spec
     returns)

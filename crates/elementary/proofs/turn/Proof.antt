@@ -6,7 +6,7 @@ use Rattle.elementary.proofs.turn.Tie as tie
 
 returns : tie.Need-returns
 unfolding turn
-returns c = rw c.before.if1.true c.rem-tau.ensures
+returns c = rw c.before.if1.true c.rem_tau.ensures
 
 returns-2 : tie.Need-returns-2
 unfolding turn

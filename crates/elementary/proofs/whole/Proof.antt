@@ -8,8 +8,8 @@ returns : tie.Need-returns
 unfolding whole
 returns c = refl
 
-pub whole-spec : {M : Type 1} → statement M
-whole-spec =
+pub whole_spec : {M : Type 1} → statement M
+whole_spec =
     tie.close
     (tie.spec
     returns)

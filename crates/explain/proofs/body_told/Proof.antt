@@ -38,8 +38,8 @@ returns-4 c =
     let t = b2.told3.ensures.1 in
     (search rules, record { words = t.words; said = rw b2.before.before.before.sort3.given.1 t.said })
 
-pub body-told-spec : {M : Type 1} → statement M
-body-told-spec =
+pub body_told_spec : {M : Type 1} → statement M
+body_told_spec =
     tie.close
     (tie.spec
     (λ c. search rules) (λ c. search rules) told-requires (λ c. search rules) told-requires-2 (λ c. search rules)

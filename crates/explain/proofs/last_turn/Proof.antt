@@ -22,8 +22,8 @@ returns c =
       },
     )
 
-pub last-turn-spec : {M : Type 1} → statement M
-last-turn-spec =
+pub last_turn_spec : {M : Type 1} → statement M
+last_turn_spec =
     tie.close
     (tie.spec
     (λ c κs. search rules) (λ c κs. search rules) (λ c κs. search rules) (λ c κs. search rules) (λ c. search rules)

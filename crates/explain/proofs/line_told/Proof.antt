@@ -23,8 +23,8 @@ returns c =
       },
     )
 
-pub line-told-spec : {M : Type 1} → statement M
-line-told-spec =
+pub line_told_spec : {M : Type 1} → statement M
+line_told_spec =
     tie.close
     (tie.spec
     (λ c κs. search rules) (λ c κs. search rules) (λ c κs. search rules) (λ c κs. search rules) (λ c κs. search rules)

@@ -6,15 +6,15 @@ use Rattle.explain_sorts.proofs.bad_above.Statement.{statement}
 use Rattle.explain_sorts.proofs.bad_above.Tie as tie
 
 returns : tie.Need-returns
-unfolding S.badAbove
+unfolding S.bad_above
 returns c = rw (lt-ltb _ _ c.before.if1.true) c.refused-above.ensures
 
 returns-2 : tie.Need-returns-2
-unfolding S.badAbove
+unfolding S.bad_above
 returns-2 c = rw (le-ltb _ _ c.before.if1.false) c.refused-above2.ensures
 
-pub bad-above-spec : {M : Type 1} → statement M
-bad-above-spec =
+pub bad_above_spec : {M : Type 1} → statement M
+bad_above_spec =
     tie.close
     (tie.spec
     (λ c κs. search rules) returns (λ c κs. search rules) returns-2)

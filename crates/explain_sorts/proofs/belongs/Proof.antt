@@ -29,8 +29,8 @@ returns-4 c =
     let b2 = c.before.before in
     rw (eq-eqb _ _ b2.before.before.before.if1.false, b2.if2.false, ne_eqb _ _ c.if3.false)
 
-pub belongs-spec : {M : Type 1} → statement M
-belongs-spec =
+pub belongs_spec : {M : Type 1} → statement M
+belongs_spec =
     tie.close
     (tie.spec
     (λ c κs. search rules) returns returns-2 returns-3 returns-4)

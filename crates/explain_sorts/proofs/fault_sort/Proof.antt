@@ -21,8 +21,8 @@ returns-5 c = rw c.before.enum-told4.given.1 c.bad5.ensures
 returns-6 : tie.Need-returns-6
 returns-6 c = rw c.before.before.fault2.given.1 c.bad6.ensures
 
-pub fault-sort-spec : {M : Type 1} → statement M
-fault-sort-spec =
+pub fault_sort_spec : {M : Type 1} → statement M
+fault_sort_spec =
     tie.close
     (tie.spec
     (λ c. search rules) (λ c κs. search rules) (λ c. search rules) (λ c κs. search rules) (λ c. search rules)

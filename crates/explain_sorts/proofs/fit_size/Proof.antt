@@ -10,5 +10,5 @@ returns c = (omega arith, rw (eq-eqb _ _ c.if1.true))
 returns-2 : tie.Need-returns-2
 returns-2 c = (omega arith, rw (ne_eqb _ _ c.if1.false))
 
-pub fit-size-spec : {M : Type 1} → statement M
-fit-size-spec = tie.close (tie.spec returns returns-2)
+pub fit_size_spec : {M : Type 1} → statement M
+fit_size_spec = tie.close (tie.spec returns returns-2)

@@ -16,8 +16,8 @@ returns-3 : tie.Need-returns-3
 unfolding S.is_of
 returns-3 c = rw (c.before.if1.false, ne_eqb _ _ c.if2.false)
 
-pub is-of-spec : {M : Type 1} → statement M
-is-of-spec =
+pub is_of_spec : {M : Type 1} → statement M
+is_of_spec =
     tie.close
     (tie.spec
     returns returns-2 returns-3)

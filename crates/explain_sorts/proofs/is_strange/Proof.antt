@@ -9,8 +9,8 @@ returns-2 c = rw (c.before.before.sort.given.1, c.belongs.ensures)
 returns-3 : tie.Need-returns-3
 returns-3 c = rw (c.before.before.sort2.given.1, c.belongs2.ensures)
 
-pub is-strange-spec : {M : Type 1} → statement M
-is-strange-spec =
+pub is_strange_spec : {M : Type 1} → statement M
+is_strange_spec =
     tie.close
     (tie.spec
     (λ c. search rules) (λ c. search rules) (λ c κs. search rules) (λ c. search rules) (λ c κs. search rules)

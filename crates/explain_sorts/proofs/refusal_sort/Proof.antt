@@ -6,13 +6,13 @@ use Rattle.explain_sorts.proofs.refusal_sort.Statement.{statement}
 use Rattle.explain_sorts.proofs.refusal_sort.Tie as tie
 
 returns : tie.Need-returns
-unfolding S.refusalSort
+unfolding S.refusal_sort
 returns c =
     let b4 = c.before.before.before.before in
     rw c.bad.ensures (rw (← b4.byte_at.ensures.1, c.before.if1.true), search rules)
 
 returns-2 : tie.Need-returns-2
-unfolding S.refusalSort
+unfolding S.refusal_sort
 returns-2 c =
     let b4 = c.before.before.before.before in (
       rw (
@@ -27,15 +27,15 @@ returns-2 c =
     )
 
 returns-3 : tie.Need-returns-3
-unfolding S.refusalSort
+unfolding S.refusal_sort
 returns-3 c =
     let b2 = c.before.before in
     let b3 = b2.before in
     let b6 = b3.before.before.before in
     rw c.bad2.ensures (rw (← b6.byte_at.ensures.1, b3.if1.false, ← b2.is-of.ensures, c.before.if2.false), search rules)
 
-pub refusal-sort-spec : {M : Type 1} → statement M
-refusal-sort-spec =
+pub refusal_sort_spec : {M : Type 1} → statement M
+refusal_sort_spec =
     tie.close
     (tie.spec
     (λ c κs. search rules) (λ c κs. search rules) (λ c. search rules) (λ c κs. search rules) (λ c. search rules)

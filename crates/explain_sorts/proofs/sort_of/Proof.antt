@@ -1,5 +1,5 @@
 -- Each shape has its sort, and the values that are read stand in the line. Assumes nothing.
-use Rattle.explain_sorts.specs.SortsLaws.{fault-sound}
+use Rattle.explain_sorts.specs.SortsLaws.{fault_sound}
 use Rattle.explain_sorts.specs.Sorts as S
 use Rattle.shapes.specs.Shapes.{ShapeSized}
 use lib.ListN.{length}
@@ -10,7 +10,7 @@ use Rattle.explain_sorts.proofs.sort_of.Statement.{statement}
 use Rattle.explain_sorts.proofs.sort_of.Tie as tie
 
 returns : tie.Need-returns
-unfolding S.sortOf
+unfolding S.sort_of
 returns c = rw c.bad.ensures (rw c.before.if1.true, search rules)
 
 valued-requires : tie.Need-valued-requires
@@ -29,7 +29,7 @@ valued-requires-2 c κs =
     omega arith
 
 returns-2 : tie.Need-returns-2
-unfolding S.sortOf
+unfolding S.sort_of
 returns-2 c =
     let b3 = c.before.before.before in
     let b5 = b3.before.before in
@@ -37,7 +37,7 @@ returns-2 c =
     (rw (b5.before.if1.false, ← b5.shape_of.ensures.0, b3.shape.given.1, c.valued.ensures, n), search rules)
 
 returns-3 : tie.Need-returns-3
-unfolding S.sortOf
+unfolding S.sort_of
 returns-3 c =
     let b2 = c.before.before in
     let b4 = b2.before.before in
@@ -45,7 +45,7 @@ returns-3 c =
     (rw (b5.if1.false, ← b4.shape_of.ensures.0, b2.shape2.given.1, c.valued2.ensures), search rules)
 
 returns-4 : tie.Need-returns-4
-unfolding S.sortOf
+unfolding S.sort_of
 returns-4 c =
     let b2 = c.before.before in
     let b4 = b2.before.before in
@@ -53,7 +53,7 @@ returns-4 c =
     (rw (b5.if1.false, ← b4.shape_of.ensures.0, b2.shape3.given.1, c.refused-above.ensures), search rules)
 
 returns-5 : tie.Need-returns-5
-unfolding S.sortOf
+unfolding S.sort_of
 returns-5 c =
     let b2 = c.before.before in
     let b4 = b2.before.before in
@@ -61,7 +61,7 @@ returns-5 c =
     (rw (b5.if1.false, ← b4.shape_of.ensures.0, b2.shape4.given.1) c.answer-sort.ensures.0, c.answer-sort.ensures.1)
 
 returns-6 : tie.Need-returns-6
-unfolding S.sortOf
+unfolding S.sort_of
 returns-6 c =
     let b2 = c.before.before in
     let b4 = b2.before.before in
@@ -69,11 +69,11 @@ returns-6 c =
     let b7 = b5.before.before in
     let n = length b7.args.line.now in (
       rw (b5.if1.false, ← b4.shape_of.ensures.0, b2.shape5.given.1) c.fault-sort.ensures,
-      rw c.fault-sort.ensures (fault-sound n b2.shape5.given.0.0),
+      rw c.fault-sort.ensures (fault_sound n b2.shape5.given.0.0),
     )
 
-pub sort-of-spec : {M : Type 1} → statement M
-sort-of-spec =
+pub sort_of_spec : {M : Type 1} → statement M
+sort_of_spec =
     tie.close
     (tie.spec
     (λ c κs. search rules) returns (λ c κs. search rules) (λ c. search rules) (λ c κs. search rules) (λ c. search rules)

@@ -13,8 +13,8 @@ returns-2 : tie.Need-returns-2
 unfolding S.valued
 returns-2 c = rw (← c.before.wild-word.ensures.1, le-ltb _ _ c.if1.false)
 
-pub valued-spec : {M : Type 1} → statement M
-valued-spec =
+pub valued_spec : {M : Type 1} → statement M
+valued_spec =
     tie.close
     (tie.spec
     (λ c κs. search rules) (λ c. search rules) (λ c. search rules) (λ c κs. search rules) (λ c. search rules) returns

@@ -25,8 +25,8 @@ returns c =
       c.byte-at3.ensures.1,
     )
 
-pub disk-reading-spec : {M : Type 1} → statement M
-disk-reading-spec =
+pub disk_reading_spec : {M : Type 1} → statement M
+disk_reading_spec =
     tie.close
     (tie.spec
     (λ c κs. search rules) (λ c κs. search rules) (λ c κs. search rules) (λ c κs. search rules) (λ c κs. search rules)

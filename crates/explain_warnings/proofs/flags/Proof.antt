@@ -1,5 +1,5 @@
 -- Each flag is its sentence's. Assumes nothing.
-use Rattle.floats.specs.MaxMinLaws.{ne-is-nan}
+use Rattle.floats.specs.MaxMinLaws.{ne_is_nan}
 use Rattle.explain_warnings.specs.Warnings as W
 use Rattle.explain_words.specs.Tell.{flags_of}
 use mathlib.Core.Path.{refl}
@@ -8,7 +8,7 @@ use Rattle.explain_warnings.proofs.flags.Statement.{statement}
 use Rattle.explain_warnings.proofs.flags.Tie as tie
 
 returns : tie.Need-returns
-unfolding flags_of W.warningsOf
+unfolding flags_of W.warnings_of
 returns c =
     let b4 = c.before.before.before.before in
     let b8 = b4.before.before.before.before in
@@ -16,7 +16,7 @@ returns c =
     let b25 = b20.before.before.before.before.before in (
       rw (
         b20.before.before.is-infinite.ensures,
-        ne-is-nan b25.args.r.rms,
+        ne_is_nan b25.args.r.rms,
         b20.is-large.ensures,
         b8.before.before.is-wild.ensures,
         b8.before.is-wild2.ensures,
@@ -33,8 +33,8 @@ returns c =
       refl,
     )
 
-pub flags-spec : {M : Type 1} → statement M
-flags-spec =
+pub flags_spec : {M : Type 1} → statement M
+flags_spec =
     tie.close
     (tie.spec
     (λ c κs. search rules) (λ c κs. search rules) (λ c κs. search rules) (λ c κs. search rules) (λ c κs. search rules)

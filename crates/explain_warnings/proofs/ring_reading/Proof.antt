@@ -20,8 +20,8 @@ returns c =
       c.byte-at4.ensures.1,
     )
 
-pub ring-reading-spec : {M : Type 1} → statement M
-ring-reading-spec =
+pub ring_reading_spec : {M : Type 1} → statement M
+ring_reading_spec =
     tie.close
     (tie.spec
     (λ c κs. search rules) (λ c κs. search rules) (λ c κs. search rules) (λ c κs. search rules) (λ c κs. search rules)

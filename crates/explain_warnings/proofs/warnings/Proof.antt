@@ -1,6 +1,6 @@
 -- The text's flags and its sentences are the definition's. Assumes nothing.
 use native.Mathlib.Omega.{arith}
-use Rattle.explain_warnings.specs.WarningsLaws.{warnings-told}
+use Rattle.explain_warnings.specs.WarningsLaws.{warnings_told}
 use Rattle.explain_warnings.specs.Warnings as W
 use Rattle.hex.specs.HexLaws.{written_as}
 use Rattle.explain_words.specs.Tell.{barred}
@@ -10,15 +10,15 @@ use Rattle.explain_warnings.proofs.warnings.Statement.{statement}
 use Rattle.explain_warnings.proofs.warnings.Tie as tie
 
 returns : tie.Need-returns
-unfolding W.warningsOf barred bytes codes
+unfolding W.warnings_of barred bytes codes
 returns c =
     let b2 = c.before.before in
     let b7 = b2.before.before.before.before.before in
     let b9 = b7.before.before in
-    (omega (arith, b2.tell.ensures.fits), written_as b2.tell.ensures.written (warnings-told b9.args.r _ b7.flags.ensures.0))
+    (omega (arith, b2.tell.ensures.fits), written_as b2.tell.ensures.written (warnings_told b9.args.r _ b7.flags.ensures.0))
 
-pub warnings-spec : {M : Type 1} → statement M
-warnings-spec =
+pub warnings_spec : {M : Type 1} → statement M
+warnings_spec =
     tie.close
     (tie.spec
     (λ c κs. search rules) (λ c. search rules) (λ c. search rules) (λ c. search rules) (λ c κs. search rules)

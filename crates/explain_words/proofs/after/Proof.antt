@@ -9,8 +9,8 @@ returns c = (search rules, rw (eq-eqb _ _ c.if1.true))
 returns-2 : tie.Need-returns-2
 returns-2 c = (search rules, rw (ne_eqb _ _ c.if1.false))
 
-pub after-spec : {M : Type 1} → statement M
-after-spec =
+pub after_spec : {M : Type 1} → statement M
+after_spec =
     tie.close
     (tie.spec
     (λ c. search rules) returns returns-2)

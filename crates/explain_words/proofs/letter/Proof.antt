@@ -11,8 +11,8 @@ returns c = (search rules, rw (lt-ltb _ _ c.if1.true) (written_none (omega arith
 returns-2 : tie.Need-returns-2
 returns-2 c = (search rules, rw (le-ltb _ _ c.if1.false) (record { text = put_one _ _ _ (search rules); place = search rules }))
 
-pub letter-spec : {M : Type 1} → statement M
-letter-spec =
+pub letter_spec : {M : Type 1} → statement M
+letter_spec =
     tie.close
     (tie.spec
     returns (λ c. search rules) (λ c. search rules) (λ c. search rules) returns-2)

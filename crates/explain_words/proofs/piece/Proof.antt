@@ -25,8 +25,8 @@ returns-3 c =
     let b2 = c.before.before in
     (omega arith, rw (← b2.is-mark.ensures, c.before.if1.false, c.if2.false) (record { text = put_one _ _ _ (omega arith); place = search rules }))
 
-pub piece-spec : {M : Type 1} → statement M
-piece-spec =
+pub piece_spec : {M : Type 1} → statement M
+piece_spec =
     tie.close
     (tie.spec
     (λ c κs. search rules) returns (λ c κs. search rules) (λ c. search rules) returns-2 (λ c. search rules)

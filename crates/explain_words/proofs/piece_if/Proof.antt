@@ -12,8 +12,8 @@ returns c =
 returns-2 : tie.Need-returns-2
 returns-2 c = (omega arith, rw c.if1.false (written_none (omega arith)))
 
-pub piece-if-spec : {M : Type 1} → statement M
-piece-if-spec =
+pub piece_if_spec : {M : Type 1} → statement M
+piece_if_spec =
     tie.close
     (tie.spec
     (λ c κs. search rules) (λ c. search rules) returns returns-2)

@@ -1,6 +1,6 @@
 -- What is told so far, and what is left to tell, are the whole. Assumes nothing.
 use Rattle.std.proofs.Common.{◌≡◌, ◌+◌, ◌-◌, ◌*◌, ◌≤◌, length, arith, rules}
-use Rattle.explain_words.specs.TellLaws.{Midway, midway_start, midway-next, midway_end}
+use Rattle.explain_words.specs.TellLaws.{Midway, midway_start, midway_next, midway_end}
 use Rattle.explain_words.proofs.tell.Statement.{statement}
 use Rattle.explain_words.proofs.tell.Tie as tie
 
@@ -20,13 +20,13 @@ loop-again c =
     let b4 = b3.before in
     let b8 = b4.before.before.before.before in
     let said = rw b4.is-told.ensures at b3.piece-if.ensures.1 in
-    (search rules, omega arith, search rules, search rules, rw c.after.ensures.1 (midway-next b8.loop.invariant.4 (search rules) said (omega arith)))
+    (search rules, omega arith, search rules, search rules, rw c.after.ensures.1 (midway_next b8.loop.invariant.4 (search rules) said (omega arith)))
 
 returns : tie.Need-returns invariant-loop decreases-loop
 returns c = record { fits = omega arith; written = midway_end c.before.loop.invariant.4 (omega arith) }
 
-pub tell-spec : {M : Type 1} → statement M
-tell-spec =
+pub tell_spec : {M : Type 1} → statement M
+tell_spec =
     tie.close
     (tie.spec
     invariant-loop decreases-loop loop-holds (λ c. search rules) (λ c κs. search rules) (λ c κs. search rules)

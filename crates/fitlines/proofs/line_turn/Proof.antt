@@ -15,8 +15,8 @@ returns c =
       },
     )
 
-pub line-turn-spec : {M : Type 1} → statement M
-line-turn-spec =
+pub line_turn_spec : {M : Type 1} → statement M
+line_turn_spec =
     tie.close
     (tie.spec
     (λ c κs. search rules) (λ c. search rules) (λ c. search rules) (λ c. search rules) (λ c κs. search rules)

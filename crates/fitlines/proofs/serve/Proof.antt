@@ -4,7 +4,7 @@ use native.Mathlib.Omega.{arith}
 use lib.ListN.{length}
 use Rattle.lines.specs.declared.State.{State}
 use Rattle.lines.specs.Turns.{StateKept, input, output, opening}
-use Rattle.lines.specs.TurnsLaws.{Running, run-start, run_on, run_ends, run_out}
+use Rattle.lines.specs.TurnsLaws.{Running, run_start, run_on, run_ends, run_out}
 use Rattle.fitlines.specs.Fitlines.{Turn}
 use borrow.Author.Rules.{rules}
 use Rattle.fitlines.proofs.serve.Statement.{statement}
@@ -18,7 +18,7 @@ abbrev decreases-loop : tie.decreases-loop
 decreases-loop buf₀ text₀ s₀ turns₀ buf text s turns = turns
 
 loop-holds : tie.Need-loop-init invariant-loop decreases-loop
-loop-holds c = (c.begin.ensures.0, search rules, search rules, rw c.begin.ensures.1 run-start)
+loop-holds c = (c.begin.ensures.0, search rules, search rules, rw c.begin.ensures.1 run_start)
 
 returns : tie.Need-returns invariant-loop decreases-loop
 returns c =
@@ -33,8 +33,8 @@ loop-again c =
 returns-2 : tie.Need-returns-2 invariant-loop decreases-loop
 returns-2 c = run_out c.before.loop.invariant.3 (omega arith)
 
-pub serve-spec : {M : Type 1} → statement M
-serve-spec =
+pub serve_spec : {M : Type 1} → statement M
+serve_spec =
     tie.close
     (tie.spec
     invariant-loop decreases-loop (λ c κs. search rules) loop-holds (λ c κs. search rules) (λ c. search rules) (λ c. search rules)

@@ -27,7 +27,7 @@ returns-2 : tie.Need-returns-2
 unfolding F.answer_of
 returns-2 c =
     let b2 = c.before.before in
-    rw (← b2.before.before.shape_of.ensures.0, b2.shape2.given.1) c.disk-line.ensures
+    rw (← b2.before.before.shape_of.ensures.0, b2.shape2.given.1) c.disk_line_lem.ensures
 
 returns-3 : tie.Need-returns-3
 unfolding F.answer_of
@@ -41,8 +41,8 @@ returns-5 : tie.Need-returns-5
 unfolding F.answer_of
 returns-5 c = rw (← c.before.before.before.shape_of.ensures.0, c.before.enum-told3.given.1) c.malformed2.ensures
 
-pub answer-to-spec : {M : Type 1} → statement M
-answer-to-spec =
+pub answer_to_spec : {M : Type 1} → statement M
+answer_to_spec =
     tie.close
     (tie.spec
     (λ c κs. search rules) (λ c. search rules) typed-ring-requires (λ c. search rules) (λ c. search rules)

@@ -2,7 +2,7 @@
 use mathlib.Core.Path.{ap}
 use Prim.Native.Nat.{◌+◌}
 use native.Mathlib.Omega.{arith}
-use Rattle.frames.specs.Frames.{lineText, text_of}
+use Rattle.frames.specs.Frames.{line_text, text_of}
 use Rattle.hex.specs.Hex.{Written}
 use Rattle.hex.specs.HexLaws.{written_one, written_then}
 use borrow.Author.Rules.{rules}
@@ -10,7 +10,7 @@ use Rattle.frames.proofs.append.Statement.{statement}
 use Rattle.frames.proofs.append.Tie as tie
 
 returns : tie.Need-returns
-unfolding lineText
+unfolding line_text
 returns c =
     let b2 = c.before.before in
     let b4 = b2.before.before in
@@ -25,8 +25,8 @@ returns c =
     let f = written_one {l = m} {at = at + n} 10 (omega (arith, b8.requires)) in
     (omega arith, rw (← b5.kept-answer.ensures) (written_then w f (omega (arith, b8.requires))))
 
-pub append-spec : {M : Type 1} → statement M
-append-spec =
+pub append_spec : {M : Type 1} → statement M
+append_spec =
     tie.close
     (tie.spec
     (λ c κs. search rules) (λ c κs. search rules) (λ c κs. search rules) (λ c. search rules) (λ c. search rules)

@@ -24,8 +24,8 @@ returns c =
       refl,
     )
 
-pub disk-words-spec : {M : Type 1} → statement M
-disk-words-spec =
+pub disk_words_spec : {M : Type 1} → statement M
+disk_words_spec =
     tie.close
     (tie.spec
     (λ c κs. search rules) (λ c κs. search rules) (λ c κs. search rules) (λ c κs. search rules) (λ c κs. search rules)

@@ -9,8 +9,8 @@ returns c = rw c.before.if1.true c.malformed.ensures
 returns-2 : tie.Need-returns-2
 returns-2 c = rw c.before.if1.false c.answer-to.ensures
 
-pub kept-answer-spec : {M : Type 1} → statement M
-kept-answer-spec =
+pub kept_answer_spec : {M : Type 1} → statement M
+kept_answer_spec =
     tie.close
     (tie.spec
     (λ c κs. search rules) returns (λ c κs. search rules) returns-2)

@@ -9,8 +9,8 @@ returns c =
     let b7 = b4.before.before.before in
     rw (← b7.values.ensures, ← b4.values2.ensures) c.fit-ring24.ensures
 
-pub ring24-line-spec : {M : Type 1} → statement M
-ring24-line-spec =
+pub ring24_line_spec : {M : Type 1} → statement M
+ring24_line_spec =
     tie.close
     (tie.spec
     (λ c. search rules) (λ c κs. search rules) (λ c. search rules) (λ c κs. search rules) (λ c. search rules)

@@ -19,8 +19,8 @@ returns c =
       refl,
     )
 
-pub ring-words-spec : {M : Type 1} → statement M
-ring-words-spec =
+pub ring_words_spec : {M : Type 1} → statement M
+ring_words_spec =
     tie.close
     (tie.spec
     (λ c κs. search rules) (λ c κs. search rules) (λ c κs. search rules) (λ c κs. search rules) (λ c κs. search rules)

@@ -15,10 +15,10 @@ returns c =
     let d : 3 * n - 2 * n ≡ n = omega arith in
     let e : 4 * n - 3 * n ≡ n = omega arith in
     let f : 5 * n - 4 * n ≡ n = omega arith in
-    rw (← (rw (a, b, d, e, f) at c.before.fit-disk.ensures)) c.disk-answered.ensures
+    rw (← (rw (a, b, d, e, f) at c.before.fit-disk.ensures)) c.disk_answered_lem.ensures
 
-pub runs-answered-spec : {M : Type 1} → statement M
-runs-answered-spec =
+pub runs_answered_spec : {M : Type 1} → statement M
+runs_answered_spec =
     tie.close
     (tie.spec
     (λ c. search rules) (λ c. search rules) (λ c. search rules) (λ c. search rules) (λ c. search rules)

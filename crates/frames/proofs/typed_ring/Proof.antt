@@ -48,10 +48,10 @@ returns-2 c =
     let b2 = c.before.before in
     let b5 = b2.before.before.before in
     let one = other b5.args.kind b5.requires.0 (ne_eqb _ _ b2.if1.false) in
-    rw (c.ring-answered2.ensures, c.before.ring-line.ensures, b2.before.answer-type.ensures.0, one)
+    rw (c.ring-answered2.ensures, c.before.ring_line_lem.ensures, b2.before.answer-type.ensures.0, one)
 
-pub typed-ring-spec : {M : Type 1} → statement M
-typed-ring-spec =
+pub typed_ring_spec : {M : Type 1} → statement M
+typed_ring_spec =
     tie.close
     (tie.spec
     (λ c κs. search rules) cast-answer ring24-line-requires (λ c κs. search rules) returns ring-line-requires

@@ -12,8 +12,8 @@ returns-2 c = rw c.before.before.before.before.before.a2.given.1 c.before.before
 returns-3 : tie.Need-returns-3
 returns-3 c = rw c.before.before.before.before.before.a3.given.1 c.before.before.write-refusal.ensures
 
-pub write-answer-spec : {M : Type 1} → statement M
-write-answer-spec =
+pub write_answer_spec : {M : Type 1} → statement M
+write_answer_spec =
     tie.close
     (tie.spec
     (λ c. search rules) (λ c κs. search rules) (λ c. search rules) (λ c κs. search rules) (λ c. search rules)

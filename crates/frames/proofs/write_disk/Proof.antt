@@ -1,15 +1,15 @@
 -- Four writes side by side are one. Assumes nothing.
-use Rattle.frames.specs.FramesLaws.{four-puts}
+use Rattle.frames.specs.FramesLaws.{four_puts}
 use Rattle.frames.specs.Frames as F
-use Rattle.hex.specs.HexLaws.{words-length}
-use Rattle.hex.specs.Hex.{byteText, countText}
+use Rattle.hex.specs.HexLaws.{words_length}
+use Rattle.hex.specs.Hex.{byte_text, count_text}
 use mathlib.Core.Path.{refl}
 use borrow.Author.Rules.{rules}
 use Rattle.frames.proofs.write_disk.Statement.{statement}
 use Rattle.frames.proofs.write_disk.Tie as tie
 
 returns : tie.Need-returns
-unfolding F.diskText
+unfolding F.disk_text
 returns c =
     let b4 = c.before.before.before.before in
     let b8 = b4.before.before.before.before in
@@ -25,12 +25,12 @@ returns c =
         b12.before.before.before.put_count.ensures,
         b20.before.disk-words.ensures.0,
         b16.before.as_number.ensures.1,
-      ) (four-puts b23.args.out.now b23.args.at _ _ _ _ (unfold countText byteText in
-          refl) (words-length (F.diskWords b23.args.m) 11) (unfold countText byteText in refl) (unfold byteText in refl) b23.requires),
+      ) (four_puts b23.args.out.now b23.args.at _ _ _ _ (unfold count_text byte_text in
+          refl) (words_length (F.disk_words b23.args.m) 11) (unfold count_text byte_text in refl) (unfold byte_text in refl) b23.requires),
     )
 
-pub write-disk-spec : {M : Type 1} → statement M
-write-disk-spec =
+pub write_disk_spec : {M : Type 1} → statement M
+write_disk_spec =
     tie.close
     (tie.spec
     (λ c κs. search rules) (λ c. search rules) (λ c κs. search rules) (λ c κs. search rules) (λ c. search rules)

@@ -2,15 +2,15 @@
 use mathlib.Core.Path.{refl}
 use Prim.Native.Nat.{◌+◌}
 use native.Mathlib.Omega.{arith}
-use Rattle.hex.specs.Hex.{countText, byteText, wordsText}
-use Rattle.hex.specs.HexLaws.{put-put, words-length}
+use Rattle.hex.specs.Hex.{count_text, byte_text, words_text}
+use Rattle.hex.specs.HexLaws.{put_put, words_length}
 use Rattle.frames.specs.Frames as F
 use borrow.Author.Rules.{rules}
 use Rattle.frames.proofs.write_ring.Statement.{statement}
 use Rattle.frames.proofs.write_ring.Tie as tie
 
 returns : tie.Need-returns
-unfolding F.ringText countText byteText
+unfolding F.ring_text count_text byte_text
 returns c =
     let b7 = c.before.before.before.before.before.before.before in
     let b9 = b7.before.before in
@@ -20,12 +20,12 @@ returns c =
         c.before.before.put-words.ensures,
         b7.put_count.ensures,
         b9.ring-words.ensures.0,
-      ) (put-put b11.args.out.now b11.args.at _ (wordsText (F.ringWords b11.args.r) 7)
-          (b11.args.at + 4) (omega arith) (omega (arith, words-length (F.ringWords b11.args.r) 7))),
+      ) (put_put b11.args.out.now b11.args.at _ (words_text (F.ring_words b11.args.r) 7)
+          (b11.args.at + 4) (omega arith) (omega (arith, words_length (F.ring_words b11.args.r) 7))),
     )
 
-pub write-ring-spec : {M : Type 1} → statement M
-write-ring-spec =
+pub write_ring_spec : {M : Type 1} → statement M
+write_ring_spec =
     tie.close
     (tie.spec
     (λ c κs. search rules) (λ c. search rules) (λ c κs. search rules) (λ c. search rules) (λ c. search rules)

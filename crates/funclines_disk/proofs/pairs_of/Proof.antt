@@ -15,8 +15,8 @@ decreases-loop pool pairs₀ k₀ pairs k = 276 - k
 loop-again : tie.Need-loop-preserved invariant-loop decreases-loop
 loop-again c = (search rules, simp length-set (search rules))
 
-pub pairs-of-spec : {M : Type 1} → statement M
-pairs-of-spec =
+pub pairs_of_spec : {M : Type 1} → statement M
+pairs_of_spec =
     tie.close
     (tie.spec
     invariant-loop decreases-loop (λ c. search rules) (λ c κs. search rules) (λ c. search rules) (λ c. search rules)

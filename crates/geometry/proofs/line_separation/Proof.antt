@@ -5,8 +5,8 @@ use Rattle.geometry.proofs.line_separation.Statement.{statement}
 use Rattle.geometry.proofs.line_separation.Tie as tie
 
 returns : tie.Need-returns
-unfolding G.lineSeparation
+unfolding G.line_separation
 returns c = search rules
 
-pub line-separation-spec : {M : Type 1} → statement M
-line-separation-spec = tie.close (tie.spec (λ c κs. search rules) returns)
+pub line_separation_spec : {M : Type 1} → statement M
+line_separation_spec = tie.close (tie.spec (λ c κs. search rules) returns)

@@ -5,7 +5,7 @@ use Rattle.geometry.proofs.pair_disagreement.Statement.{statement}
 use Rattle.geometry.proofs.pair_disagreement.Tie as tie
 
 returns : tie.Need-returns
-unfolding G.pairDisagreement
+unfolding G.pair_disagreement
 returns c =
     let b = c.before.before.before.before in
     let d1 = b.before.before.line-delta.ensures.0 in
@@ -14,8 +14,8 @@ returns c =
     let d4 = c.before.before.line-delta4.ensures.0 in
     rw (c.min.ensures, c.before.max2.ensures, d4, d3, b.max.ensures, d2, d1)
 
-pub pair-disagreement-spec : {M : Type 1} → statement M
-pair-disagreement-spec =
+pub pair_disagreement_spec : {M : Type 1} → statement M
+pair_disagreement_spec =
     tie.close
     (tie.spec
     (λ c κs. search rules) (λ c κs. search rules) (λ c κs. search rules) (λ c κs. search rules) (λ c κs. search rules)

@@ -9,8 +9,8 @@ returns : tie.Need-returns
 unfolding byte_of
 returns c = (omega (arith, c.before.before.digit.ensures.0, c.digit2.ensures.0), rw (c.before.before.digit.ensures.1, c.digit2.ensures.1))
 
-pub byte-at-spec : {M : Type 1} → statement M
-byte-at-spec =
+pub byte_at_spec : {M : Type 1} → statement M
+byte_at_spec =
     tie.close
     (tie.spec
     (λ c. search rules) (λ c κs. search rules) (λ c. search rules) (λ c. search rules) (λ c. search rules)

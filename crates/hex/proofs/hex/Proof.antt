@@ -10,8 +10,8 @@ returns c = rw (lt-ltb _ _ c.if1.true)
 returns-2 : tie.Need-returns-2
 returns-2 c = rw (le-ltb _ _ c.if1.false)
 
-pub hex-spec : {M : Type 1} → statement M
-hex-spec =
+pub hex_spec : {M : Type 1} → statement M
+hex_spec =
     tie.close
     (tie.spec
     (λ c. search rules) (λ c. search rules) returns (λ c. search rules) (λ c. search rules) returns-2)

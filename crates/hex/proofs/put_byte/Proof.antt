@@ -4,8 +4,8 @@ use mathlib.Core.Path.{◌≡◌}
 use Prim.Native.Nat.{◌+◌, ◌/◌, ◌%◌}
 use native.Mathlib.Omega.{arith}
 use lib.ListN.{length-set, length}
-use Rattle.hex.specs.Hex.{hexOf, byteText, put}
-use Rattle.hex.specs.HexLaws.{put_one, put-put, put-length}
+use Rattle.hex.specs.Hex.{hex_of, byte_text, put}
+use Rattle.hex.specs.HexLaws.{put_one, put_put, put_length}
 use borrow.Author.Rules.{rules}
 use Rattle.hex.proofs.put_byte.Statement.{statement}
 use Rattle.hex.proofs.put_byte.Tie as tie
@@ -14,24 +14,24 @@ slice-write-out-2 : tie.Need-slice-write-out-2
 slice-write-out-2 c = simp length-set (omega arith)
 
 returns : tie.Need-returns
-unfolding byteText
+unfolding byte_text
 returns c =
     let b3 = c.before.before.before in
     let l = b3.args.out.now in
     let at = b3.args.at in
-    let a = hexOf (b3.args.b / 16) in
-    let b = hexOf (b3.args.b % 16) in
-    let n : length (put l at (a ∷ [])) ≡ length l = put-length l at (a ∷ []) (omega arith) in
+    let a = hex_of (b3.args.b / 16) in
+    let b = hex_of (b3.args.b % 16) in
+    let n : length (put l at (a ∷ [])) ≡ length l = put_length l at (a ∷ []) (omega arith) in
     rw (
       c.before.hex.ensures,
       c.hex2.ensures,
       put_one l at a (omega arith),
       put_one (put l at (a ∷ [])) (at + 1) b (omega arith),
-      put-put l at (a ∷ []) (b ∷ []) (at + 1) (omega arith) (omega arith),
+      put_put l at (a ∷ []) (b ∷ []) (at + 1) (omega arith) (omega arith),
     )
 
-pub put-byte-spec : {M : Type 1} → statement M
-put-byte-spec =
+pub put_byte_spec : {M : Type 1} → statement M
+put_byte_spec =
     tie.close
     (tie.spec
     (λ c κs. search rules) (λ c κs. search rules) (λ c. search rules) (λ c. search rules) slice-write-out-2

@@ -1,20 +1,20 @@
 -- Two bytes side by side are one write. Assumes nothing.
 use native.Mathlib.Omega.{arith}
-use Rattle.hex.specs.Hex.{byteText, countText}
-use Rattle.hex.specs.HexLaws.{put-put}
+use Rattle.hex.specs.Hex.{byte_text, count_text}
+use Rattle.hex.specs.HexLaws.{put_put}
 use borrow.Author.Rules.{rules}
 use Rattle.hex.proofs.put_count.Statement.{statement}
 use Rattle.hex.proofs.put_count.Tie as tie
 
 returns : tie.Need-returns
-unfolding countText byteText
+unfolding count_text byte_text
 returns c =
     let b6 = c.before.before.before.before.before.before in
     let b9 = b6.before.before.before in
-    rw (c.before.before.put-byte2.ensures, b6.put_byte.ensures) (put-put b9.args.out.now b9.args.at _ _ _ (omega arith) (omega arith))
+    rw (c.before.before.put-byte2.ensures, b6.put_byte.ensures) (put_put b9.args.out.now b9.args.at _ _ _ (omega arith) (omega arith))
 
-pub put-count-spec : {M : Type 1} → statement M
-put-count-spec =
+pub put_count_spec : {M : Type 1} → statement M
+put_count_spec =
     tie.close
     (tie.spec
     (λ c κs. search rules) (λ c. search rules) (λ c κs. search rules) (λ c. search rules) returns)

@@ -6,8 +6,8 @@ use Rattle.hex.proofs.value_at.Tie as tie
 returns : tie.Need-returns
 returns c = rw (← c.before.word_at.ensures) c.from-bits.ensures
 
-pub value-at-spec : {M : Type 1} → statement M
-value-at-spec =
+pub value_at_spec : {M : Type 1} → statement M
+value_at_spec =
     tie.close
     (tie.spec
     (λ c κs. search rules) (λ c κs. search rules) returns)

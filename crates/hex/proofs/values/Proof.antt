@@ -5,9 +5,9 @@ use native.Mathlib.Omega.{arith}
 use lib.Ieee.{nan}
 use lib.ListN.{length, set, length-set}
 use Rattle.hex.specs.Hex.{value_of, values_of}
-use Rattle.loops.specs.TabLaws.{stored-all}
+use Rattle.loops.specs.TabLaws.{stored_all}
 use Rattle.loops.specs.Loops.{iter}
-use Rattle.loops.specs.IterLaws.{iter-zero, iter-next}
+use Rattle.loops.specs.IterLaws.{iter_zero, iter_next}
 use borrow.Author.Rules.{rules}
 use Rattle.hex.proofs.values.Statement.{statement}
 use Rattle.hex.proofs.values.Tie as tie
@@ -19,19 +19,19 @@ abbrev decreases-loop : tie.decreases-loop
 decreases-loop s at out₀ n k₀ out k = n - k
 
 loop-holds : tie.Need-loop-init invariant-loop decreases-loop
-loop-holds c = (search rules, search rules, rw iter-zero)
+loop-holds c = (search rules, search rules, rw iter_zero)
 
 loop-again : tie.Need-loop-preserved invariant-loop decreases-loop
-loop-again c = (search rules, simp length-set (search rules), rw iter-next (cc))
+loop-again c = (search rules, simp length-set (search rules), rw iter_next (cc))
 
 returns : tie.Need-returns invariant-loop decreases-loop
 unfolding values_of
 returns c =
     let h : c.before.loop.k ≡ length c.before.before.before.before.args.out.now = omega arith in
-    rw h at c.before.loop.invariant.2 ∙ stored-all _ _ nan
+    rw h at c.before.loop.invariant.2 ∙ stored_all _ _ nan
 
-pub values-spec : {M : Type 1} → statement M
-values-spec =
+pub values_spec : {M : Type 1} → statement M
+values_spec =
     tie.close
     (tie.spec
     invariant-loop decreases-loop loop-holds (λ c. search rules) (λ c. search rules) (λ c κs. search rules)

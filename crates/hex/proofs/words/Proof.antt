@@ -3,10 +3,10 @@ use mathlib.Core.Path.{◌≡◌, ◌∙◌}
 use Prim.Native.Nat.{◌≤◌, ◌+◌, ◌-◌, ◌*◌}
 use native.Mathlib.Omega.{arith}
 use lib.ListN.{length, set, length-set}
-use Rattle.hex.specs.Hex.{word_of, wordListOf}
-use Rattle.loops.specs.TabLaws.{stored-all}
+use Rattle.hex.specs.Hex.{word_of, word_list_of}
+use Rattle.loops.specs.TabLaws.{stored_all}
 use Rattle.loops.specs.Loops.{iter}
-use Rattle.loops.specs.IterLaws.{iter-zero, iter-next}
+use Rattle.loops.specs.IterLaws.{iter_zero, iter_next}
 use borrow.Author.Rules.{rules}
 use Rattle.hex.proofs.words.Statement.{statement}
 use Rattle.hex.proofs.words.Tie as tie
@@ -18,20 +18,20 @@ abbrev decreases-loop : tie.decreases-loop
 decreases-loop s at out₀ n k₀ out k = n - k
 
 loop-holds : tie.Need-loop-init invariant-loop decreases-loop
-loop-holds c = (search rules, search rules, rw iter-zero)
+loop-holds c = (search rules, search rules, rw iter_zero)
 
 loop-again : tie.Need-loop-preserved invariant-loop decreases-loop
-loop-again c = (search rules, simp length-set (search rules), rw iter-next (cc))
+loop-again c = (search rules, simp length-set (search rules), rw iter_next (cc))
 
 returns : tie.Need-returns invariant-loop decreases-loop
-unfolding wordListOf
+unfolding word_list_of
 returns c =
     let b4 = c.before.before.before.before in
     let h : c.before.loop.k ≡ length b4.args.out.now = omega arith in
-    rw h at c.before.loop.invariant.2 ∙ stored-all _ _ 0
+    rw h at c.before.loop.invariant.2 ∙ stored_all _ _ 0
 
-pub words-spec : {M : Type 1} → statement M
-words-spec =
+pub words_spec : {M : Type 1} → statement M
+words_spec =
     tie.close
     (tie.spec
     invariant-loop decreases-loop loop-holds (λ c. search rules) (λ c. search rules) (λ c κs. search rules)

@@ -5,7 +5,7 @@ use Rattle.jengubool.proofs.disk_stored.Statement.{statement}
 use Rattle.jengubool.proofs.disk_stored.Tie as tie
 
 returns : tie.Need-returns
-unfolding J.diskStored
+unfolding J.disk_stored
 returns c =
     let at_a = c.before.before.before.before.before.before.before.before.before.a in
     let at-put-disk = c.before.before.before.before.before.before.put-disk in
@@ -13,11 +13,11 @@ returns c =
     rw (at_a.given.1, at-put-disk.ensures, at-put-trials.ensures)
 
 returns-2 : tie.Need-returns-2
-unfolding J.diskStored
+unfolding J.disk_stored
 returns-2 c = rw c.before.a2.given.1
 
-pub disk-stored-spec : {M : Type 1} → statement M
-disk-stored-spec =
+pub disk_stored_spec : {M : Type 1} → statement M
+disk_stored_spec =
     tie.close
     (tie.spec
     (λ c. search rules) (λ c κs. search rules) (λ c κs. search rules) (λ c. search rules) (λ c. search rules)

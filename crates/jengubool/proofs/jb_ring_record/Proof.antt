@@ -6,15 +6,15 @@ use Rattle.jengubool.proofs.jb_ring_record.Statement.{statement}
 use Rattle.jengubool.proofs.jb_ring_record.Tie as tie
 
 returns : tie.Need-returns
-unfolding J.ringCall
+unfolding J.ring_call
 returns c = rw (lt-ltb _ _ c.if1.true)
 
 returns-2 : tie.Need-returns-2
-unfolding J.ringCall
+unfolding J.ring_call
 returns-2 c = rw (le-ltb _ _ c.before.if1.false, lt-ltb _ _ c.if2.true)
 
 returns-3 : tie.Need-returns-3
-unfolding J.ringCall
+unfolding J.ring_call
 returns-3 c =
     let b4 = c.before.before.before.before in
     let b7 = b4.before.before.before in
@@ -23,7 +23,7 @@ returns-3 c =
     rw (room, le-ltb _ _ b8.before.if2.false, eq-eqb _ _ b8.if3.true, ← b7.fit-ring24.ensures) b4.record-stored.ensures
 
 returns-4 : tie.Need-returns-4
-unfolding J.ringCall
+unfolding J.ring_call
 returns-4 c =
     let b4 = c.before.before.before.before in
     let b7 = b4.before.before.before in
@@ -31,8 +31,8 @@ returns-4 c =
     let room = le-ltb _ _ b8.before.before.if1.false in
     rw (room, le-ltb _ _ b8.before.if2.false, ne_eqb _ _ b8.if3.false, ← b7.fit-ring.ensures) b4.record-stored2.ensures
 
-pub jb-ring-record-spec : {M : Type 1} → statement M
-jb-ring-record-spec =
+pub jb_ring_record_spec : {M : Type 1} → statement M
+jb_ring_record_spec =
     tie.close
     (tie.spec
     returns returns-2 (λ c κs. search rules) (λ c κs. search rules) (λ c. search rules) (λ c. search rules) returns-3

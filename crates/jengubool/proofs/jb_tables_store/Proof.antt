@@ -6,8 +6,8 @@ use Rattle.jengubool.proofs.jb_tables_store.Tie as tie
 returns : tie.Need-returns
 returns c = let stored = c.before.store-table.ensures in (rw (← stored.0) c.refusal-code.ensures, stored.1)
 
-pub jb-tables-store-spec : {M : Type 1} → statement M
-jb-tables-store-spec =
+pub jb_tables_store_spec : {M : Type 1} → statement M
+jb_tables_store_spec =
     tie.close
     (tie.spec
     (λ c κs. search rules) (λ c κs. search rules) returns)

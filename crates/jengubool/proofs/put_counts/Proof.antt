@@ -35,8 +35,8 @@ same_length c = search rules
 returns : tie.Need-returns
 returns c = rw c.before.before.before.as_number.ensures
 
-pub put-counts-spec : {M : Type 1} → statement M
-put-counts-spec =
+pub put_counts_spec : {M : Type 1} → statement M
+put_counts_spec =
     tie.close
     (tie.spec
     as-number-requires

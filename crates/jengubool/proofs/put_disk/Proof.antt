@@ -42,8 +42,8 @@ same_length c = simp length-set refl
 returns : tie.Need-returns
 returns c = refl
 
-pub put-disk-spec : {M : Type 1} → statement M
-put-disk-spec =
+pub put_disk_spec : {M : Type 1} → statement M
+put_disk_spec =
     tie.close
     (tie.spec
     (λ c. search rules) slice-write-fit-2 slice-write-fit-3 slice-write-fit-4 slice-write-fit-5 slice-write-fit-6

@@ -30,8 +30,8 @@ same_length c = search rules
 returns : tie.Need-returns
 returns c = refl
 
-pub put-fit-spec : {M : Type 1} → statement M
-put-fit-spec =
+pub put_fit_spec : {M : Type 1} → statement M
+put_fit_spec =
     tie.close
     (tie.spec
     slice-write-fit

@@ -6,8 +6,8 @@ use Rattle.jengubool.proofs.put_record.Tie as tie
 returns : tie.Need-returns
 returns c = rw c.before.before.put-Fit.ensures
 
-pub put-record-spec : {M : Type 1} → statement M
-put-record-spec =
+pub put_record_spec : {M : Type 1} → statement M
+put_record_spec =
     tie.close
     (tie.spec
     (λ c κs. search rules) (λ c. search rules) (λ c. search rules) returns)

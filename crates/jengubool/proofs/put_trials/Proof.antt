@@ -6,8 +6,8 @@ use Rattle.jengubool.proofs.put_trials.Tie as tie
 returns : tie.Need-returns
 returns c = rw c.before.as_number.ensures
 
-pub put-trials-spec : {M : Type 1} → statement M
-put-trials-spec =
+pub put_trials_spec : {M : Type 1} → statement M
+put_trials_spec =
     tie.close
     (tie.spec
     (λ c κs. search rules) (λ c. search rules) (λ c. search rules) (λ c. search rules) (λ c. search rules) returns)

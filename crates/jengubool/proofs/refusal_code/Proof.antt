@@ -9,8 +9,8 @@ returns c = rw c.before.r.given.1
 returns-2 : tie.Need-returns-2
 returns-2 c = rw c.enum_told.given.1
 
-pub refusal-code-spec : {M : Type 1} → statement M
-refusal-code-spec =
+pub refusal_code_spec : {M : Type 1} → statement M
+refusal_code_spec =
     tie.close
     (tie.spec
     (λ c. search rules) (λ c. search rules) (λ c. search rules) (λ c. search rules) (λ c. search rules)

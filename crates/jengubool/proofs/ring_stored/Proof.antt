@@ -35,7 +35,7 @@ same-length-2 : tie.Need-same-length-2
 same-length-2 c = search rules
 
 returns : tie.Need-returns
-unfolding J.ringStored
+unfolding J.ring_stored
 returns c =
     let at_a = c.before.before.before.before.before.before.before.before.before.a in
     let at-put-fit = c.before.before.before.before.before.before.put-Fit in
@@ -43,11 +43,11 @@ returns c =
     rw (at_a.given.1, at-put-fit.ensures, at-put-counts.ensures)
 
 returns-2 : tie.Need-returns-2
-unfolding J.ringStored
+unfolding J.ring_stored
 returns-2 c = rw c.before.a2.given.1
 
-pub ring-stored-spec : {M : Type 1} → statement M
-ring-stored-spec =
+pub ring_stored_spec : {M : Type 1} → statement M
+ring_stored_spec =
     tie.close
     (tie.spec
     enum-known-a

@@ -6,8 +6,8 @@ use Rattle.lines.proofs.answered.Tie as tie
 returns : tie.Need-returns
 returns c = (search rules, rw c.past.ensures.2)
 
-pub answered-spec : {M : Type 1} → statement M
-answered-spec =
+pub answered_spec : {M : Type 1} → statement M
+answered_spec =
     tie.close
     (tie.spec
     (λ c κs. search rules) returns)

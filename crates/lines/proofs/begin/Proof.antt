@@ -6,8 +6,8 @@ use Rattle.lines.proofs.begin.Tie as tie
 returns : tie.Need-returns
 returns c = (search rules, rw c.start.ensures.2)
 
-pub begin-spec : {M : Type 1} → statement M
-begin-spec =
+pub begin_spec : {M : Type 1} → statement M
+begin_spec =
     tie.close
     (tie.spec
     (λ c κs. search rules) returns)

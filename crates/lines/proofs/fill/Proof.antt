@@ -4,13 +4,13 @@ use Prim.Native.Nat.{◌-◌}
 use native.Mathlib.Omega.{arith}
 use lib.ListN.{length}
 use borrow.Rule.Slice.PartMut.{take_put}
-use Rattle.lines.specs.Lines.{withBlock}
+use Rattle.lines.specs.Lines.{with_block}
 use borrow.Author.Rules.{rules}
 use Rattle.lines.proofs.fill.Statement.{statement}
 use Rattle.lines.proofs.fill.Tie as tie
 
 returns : tie.Need-returns
-unfolding withBlock
+unfolding with_block
 returns c =
     let b6 = c.before.before.before.before.before.before in
     let b11 = b6.before.before.before.before.before in

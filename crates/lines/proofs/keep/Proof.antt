@@ -5,7 +5,7 @@ use native.Mathlib.Omega.{arith}
 use lib.ListN.{length, take, get_or, set, length-set}
 use Rattle.lines.specs.LinesLaws.{untouched, moved_front}
 use Rattle.loops.specs.Loops.{iter}
-use Rattle.loops.specs.IterLaws.{iter-zero, iter-next}
+use Rattle.loops.specs.IterLaws.{iter_zero, iter_next}
 use borrow.Author.Rules.{rules}
 use Rattle.lines.proofs.keep.Statement.{statement}
 use Rattle.lines.proofs.keep.Tie as tie
@@ -17,7 +17,7 @@ abbrev decreases-loop : tie.decreases-loop
 decreases-loop buf₀ at total n i₀ buf i = n - i
 
 loop-holds : tie.Need-loop-init invariant-loop decreases-loop
-loop-holds c = (search rules, search rules, rw iter-zero)
+loop-holds c = (search rules, search rules, rw iter_zero)
 
 loop-again : tie.Need-loop-preserved invariant-loop decreases-loop
 loop-again c =
@@ -26,7 +26,7 @@ loop-again c =
       search rules,
       simp length-set b2.loop.invariant.1,
       rw (
-        iter-next,
+        iter_next,
         ← b2.loop.invariant.2,
         ← untouched (λ p. get_or b3.args.buf.now (b3.args.at + p) 0) b3.args.buf.now (b3.args.at + b2.loop.i) b2.loop.i
             (omega arith),

@@ -8,8 +8,8 @@ returns : tie.Need-returns
 unfolding passed
 returns c = search rules
 
-pub past-spec : {M : Type 1} → statement M
-past-spec =
+pub past_spec : {M : Type 1} → statement M
+past_spec =
     tie.close
     (tie.spec
     returns)

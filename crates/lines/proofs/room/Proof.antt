@@ -10,8 +10,8 @@ returns c = (search rules, rw (le-leb _ _ c.if1.true))
 returns-2 : tie.Need-returns-2
 returns-2 c = (search rules, rw (lt-leb _ _ c.before.if1.false))
 
-pub room-spec : {M : Type 1} → statement M
-room-spec =
+pub room_spec : {M : Type 1} → statement M
+room_spec =
     tie.close
     (tie.spec
     (λ c. search rules) returns (λ c κs. search rules) returns-2)

@@ -4,20 +4,20 @@ use mathlib.Core.Path.{◌∙◌, ap}
 use native.Mathlib.Omega.{arith}
 use lib.Ieee.{binary32, of_bits}
 use lib.Ieee.Nearest.{closest}
-use Rattle.floats.specs.PatternLaws.{no-nan32}
-use Rattle.floats.specs.NarrowLaws.{narrow-zero, narrow-over, narrow-under, narrow-mid, power_in, kept-low-in, kept-high-in}
+use Rattle.floats.specs.PatternLaws.{no_nan32}
+use Rattle.floats.specs.NarrowLaws.{narrow_zero, narrow_over, narrow_under, narrow_mid, power_in, kept_low_in, kept_high_in}
 use borrow.Author.Rules.{rules}
 use Rattle.narrowing.proofs.narrow_bits.Statement.{statement}
 use Rattle.narrowing.proofs.narrow_bits.Tie as tie
 
 returns : tie.Need-returns
-returns c = narrow-zero c.before.args.b c.before.requires c.if1.true
+returns c = narrow_zero c.before.args.b c.before.requires c.if1.true
 
 float-from-bits-result : tie.Need-float-from-bits-result
-float-from-bits-result c = no-nan32 0x7f800000 (omega arith)
+float-from-bits-result c = no_nan32 0x7f800000 (omega arith)
 
 returns-2 : tie.Need-returns-2
-returns-2 c = narrow-over c.before.before.args.b c.before.before.requires c.if2.true
+returns-2 c = narrow_over c.before.before.args.b c.before.before.requires c.if2.true
 
 add-m : tie.Need-overflow-add-m
 add-m c = search rules
@@ -35,19 +35,19 @@ cast-result : tie.Need-overflow-cast-result
 cast-result c =
     let at-args = c.before.before.before.before.before.args in
     let at-power = c.before.power in
-    omega (arith, kept-low-in c.rounded.result at-args.b _ _ c.rounded.ensures at-power.ensures (omega arith))
+    omega (arith, kept_low_in c.rounded.result at-args.b _ _ c.rounded.ensures at-power.ensures (omega arith))
 
 float-from-bits-result-2 : tie.Need-float-from-bits-result-2
 float-from-bits-result-2 c =
     let at-args = c.before.before.before.before.before.args in
     let at-power = c.before.power in
-    no-nan32 c.rounded.result (omega (arith, kept-low-in c.rounded.result at-args.b _ _ c.rounded.ensures at-power.ensures (omega arith)))
+    no_nan32 c.rounded.result (omega (arith, kept_low_in c.rounded.result at-args.b _ _ c.rounded.ensures at-power.ensures (omega arith)))
 
 returns-3 : tie.Need-returns-3
 returns-3 c = let s = c.before.before.before.before.before in
     let b = s.args.b in
     ap (of_bits binary32) (c.rounded.ensures ∙ ap (closest (4503599627370496 + b % 4503599627370496)) c.before.power.ensures) ∙
-    narrow-under b s.requires (omega arith) (omega arith)
+    narrow_under b s.requires (omega arith) (omega arith)
 
 rounded-requires-2 : tie.Need-rounded-requires-2
 rounded-requires-2 c κs = search rules
@@ -56,21 +56,21 @@ mul-p : tie.Need-overflow-mul-p
 mul-p c = search rules
 
 add-p : tie.Need-overflow-add-p
-add-p c = omega (arith, kept-high-in c.rounded2.result c.before.before.before.before.args.b c.rounded2.ensures)
+add-p c = omega (arith, kept_high_in c.rounded2.result c.before.before.before.before.args.b c.rounded2.ensures)
 
 cast-result-2 : tie.Need-overflow-cast-result-2
-cast-result-2 c = omega (arith, kept-high-in c.rounded2.result c.before.before.before.before.args.b c.rounded2.ensures)
+cast-result-2 c = omega (arith, kept_high_in c.rounded2.result c.before.before.before.before.args.b c.rounded2.ensures)
 
 float-from-bits-result-3 : tie.Need-float-from-bits-result-3
-float-from-bits-result-3 c = no-nan32 _ (omega (arith, kept-high-in c.rounded2.result c.before.before.before.before.args.b c.rounded2.ensures))
+float-from-bits-result-3 c = no_nan32 _ (omega (arith, kept_high_in c.rounded2.result c.before.before.before.before.args.b c.rounded2.ensures))
 
 returns-4 : tie.Need-returns-4
 returns-4 c = let s = c.before.before.before.before in
     let b = s.args.b in
-    ap (λ q. of_bits binary32 ((b / 4503599627370496 - 897) * 8388608 + q)) c.rounded2.ensures ∙ narrow-mid b s.requires (omega arith) (omega arith)
+    ap (λ q. of_bits binary32 ((b / 4503599627370496 - 897) * 8388608 + q)) c.rounded2.ensures ∙ narrow_mid b s.requires (omega arith) (omega arith)
 
-pub narrow-bits-spec : {M : Type 1} → statement M
-narrow-bits-spec =
+pub narrow_bits_spec : {M : Type 1} → statement M
+narrow_bits_spec =
     tie.close
     (tie.spec
     returns

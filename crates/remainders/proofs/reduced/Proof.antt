@@ -6,7 +6,7 @@ use native.Mathlib.Nat.{le_of_lt, lt_of_le_of_lt, mod-eq_of_lt, mul-le-mul}
 use native.Mathlib.Omega.{arith}
 use lib.Dec.{lit<}
 use lib.Pow.{pow_mono}
-use Rattle.remainders.specs.RemainderLaws.{mod-part}
+use Rattle.remainders.specs.RemainderLaws.{mod_part}
 use Rattle.remainders.proofs.reduced.Statement.{statement}
 use Rattle.remainders.proofs.reduced.Tie as tie
 
@@ -31,7 +31,7 @@ loop-less c = omega arith
 
 loop-again : tie.Need-loop-preserved invariant-loop decreases-loop
 loop-again c = let l = c.before.loop in
-    (omega arith, mod-part l.n 32 l.j 13176795 (omega arith) ∙ l.invariant.1)
+    (omega arith, mod_part l.n 32 l.j 13176795 (omega arith) ∙ l.invariant.1)
 
 shl-result : tie.Need-overflow-shl-result invariant-loop decreases-loop
 shl-result c = omega arith
@@ -40,6 +40,6 @@ returns : tie.Need-returns invariant-loop decreases-loop
 returns c = let l = c.before.loop in
     ap (λ (z : ℕ). z % 13176795) (moved_up l.n l.j l.invariant.0 (omega arith)) ∙ l.invariant.1
 
-pub reduced-spec : {M : Type 1} → statement M
-reduced-spec =
+pub reduced_spec : {M : Type 1} → statement M
+reduced_spec =
     tie.close (tie.spec invariant-loop decreases-loop loop-holds mul-n loop-less loop-again shl-result returns)

@@ -8,21 +8,21 @@ use lib.Dec.{T, le→leb, lit<, lit≤}
 use lib.IntN.{pos}
 use lib.Ieee.{Float, binary32, in_float, ne, eq, sub}
 use lib.Ieee.Scale.{finite}
-use Rattle.floats.specs.FiniteLaws.{finite-test, of-true, finite_number}
-use Rattle.remainders.specs.RemainderLaws.{rem-wild, far-field, far-rem, modulus, M}
+use Rattle.floats.specs.FiniteLaws.{finite_test, of_true, finite_number}
+use Rattle.remainders.specs.RemainderLaws.{rem_wild, far_field, far_rem, modulus, M}
 use borrow.Author.Rules.{rules}
-use borrow.Author.Tests.{not-true, not-false}
+use borrow.Author.Tests.{not-true, not_false}
 use Rattle.remainders.proofs.rem_far.Statement.{statement}
 use Rattle.remainders.proofs.rem_far.Tie as tie
 
 -- the test of x - x
 wild : (x : Float) → ne (sub binary32 x x) (sub binary32 x x) ≡ true → finite x ≡ false
 unfolding ne
-wild x e = sym (finite-test binary32 x) ∙ not-true (eq (sub binary32 x x) (sub binary32 x x)) e
+wild x e = sym (finite_test binary32 x) ∙ not-true (eq (sub binary32 x x) (sub binary32 x x)) e
 
 tame : (x : Float) → ne (sub binary32 x x) (sub binary32 x x) ≡ false → T (finite x)
 unfolding ne
-tame x e = of-true (sym (finite-test binary32 x) ∙ not-false (eq (sub binary32 x x) (sub binary32 x x)) e)
+tame x e = of_true (sym (finite_test binary32 x) ∙ not_false (eq (sub binary32 x x) (sub binary32 x x)) e)
 
 -- a remainder is small enough for an exact cast
 exact : (r a : ℕ) → r ≡ a % M → T (in_float binary32 (pos r))
@@ -31,7 +31,7 @@ exact r a e = le→leb r 16777216 (subst (λ (z : ℕ). z ≤ 16777216) (sym e) 
 
 returns : tie.Need-returns
 returns c = let s = c.before in
-    rem-wild binary32 s.args.x (modulus s.args.q) (wild s.args.x c.if1.true)
+    rem_wild binary32 s.args.x (modulus s.args.q) (wild s.args.x c.if1.true)
 
 float-to-bits-b : tie.Need-float-to-bits-b
 float-to-bits-b c = finite_number c.before.args.x (tame c.before.args.x c.if1.false)
@@ -41,11 +41,11 @@ add-m c = search rules
 
 sub-k : tie.Need-overflow-sub-k
 sub-k c = let s = c.before in
-    omega (arith, far-field s.args.x s.args.q s.requires.0 (of-true s.well-formed.0.1) (tame s.args.x c.if1.false) s.requires.1)
+    omega (arith, far_field s.args.x s.args.q s.requires.0 (of_true s.well-formed.0.1) (tame s.args.x c.if1.false) s.requires.1)
 
 sub-k-2 : tie.Need-overflow-sub-k-2
 sub-k-2 c = let s = c.before in
-    omega (arith, far-field s.args.x s.args.q s.requires.0 (of-true s.well-formed.0.1) (tame s.args.x c.if1.false) s.requires.1)
+    omega (arith, far_field s.args.x s.args.q s.requires.0 (of_true s.well-formed.0.1) (tame s.args.x c.if1.false) s.requires.1)
 
 cast-reduced : tie.Need-overflow-cast-reduced
 cast-reduced c = search rules
@@ -65,11 +65,11 @@ step-requires c κs = search rules
 returns-2 : tie.Need-returns-2
 returns-2 c = let i = c.before.before.before in
     let s = i.before in
-    far-rem s.args.x s.args.q s.requires.0 (of-true s.well-formed.0.1) (tame s.args.x i.if1.false) s.requires.1 c.step.result
+    far_rem s.args.x s.args.q s.requires.0 (of_true s.well-formed.0.1) (tame s.args.x i.if1.false) s.requires.1 c.step.result
     c.before.before.reduced.result c.step.ensures c.before.before.reduced.ensures
 
-pub rem-far-spec : {M : Type 1} → statement M
-rem-far-spec =
+pub rem_far_spec : {M : Type 1} → statement M
+rem_far_spec =
     tie.close
     (tie.spec
     returns

@@ -3,23 +3,23 @@ use mathlib.Core.Logic.{⊎_elim}
 use lib.Dec.{lit<, lit≤}
 use lib.Ieee.{binary32}
 use Rattle.floats.specs.Ops.{tau}
-use Rattle.floats.specs.FiniteLaws.{of-true}
-use Rattle.floats.specs.RemLaws.{W, tau-val, tau-rep}
-use Rattle.remainders.specs.RemainderLaws.{rem-within, within-if, too-low}
+use Rattle.floats.specs.FiniteLaws.{of_true}
+use Rattle.floats.specs.RemLaws.{W, tau_val, tau_rep}
+use Rattle.remainders.specs.RemainderLaws.{rem_within, within_if, too_low_lem}
 use Rattle.remainders.proofs.rem_tau.Statement.{statement}
 use Rattle.remainders.proofs.rem_tau.Tie as tie
 
 returns : tie.Need-returns
 returns c = let s = c.before.before in
-    rem-within binary32 s.args.x tau W (lit< tt) (of-true s.well-formed.0.1) tau-val tau-rep
-    (within-if s.args.x tau c.before.if1.true c.if2.true)
+    rem_within binary32 s.args.x tau W (lit< tt) (of_true s.well-formed.0.1) tau_val tau_rep
+    (within_if s.args.x tau c.before.if1.true c.if2.true)
 
 rem-far-requires : tie.Need-rem-far-requires
 rem-far-requires c κs = let x = c.before.args.x in
-    (lit≤ tt, ⊎_elim (λ w. within-if x tau w.0.taken w.1.left) (λ w. too-low x tau w.left) c.if1.branch)
+    (lit≤ tt, ⊎_elim (λ w. within_if x tau w.0.taken w.1.left) (λ w. too_low_lem x tau w.left) c.if1.branch)
 
 returns-2 : tie.Need-returns-2
 returns-2 c = c.rem-far.ensures
 
-pub rem-tau-spec : {M : Type 1} → statement M
-rem-tau-spec = tie.close (tie.spec returns rem-far-requires returns-2)
+pub rem_tau_spec : {M : Type 1} → statement M
+rem_tau_spec = tie.close (tie.spec returns rem-far-requires returns-2)

@@ -14,8 +14,8 @@ returns c =
     let made = c6.start.ensures in
     (rw (made.0, c10.first-seed.ensures, c17.second-harmonic.ensures, c21.deviations.ensures, c22.total.ensures, c23.count-f32.ensures), made.1)
 
-pub first-start-spec : {M : Type 1} → statement M
-first-start-spec =
+pub first_start_spec : {M : Type 1} → statement M
+first_start_spec =
     tie.close
     (tie.spec
     (λ c κs. search rules) (λ c κs. search rules) (λ c κs. search rules) (λ c. search rules) (λ c. search rules)

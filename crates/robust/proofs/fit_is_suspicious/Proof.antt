@@ -7,7 +7,7 @@ use Rattle.robust.proofs.fit_is_suspicious.Tie as tie
 
 -- the first test held, or the second, or the third
 returns : tie.Need-returns
-unfolding R.fitIsSuspicious
+unfolding R.fit_is_suspicious
 returns c =
     let first = c.before.is_finite.ensures in
     ⊎_elim
@@ -18,7 +18,7 @@ returns c =
     c.if1.branch
 
 returns-2 : tie.Need-returns-2
-unfolding R.fitIsSuspicious
+unfolding R.fit_is_suspicious
 returns-2 c =
     let third = c.before in
     let second = third.before.before.before in
@@ -27,5 +27,5 @@ returns-2 c =
     let f2 = third.before.before.if2.false in
     rw (← first.is_finite.ensures, f1, ← second.is-finite2.ensures, f2, third.if3.false) c.is-triggered.ensures
 
-pub fit-is-suspicious-spec : {M : Type 1} → statement M
-fit-is-suspicious-spec = tie.close (tie.spec (λ c κs. search rules) (λ c κs. search rules) returns (λ c κs. search rules) returns-2)
+pub fit_is_suspicious_spec : {M : Type 1} → statement M
+fit_is_suspicious_spec = tie.close (tie.spec (λ c κs. search rules) (λ c κs. search rules) returns (λ c κs. search rules) returns-2)

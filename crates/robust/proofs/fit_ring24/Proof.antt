@@ -1,7 +1,7 @@
 -- The first start is answered alone, or with the grid's behind it where it is suspicious. Assumes nothing.
 use mathlib.Core.Path.{◌∙◌, sym}
 use native.Mathlib.Omega.{arith}
-use Rattle.robust.specs.RobustLaws.{ring-alone, ring-chosen}
+use Rattle.robust.specs.RobustLaws.{ring_alone, ring_chosen}
 use borrow.Author.Rules.{rules}
 use Rattle.robust.proofs.fit_ring24.Statement.{statement}
 use Rattle.robust.proofs.fit_ring24.Tie as tie
@@ -20,16 +20,16 @@ returns c =
     let c5 = c.before.before.before.before.before in
     let c11 = c5.before.before.before.before.before.before in
     let suspicious = sym c5.before.fit-is-suspicious.ensures ∙ c5.if1.true in
-    ring-chosen _ _ _ _ _ _ c11.first-start.ensures.0 suspicious c.before.with-grid-24.ensures
+    ring_chosen _ _ _ _ _ _ c11.first-start.ensures.0 suspicious c.before.with-grid-24.ensures
 
 returns-2 : tie.Need-returns-2
 returns-2 c =
     let c7 = c.before.before.before.before.before.before.before in
     let calm = sym c.before.before.fit-is-suspicious.ensures ∙ c.before.if1.false in
-    ring-alone _ _ _ _ _ _ c7.first-start.ensures.0 calm c.alone.ensures
+    ring_alone _ _ _ _ _ _ c7.first-start.ensures.0 calm c.alone.ensures
 
-pub fit-ring24-spec : {M : Type 1} → statement M
-fit-ring24-spec =
+pub fit_ring24_spec : {M : Type 1} → statement M
+fit_ring24_spec =
     tie.close
     (tie.spec
     (λ c. search rules) (λ c. search rules) (λ c. search rules) (λ c κs. search rules) (λ c κs. search rules)

@@ -16,8 +16,8 @@ returns-2 c =
     let at-if1 = c.before.if1 in
     rw (← at-line-separation.ensures.0, ← at-is-outside.ensures, at-if1.false, ← c.relative-rms.ensures)
 
-pub is-triggered-spec : {M : Type 1} → statement M
-is-triggered-spec =
+pub is_triggered_spec : {M : Type 1} → statement M
+is_triggered_spec =
     tie.close
     (tie.spec
     (λ c κs. search rules) (λ c κs. search rules) returns (λ c κs. search rules) returns-2)

@@ -9,8 +9,8 @@ refined-requires c κs =
     let c18 = c9.before.before.before.before.before.before.before.before.before in
     record { few = c18.requires.few; phi = c18.requires.phi; sines = c9.prepare.ensures; j = search rules }
 
-pub refine-seed-candidates-spec : {M : Type 1} → statement M
-refine-seed-candidates-spec =
+pub refine_seed_candidates_spec : {M : Type 1} → statement M
+refine_seed_candidates_spec =
     tie.close
     (tie.spec
     (λ c. search rules) (λ c. search rules) (λ c. search rules) (λ c κs. search rules) refined-requires

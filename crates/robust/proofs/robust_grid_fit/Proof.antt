@@ -9,8 +9,8 @@ grid-fit-requires c κs =
     let c20 = c10.before.before.before.before.before.before.before.before.before.before in
     (record { few = c20.requires.0.few; phi = c20.requires.0.phi; sines = c10.prepare.ensures; j = search rules }, c20.requires.1)
 
-pub robust-grid-fit-spec : {M : Type 1} → statement M
-robust-grid-fit-spec =
+pub robust_grid_fit_spec : {M : Type 1} → statement M
+robust_grid_fit_spec =
     tie.close
     (tie.spec
     (λ c. search rules) (λ c. search rules) (λ c. search rules) (λ c κs. search rules) grid-fit-requires

@@ -3,7 +3,7 @@ use mathlib.Core.Path.{◌≡◌}
 use Prim.Native.Nat.{◌≤◌, ◌-◌}
 use native.Mathlib.Omega.{arith}
 use lib.ListN.{length}
-use Rattle.loops.specs.IterLaws.{iter-zero, iter-next}
+use Rattle.loops.specs.IterLaws.{iter_zero, iter_next}
 use Rattle.robust.specs.Robust as R
 use borrow.Author.Rules.{rules}
 use Rattle.robust.proofs.total.Statement.{statement}
@@ -17,17 +17,17 @@ decreases-loop samples n s₀ i₀ s i = n - i
 
 loop-holds : tie.Need-loop-init invariant-loop decreases-loop
 unfolding R.total
-loop-holds c = (search rules, rw iter-zero)
+loop-holds c = (search rules, rw iter_zero)
 
 loop-again : tie.Need-loop-preserved invariant-loop decreases-loop
 unfolding R.total
-loop-again c = (search rules, rw (iter-next, ← c.before.before.loop.invariant.1))
+loop-again c = (search rules, rw (iter_next, ← c.before.before.loop.invariant.1))
 
 returns : tie.Need-returns invariant-loop decreases-loop
 returns c = let h : c.before.loop.i ≡ length c.before.before.args.samples.now = omega arith in rw h at c.before.loop.invariant.1
 
-pub total-spec : {M : Type 1} → statement M
-total-spec =
+pub total_spec : {M : Type 1} → statement M
+total_spec =
     tie.close
     (tie.spec
     invariant-loop decreases-loop loop-holds (λ c. search rules) (λ c. search rules) (λ c. search rules) (λ c. search rules)

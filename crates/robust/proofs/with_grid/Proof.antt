@@ -6,8 +6,8 @@ use Rattle.robust.proofs.with_grid.Tie as tie
 returns : tie.Need-returns
 returns c = rw (← c.before.before.before.before.before.grid-fit.ensures) c.chosen.ensures
 
-pub with-grid-spec : {M : Type 1} → statement M
-with-grid-spec =
+pub with_grid_spec : {M : Type 1} → statement M
+with_grid_spec =
     tie.close
     (tie.spec
     (λ c κs. search rules) (λ c κs. search rules) (λ c. search rules) (λ c. search rules) returns)

@@ -19,8 +19,8 @@ returns c =
     let d : 1 + t * 4696 + 4696 - (1 + t * 4696) ≡ 4696 = omega arith in
     rw (← (rw d at c3.cached-fit.ensures)) c.chosen.ensures
 
-pub with-table-spec : {M : Type 1} → statement M
-with-table-spec =
+pub with_table_spec : {M : Type 1} → statement M
+with_table_spec =
     tie.close
     (tie.spec
     (λ c. search rules) (λ c. search rules) (λ c. search rules) (λ c. search rules) (λ c. search rules)

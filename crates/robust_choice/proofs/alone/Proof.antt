@@ -6,8 +6,8 @@ use Rattle.robust_choice.proofs.alone.Tie as tie
 returns : tie.Need-returns
 returns c = refl
 
-pub alone-spec : {M : Type 1} → statement M
-alone-spec =
+pub alone_spec : {M : Type 1} → statement M
+alone_spec =
     tie.close
     (tie.spec
     returns)

@@ -11,8 +11,8 @@ returns-2 c =
     let l = c.before.before in
     rw (l.before.before.s.given.1, l.lower.ensures)
 
-pub chosen-spec : {M : Type 1} → statement M
-chosen-spec =
+pub chosen_spec : {M : Type 1} → statement M
+chosen_spec =
     tie.close
     (tie.spec
     (λ c. search rules) (λ c. search rules) (λ c κs. search rules) returns (λ c κs. search rules) returns-2)

@@ -5,7 +5,7 @@ use native.Mathlib.Omega.{arith}
 use lib.ListN.{length, take, drop, length-take, length-drop}
 use Rattle.loops.specs.TabLaws.{part_length}
 use Rattle.robust_grid.specs.Places as P
-use Rattle.robust_grid.specs.PlaceLaws.{row_is, grid-none, grid-more}
+use Rattle.robust_grid.specs.PlaceLaws.{row_is, grid_none, grid_more}
 use borrow.Author.Rules.{rules}
 use Rattle.robust_grid.proofs.fill_grid.Statement.{statement}
 use Rattle.robust_grid.proofs.fill_grid.Tie as tie
@@ -17,7 +17,7 @@ abbrev decreases-loop : tie.decreases-loop
 decreases-loop sphi cphi h₀ n sines cosines i₀ h i = n - i
 
 loop-holds : tie.Need-loop-init invariant-loop decreases-loop
-loop-holds c = (search rules, search rules, grid-none)
+loop-holds c = (search rules, search rules, grid_none)
 
 loop-again : tie.Need-loop-preserved invariant-loop decreases-loop
 loop-again c =
@@ -32,7 +32,7 @@ loop-again c =
     let m : length (take (i * 24 + 24 - i * 24) (drop (i * 24) h)) ≡ 24 = simp (length-take, length-drop) (omega arith) in
     let len = part_length h row (i * 24) (i * 24 + 24 - i * 24) (omega arith) (c.before.before.grid-row.auto.1.1.1.1.0 ∙ m ∙ sym d) in
     let is = c.before.before.grid-row.ensures ∙ row_is _ _ _ _ c12.grid-axes.ensures in
-    (search rules, len ∙ inv.1, grid-more _ _ inv.2 (omega arith) is)
+    (search rules, len ∙ inv.1, grid_more _ _ inv.2 (omega arith) is)
 
 returns : tie.Need-returns invariant-loop decreases-loop
 returns c =
@@ -40,8 +40,8 @@ returns c =
     let h : c.before.loop.i ≡ length c10.args.sphi.now = omega arith in
     rw h at c.before.loop.invariant.2
 
-pub fill-grid-spec : {M : Type 1} → statement M
-fill-grid-spec =
+pub fill_grid_spec : {M : Type 1} → statement M
+fill_grid_spec =
     tie.close
     (tie.spec
     invariant-loop decreases-loop (λ c. search rules) (λ c. search rules) (λ c κs. search rules) loop-holds (λ c. search rules)

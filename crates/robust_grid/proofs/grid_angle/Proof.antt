@@ -7,8 +7,8 @@ use Rattle.robust_grid.proofs.grid_angle.Tie as tie
 returns : tie.Need-returns
 returns c = rw (step_is, ← c.count-f32.ensures)
 
-pub grid-angle-spec : {M : Type 1} → statement M
-grid-angle-spec =
+pub grid_angle_spec : {M : Type 1} → statement M
+grid_angle_spec =
     tie.close
     (tie.spec
     (λ c κs. search rules) returns)

@@ -4,7 +4,7 @@ use Prim.Native.Nat.{◌≤◌, ◌-◌}
 use native.Mathlib.Omega.{arith}
 use lib.ListN.{get_or}
 use lib.Ieee.{nan}
-use Rattle.loops.specs.TabLaws.{Stores, stores-none, stores-next, stores-all}
+use Rattle.loops.specs.TabLaws.{Stores, stores_none, stores_next, stores_all}
 use Rattle.robust_grid.specs.Grid.{factor}
 use Rattle.robust_grid.specs.Places as P
 use borrow.Author.Rules.{rules}
@@ -18,22 +18,22 @@ abbrev decreases-loop : tie.decreases-loop
 decreases-loop s c sines cosines row₀ a₀ row a = 24 - a
 
 loop-holds : tie.Need-loop-init invariant-loop decreases-loop
-loop-holds c = (search rules, stores-none _ _)
+loop-holds c = (search rules, stores_none _ _)
 
 loop-again : tie.Need-loop-preserved invariant-loop decreases-loop
 unfolding factor
 loop-again c =
     let c4 = c.before.before.before.before in
-    (search rules, stores-next _ _ _ _ _ c4.loop.invariant.1 c.tanh.ensures)
+    (search rules, stores_next _ _ _ _ _ c4.loop.invariant.1 c.tanh.ensures)
 
 returns : tie.Need-returns invariant-loop decreases-loop
-unfolding P.rowFrom
+unfolding P.row_from
 returns c =
     let h : c.before.loop.a ≡ 24 = omega arith in
-    stores-all _ _ _ nan _ (rw h at c.before.loop.invariant.1) (omega arith)
+    stores_all _ _ _ nan _ (rw h at c.before.loop.invariant.1) (omega arith)
 
-pub grid-row-spec : {M : Type 1} → statement M
-grid-row-spec =
+pub grid_row_spec : {M : Type 1} → statement M
+grid_row_spec =
     tie.close
     (tie.spec
     invariant-loop decreases-loop loop-holds (λ c. search rules) (λ c. search rules) (λ c. search rules) (λ c. search rules)

@@ -7,5 +7,5 @@ use Rattle.robust_grid.proofs.is_pair.Tie as tie
 returns : tie.Need-returns
 returns c = rw (← c.last_of.ensures) refl
 
-pub is-pair-spec : {M : Type 1} → statement M
-is-pair-spec = tie.close (tie.spec (λ c. search rules) (λ c κs. search rules) returns)
+pub is_pair_spec : {M : Type 1} → statement M
+is_pair_spec = tie.close (tie.spec (λ c. search rules) (λ c κs. search rules) returns)

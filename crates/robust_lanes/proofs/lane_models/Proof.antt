@@ -11,5 +11,5 @@ returns c =
     let n = c.before.before.requires ∙ ap count c.before.if1.true ∙ sixteen in
     rw n c.models-by.ensures
 
-pub lane-models-spec : {M : Type 1} → statement M
-lane-models-spec = tie.close (tie.spec (λ c κs. search rules) returns (λ c κs. search rules) (λ c. search rules))
+pub lane_models_spec : {M : Type 1} → statement M
+lane_models_spec = tie.close (tie.spec (λ c κs. search rules) returns (λ c κs. search rules) (λ c. search rules))

@@ -10,5 +10,5 @@ sums-of-requires c κs = let pre = c.before.before.before.requires in (pre.0, sy
 returns : tie.Need-returns
 returns c = rw c.before.if1.true c.sums-of.ensures
 
-pub lane-sums-spec : {M : Type 1} → statement M
-lane-sums-spec = tie.close (tie.spec sums-of-requires returns (λ c κs. search rules) (λ c. search rules))
+pub lane_sums_spec : {M : Type 1} → statement M
+lane_sums_spec = tie.close (tie.spec sums-of-requires returns (λ c κs. search rules) (λ c. search rules))

@@ -10,8 +10,8 @@ returns c =
     let c8 = c4.before.before.before.before in
     rw (c4.plus.ensures, c.before.before.plus2.ensures, c.plus3.ensures, c3.squared.ensures, c.before.times2.ensures, c8.times.ensures)
 
-pub lanes-added-spec : {M : Type 1} → statement M
-lanes-added-spec =
+pub lanes_added_spec : {M : Type 1} → statement M
+lanes_added_spec =
     tie.close
     (tie.spec
     (λ c κs. search rules) (λ c κs. search rules) (λ c κs. search rules) (λ c κs. search rules) (λ c κs. search rules)

@@ -11,5 +11,5 @@ returns c =
     let n = c.before.before.requires ∙ ap count c.before.if1.true ∙ sixteen in
     rw n c.squares-of.ensures
 
-pub mean-squares-spec : {M : Type 1} → statement M
-mean-squares-spec = tie.close (tie.spec (λ c κs. search rules) returns (λ c κs. search rules) (λ c. search rules))
+pub mean_squares_spec : {M : Type 1} → statement M
+mean_squares_spec = tie.close (tie.spec (λ c κs. search rules) returns (λ c κs. search rules) (λ c. search rules))

@@ -8,5 +8,5 @@ returns : tie.Need-returns
 unfolding div of_bits
 returns c = (refl, record { is = refl })
 
-pub none-yet-spec : {M : Type 1} → statement M
-none-yet-spec = tie.close (tie.spec returns)
+pub none_yet_spec : {M : Type 1} → statement M
+none_yet_spec = tie.close (tie.spec returns)

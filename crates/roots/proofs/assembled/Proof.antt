@@ -2,8 +2,8 @@
 use Prim.Native.Nat.{◌+◌, ◌*◌}
 use mathlib.Core.Path.{sym}
 use native.Mathlib.Omega.{arith}
-use Rattle.floats.specs.PatternLaws.{no-nan32}
-use Rattle.floats.specs.RootLaws.{units-pattern}
+use Rattle.floats.specs.PatternLaws.{no_nan32}
+use Rattle.floats.specs.RootLaws.{units_pattern}
 use borrow.Author.Rules.{rules}
 use Rattle.roots.proofs.assembled.Statement.{statement}
 use Rattle.roots.proofs.assembled.Tie as tie
@@ -18,10 +18,10 @@ cast-result : tie.Need-overflow-cast-result
 cast-result c = search rules
 
 float-from-bits-result : tie.Need-float-from-bits-result
-float-from-bits-result c = no-nan32 (c.args.h * 8388608 + c.args.p) (omega arith)
+float-from-bits-result c = no_nan32 (c.args.h * 8388608 + c.args.p) (omega arith)
 
 returns : tie.Need-returns
-returns c = sym (units-pattern c.args.p c.args.h (omega arith) (omega arith) (omega arith))
+returns c = sym (units_pattern c.args.p c.args.h (omega arith) (omega arith) (omega arith))
 
-pub assembled-spec : {M : Type 1} → statement M
-assembled-spec = tie.close (tie.spec mul-b add-b cast-result float-from-bits-result returns)
+pub assembled_spec : {M : Type 1} → statement M
+assembled_spec = tie.close (tie.spec mul-b add-b cast-result float-from-bits-result returns)

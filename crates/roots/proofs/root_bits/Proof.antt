@@ -1,7 +1,7 @@
 -- Assumes nothing.
 use mathlib.Core.Path.{◌∙◌}
 use native.Mathlib.Omega.{arith}
-use Rattle.floats.specs.RootLaws.{sqrt-low, sqrt-high}
+use Rattle.floats.specs.RootLaws.{sqrt_low, sqrt_high}
 use borrow.Author.Rules.{rules}
 use Rattle.roots.proofs.root_bits.Statement.{statement}
 use Rattle.roots.proofs.root_bits.Tie as tie
@@ -14,7 +14,7 @@ root-small-requires c κs = search rules
 
 returns : tie.Need-returns
 returns c = let s = c.before.before in
-    c.root-small.ensures ∙ sqrt-low s.args.b (omega arith) (omega arith) c.before.if1.true
+    c.root-small.ensures ∙ sqrt_low s.args.b (omega arith) (omega arith) c.before.if1.true
 
 add-root-parts : tie.Need-overflow-add-root-parts
 add-root-parts c = search rules
@@ -33,10 +33,10 @@ root-parts-requires c κs = search rules
 
 returns-2 : tie.Need-returns-2
 returns-2 c = let s = c.before.before in
-    c.root-parts.ensures ∙ sqrt-high s.args.b (omega arith) c.before.if1.false
+    c.root-parts.ensures ∙ sqrt_high s.args.b (omega arith) c.before.if1.false
 
-pub root-bits-spec : {M : Type 1} → statement M
-root-bits-spec =
+pub root_bits_spec : {M : Type 1} → statement M
+root_bits_spec =
     tie.close
     (tie.spec
     cast-root-small

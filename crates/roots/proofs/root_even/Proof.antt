@@ -7,15 +7,15 @@ use native.Mathlib.Nat.{lt_of_lt_of_le, le_of_eq, mul-add, add-mul}
 use lib.Dec.{ltb}
 use lib.Ieee.{binary32, units}
 use borrow.Author.Tests.{ltb-true, ltb-false}
-use Rattle.floats.specs.RootLaws.{root-above, root_below, root-up, root-stay, suc-square}
-use Rattle.floats.specs.Library.{rootUnits}
+use Rattle.floats.specs.RootLaws.{root_above, root_below, root_up, root_stay, suc_square}
+use Rattle.floats.specs.Library.{root_units}
 use borrow.Author.Rules.{rules}
 use Rattle.roots.proofs.root_even.Statement.{statement}
 use Rattle.roots.proofs.root_even.Tie as tie
 
 -- a number below the next square, in the words of IsRoot
 next : (m q : ℕ) → m ≤ q * q + q + q → m < suc q * suc q
-next m q h = lt_of_lt_of_le (grown m q h) (le_of_eq (suc-square q))
+next m q h = lt_of_lt_of_le (grown m q h) (le_of_eq (suc_square q))
   where
     grown : (m q : ℕ) → m ≤ q * q + q + q → m < (q + 1) * (q + 1)
     grown m q h = omega (arith, mul-add (q + 1) q 1, add-mul q 1 q)
@@ -44,23 +44,23 @@ module _ (m s : ℕ) (a : 2 ^ 46 ≤ m) (b : m < 2 ^ 48) (u : m ≤ s * s + s) (
       go : (t : Bool) → ltb m (s * s) ≡ t → (8388608 ≤ s) × (s ≤ 16777216)
       go false t =
           let f : s * s ≤ m = ltb-false m (s * s) t in
-          (root-above m s a (next m s (omega arith)), omega (arith, root_below m s f b))
+          (root_above m s a (next m s (omega arith)), omega (arith, root_below m s f b))
       go true t =
           let f : m < s * s = ltb-true m (s * s) t in
           let w = lower m s (s - 1) (above_zero m s f) f l in
-          let q = root-above m (s - 1) a (next m (s - 1) w.2) in
+          let q = root_above m (s - 1) a (next m (s - 1) w.2) in
           let r = root_below m (s - 1) w.0 b in
           (omega (arith, q), omega (arith, r))
 
-  near : (h : ℕ) → h < 200 → units binary32 false s h ≡ rootUnits binary32 (m * (2 ^ h * 2 ^ h))
+  near : (h : ℕ) → h < 200 → units binary32 false s h ≡ root_units binary32 (m * (2 ^ h * 2 ^ h))
   near h k = go (ltb m (s * s)) refl
     where
-      go : (t : Bool) → ltb m (s * s) ≡ t → units binary32 false s h ≡ rootUnits binary32 (m * (2 ^ h * 2 ^ h))
-      go false t = root-stay m h s (ltb-false m (s * s) t, next m s (omega arith)) a b k u
+      go : (t : Bool) → ltb m (s * s) ≡ t → units binary32 false s h ≡ root_units binary32 (m * (2 ^ h * 2 ^ h))
+      go false t = root_stay m h s (ltb-false m (s * s) t, next m s (omega arith)) a b k u
       go true t =
           let f : m < s * s = ltb-true m (s * s) t in
           let w = lower m s (s - 1) (above_zero m s f) f l in
-          ap (λ (z : ℕ). units binary32 false z h) (above_zero m s f) ∙ root-up m h (s - 1) (w.0, next m (s - 1) w.2) a b k w.1
+          ap (λ (z : ℕ). units binary32 false z h) (above_zero m s f) ∙ root_up m h (s - 1) (w.0, next m (s - 1) w.2) a b k w.1
 
 nearest-root-requires : tie.Need-nearest-root-requires
 nearest-root-requires c κs = search rules
@@ -75,5 +75,5 @@ returns c =
     ∙ near c.before.before.args.m c.before.nearest-root.result (omega arith) (omega arith) c.before.nearest-root.ensures.0
     c.before.nearest-root.ensures.1 c.before.before.args.h (omega arith)
 
-pub root-even-spec : {M : Type 1} → statement M
-root-even-spec = tie.close (tie.spec nearest-root-requires assembled-requires returns)
+pub root_even_spec : {M : Type 1} → statement M
+root_even_spec = tie.close (tie.spec nearest-root-requires assembled-requires returns)

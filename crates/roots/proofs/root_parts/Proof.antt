@@ -8,8 +8,8 @@ use mir.Facts.{Fits-le, Fits-lit}
 use lib.Dec.{ltb}
 use lib.Ieee.{binary32}
 use borrow.Author.Tests.{ltb-true, ltb-false}
-use Rattle.floats.specs.RootLaws.{even-split, odd-split}
-use Rattle.floats.specs.Library.{rootUnits}
+use Rattle.floats.specs.RootLaws.{even_split, odd_split}
+use Rattle.floats.specs.Library.{root_units}
 use borrow.Author.Rules.{rules}
 use Rattle.roots.proofs.root_parts.Statement.{statement}
 use Rattle.roots.proofs.root_parts.Tie as tie
@@ -60,11 +60,11 @@ split m j h = go (ltb 0 (j % 2)) refl
     go true t =
         let l : 0 < j % 2 = ltb-true 0 (j % 2) t in
         same (m * 8388608 * (1 + (1 - j % 2))) (m * 8388608) (j - 23 - (1 - j % 2)) (j - 23) (ap (λ (z : ℕ). m * 8388608 * z) (none j l) ∙
-        mul-one (m * 8388608)) (still j l) ∙ odd-split m j (omega arith) (odd j l)
+        mul-one (m * 8388608)) (still j l) ∙ odd_split m j (omega arith) (odd j l)
     go false t =
         let l : j % 2 ≤ 0 = ltb-false 0 (j % 2) t in
         same (m * 8388608 * (1 + (1 - j % 2))) (m * 16777216) (j - 23 - (1 - j % 2)) (j - 24) (ap (λ (z : ℕ). m * 8388608 * z) (one j l) ∙
-        mul_assoc m 8388608 2) (less j l) ∙ even-split m j h (even j l)
+        mul_assoc m 8388608 2) (less j l) ∙ even_split m j h (even j l)
 
 sub_wide : tie.Need-overflow-sub-wide
 sub_wide c = search rules
@@ -102,10 +102,10 @@ root-even-requires c κs =
     )
 
 returns : tie.Need-returns
-returns c = c.root-even.ensures ∙ ap (rootUnits binary32) (split c.before.before.args.m c.before.before.args.j (omega arith))
+returns c = c.root-even.ensures ∙ ap (root_units binary32) (split c.before.before.args.m c.before.before.args.j (omega arith))
 
-pub root-parts-spec : {M : Type 1} → statement M
-root-parts-spec =
+pub root_parts_spec : {M : Type 1} → statement M
+root_parts_spec =
     tie.close
     (tie.spec
     sub_wide

@@ -4,8 +4,8 @@ use mathlib.Core.Path.{◌≡◌, ◌∙◌, ap, sym}
 use native.Mathlib.Nat.{mul-one}
 use native.Mathlib.Omega.{arith}
 use lib.Ieee.{binary32}
-use Rattle.floats.specs.RootLaws.{few-shifts, shift-more, shift_back}
-use Rattle.floats.specs.Library.{rootUnits}
+use Rattle.floats.specs.RootLaws.{few_shifts, shift_more, shift_back}
+use Rattle.floats.specs.Library.{root_units}
 use Rattle.roots.proofs.root_small.Statement.{statement}
 use Rattle.roots.proofs.root_small.Tie as tie
 
@@ -29,14 +29,14 @@ loop-less c =
     let at-args = c.before.before.args in
     let at-loop = c.before.loop in
     let at_pre = c.before.before.requires in
-    omega (arith, few-shifts at-args.t at-loop.m at-loop.i at_pre.0 at-loop.invariant.0 c.loop-test.true)
+    omega (arith, few_shifts at-args.t at-loop.m at-loop.i at_pre.0 at-loop.invariant.0 c.loop-test.true)
 
 loop-again : tie.Need-loop-preserved invariant-loop decreases-loop
 loop-again c = (
-  shift-more c.before.before.args.t c.before.loop.m c.before.loop.i c.before.loop.invariant.0,
+  shift_more c.before.before.args.t c.before.loop.m c.before.loop.i c.before.loop.invariant.0,
   omega (
     arith,
-    few-shifts c.before.before.args.t c.before.loop.m c.before.loop.i c.before.before.requires.0
+    few_shifts c.before.before.args.t c.before.loop.m c.before.loop.i c.before.before.requires.0
         c.before.loop.invariant.0 c.loop-test.true,
   ),
   omega arith,
@@ -51,10 +51,10 @@ root-parts-requires c κs = omega arith
 returns : tie.Need-returns invariant-loop decreases-loop
 returns c = let s = c.before.before.before in
     let l = c.before.before.loop in
-    c.root-parts.ensures ∙ ap (rootUnits binary32) (shift_back s.args.t l.m l.i (omega arith) l.invariant.0)
+    c.root-parts.ensures ∙ ap (root_units binary32) (shift_back s.args.t l.m l.i (omega arith) l.invariant.0)
 
-pub root-small-spec : {M : Type 1} → statement M
-root-small-spec =
+pub root_small_spec : {M : Type 1} → statement M
+root_small_spec =
     tie.close
     (tie.spec
     invariant-loop

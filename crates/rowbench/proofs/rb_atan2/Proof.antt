@@ -15,8 +15,8 @@ decreases-loop ys xs out₀ n p₀ out p = n - p
 loop-again : tie.Need-loop-preserved invariant-loop decreases-loop
 loop-again c = (search rules, simp length-set (search rules))
 
-pub rb-atan2-spec : {M : Type 1} → statement M
-rb-atan2-spec =
+pub rb_atan2_spec : {M : Type 1} → statement M
+rb_atan2_spec =
     tie.close
     (tie.spec
     invariant-loop decreases-loop (λ c κs. search rules) (λ c κs. search rules) (λ c. search rules) (λ c. search rules)

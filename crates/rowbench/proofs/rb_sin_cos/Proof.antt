@@ -15,8 +15,8 @@ decreases-loop xs ss₀ cs₀ n p₀ ss cs p = n - p
 loop-again : tie.Need-loop-preserved invariant-loop decreases-loop
 loop-again c = (search rules, simp length-set (search rules), simp length-set (search rules))
 
-pub rb-sin-cos-spec : {M : Type 1} → statement M
-rb-sin-cos-spec =
+pub rb_sin_cos_spec : {M : Type 1} → statement M
+rb_sin_cos_spec =
     tie.close
     (tie.spec
     invariant-loop decreases-loop (λ c κs. search rules) (λ c κs. search rules) (λ c. search rules) (λ c. search rules)

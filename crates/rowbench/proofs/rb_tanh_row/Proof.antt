@@ -15,8 +15,8 @@ decreases-loop xs ys row₀ s c w n p₀ row p = n - p
 loop-again : tie.Need-loop-preserved invariant-loop decreases-loop
 loop-again c = (search rules, simp length-set (search rules))
 
-pub rb-tanh-row-spec : {M : Type 1} → statement M
-rb-tanh-row-spec =
+pub rb_tanh_row_spec : {M : Type 1} → statement M
+rb_tanh_row_spec =
     tie.close
     (tie.spec
     invariant-loop decreases-loop (λ c κs. search rules) (λ c κs. search rules) (λ c. search rules) (λ c. search rules)

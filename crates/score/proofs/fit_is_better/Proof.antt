@@ -5,14 +5,14 @@ use Rattle.score.proofs.fit_is_better.Statement.{statement}
 use Rattle.score.proofs.fit_is_better.Tie as tie
 
 returns : tie.Need-returns
-unfolding S.fitIsBetter
+unfolding S.fit_is_better
 returns c =
     let c3 = c.before.before.before in
     let c4 = c3.before in
     rw (c.lower4.ensures, c.before.lower3.ensures, c.before.before.higher.ensures, c3.lower2.ensures, c4.lower.ensures)
 
-pub fit-is-better-spec : {M : Type 1} → statement M
-fit-is-better-spec =
+pub fit_is_better_spec : {M : Type 1} → statement M
+fit_is_better_spec =
     tie.close
     (tie.spec
     (λ c κs. search rules) (λ c κs. search rules) (λ c κs. search rules) (λ c κs. search rules) (λ c κs. search rules)

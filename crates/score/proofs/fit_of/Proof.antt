@@ -5,7 +5,7 @@ use Rattle.score.proofs.fit_of.Statement.{statement}
 use Rattle.score.proofs.fit_of.Tie as tie
 
 returns : tie.Need-returns
-unfolding S.fitOf
+unfolding S.fit_of
 returns c =
     let c3 = c.before.before.before in
     let c4 = c3.before in
@@ -21,8 +21,8 @@ returns c =
       c6.max.ensures,
     )
 
-pub fit-of-spec : {M : Type 1} → statement M
-fit-of-spec =
+pub fit_of_spec : {M : Type 1} → statement M
+fit_of_spec =
     tie.close
     (tie.spec
     (λ c κs. search rules) (λ c κs. search rules) (λ c κs. search rules) (λ c κs. search rules) (λ c κs. search rules)

@@ -5,7 +5,7 @@ use Rattle.score.proofs.fit_std_errors.Statement.{statement}
 use Rattle.score.proofs.fit_std_errors.Tie as tie
 
 returns : tie.Need-returns
-unfolding S.fitStdErrors S.fitStanding
+unfolding S.fit_std_errors S.fit_standing
 returns c =
     let c3 = c.before.before.before in
     let c4 = c3.before in
@@ -17,8 +17,8 @@ returns c =
       ← c.before.before.narrow.ensures,
     ) c.axis-std-errors.ensures
 
-pub fit-std-errors-spec : {M : Type 1} → statement M
-fit-std-errors-spec =
+pub fit_std_errors_spec : {M : Type 1} → statement M
+fit_std_errors_spec =
     tie.close
     (tie.spec
     (λ c κs. search rules) (λ c κs. search rules) (λ c κs. search rules) (λ c κs. search rules) (λ c κs. search rules)

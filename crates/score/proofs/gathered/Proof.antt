@@ -13,8 +13,8 @@ returns c =
     let c13 = c12.before in
     rw (c10.widen4.ensures, c11.widen3.ensures, c12.widen2.ensures, c13.widen.ensures)
 
-pub gathered-spec : {M : Type 1} → statement M
-gathered-spec =
+pub gathered_spec : {M : Type 1} → statement M
+gathered_spec =
     tie.close
     (tie.spec
     (λ c κs. search rules) (λ c κs. search rules) (λ c κs. search rules) (λ c κs. search rules) returns)

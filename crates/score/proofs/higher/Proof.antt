@@ -12,8 +12,8 @@ returns-2 c = rw (c.before.before.if1.false, ← c.before.abs.ensures, c.if2.tru
 returns-3 : tie.Need-returns-3
 returns-3 c = rw (c.before.before.if1.false, ← c.before.abs.ensures, c.if2.false)
 
-pub higher-spec : {M : Type 1} → statement M
-higher-spec =
+pub higher_spec : {M : Type 1} → statement M
+higher_spec =
     tie.close
     (tie.spec
     returns (λ c κs. search rules) returns-2 returns-3)

@@ -8,8 +8,8 @@ returns : tie.Need-returns
 unfolding of_bits
 returns c = refl
 
-pub no-moments-spec : {M : Type 1} → statement M
-no-moments-spec =
+pub no_moments_spec : {M : Type 1} → statement M
+no_moments_spec =
     tie.close
     (tie.spec
     returns)

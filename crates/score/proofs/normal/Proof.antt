@@ -29,8 +29,8 @@ returns c =
       c10.count-f64.ensures,
     )
 
-pub normal-spec : {M : Type 1} → statement M
-normal-spec =
+pub normal_spec : {M : Type 1} → statement M
+normal_spec =
     tie.close
     (tie.spec
     (λ c κs. search rules) (λ c κs. search rules) (λ c κs. search rules) (λ c κs. search rules) (λ c κs. search rules)

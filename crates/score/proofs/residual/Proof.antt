@@ -9,8 +9,8 @@ returns : tie.Need-returns
 unfolding S.residual of_bits
 returns c = rw (c.max-f64.ensures, c.before.before.before.widen.ensures, c.before.before.before.before.count-f64.ensures)
 
-pub residual-spec : {M : Type 1} → statement M
-residual-spec =
+pub residual_spec : {M : Type 1} → statement M
+residual_spec =
     tie.close
     (tie.spec
     (λ c κs. search rules) (λ c κs. search rules) (λ c κs. search rules) returns)

@@ -5,15 +5,15 @@ use Rattle.score.proofs.scored_sums.Statement.{statement}
 use Rattle.score.proofs.scored_sums.Tie as tie
 
 returns : tie.Need-returns
-unfolding S.scoredSums
+unfolding S.scored_sums
 returns c = rw c.if1.true
 
 returns-2 : tie.Need-returns-2
-unfolding S.scoredSums
+unfolding S.scored_sums
 returns-2 c = rw (c.before.if1.false, c.fit_of.ensures)
 
-pub scored-sums-spec : {M : Type 1} → statement M
-scored-sums-spec =
+pub scored_sums_spec : {M : Type 1} → statement M
+scored_sums_spec =
     tie.close
     (tie.spec
     returns (λ c κs. search rules) returns-2)

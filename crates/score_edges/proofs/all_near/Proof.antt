@@ -4,7 +4,7 @@ use Prim.Native.Nat.{◌≤◌, ◌-◌}
 use native.Mathlib.Omega.{arith}
 use lib.ListN.{length}
 use borrow.Author.Tests.{eqb-true}
-use Rattle.score_edges.specs.NearLaws.{AllNear, all-near-none, all-near-next, far-most}
+use Rattle.score_edges.specs.NearLaws.{AllNear, all_near_none, all_near_next, far_most}
 use borrow.Author.Rules.{rules}
 use Rattle.score_edges.proofs.all_near.Statement.{statement}
 use Rattle.score_edges.proofs.all_near.Tie as tie
@@ -16,15 +16,15 @@ abbrev decreases-loop : tie.decreases-loop
 decreases-loop angles theta n count₀ p₀ count p = n - p
 
 loop-holds : tie.Need-loop-init invariant-loop decreases-loop
-loop-holds c = (search rules, search rules, λ e. all-near-none _ _)
+loop-holds c = (search rules, search rules, λ e. all_near_none _ _)
 
 add-count : tie.Need-overflow-add-count invariant-loop decreases-loop
-add-count c = let h = far-most _ _ c.far.ensures in search (rules, h)
+add-count c = let h = far_most _ _ c.far.ensures in search (rules, h)
 
 loop-again : tie.Need-loop-preserved invariant-loop decreases-loop
 loop-again c =
-    let h = far-most _ _ c.far.ensures in
-    (search rules, omega (arith, h), all-near-next _ _ _ _ _ c.before.before.before.loop.invariant.2 c.far.ensures)
+    let h = far_most _ _ c.far.ensures in
+    (search rules, omega (arith, h), all_near_next _ _ _ _ _ c.before.before.before.loop.invariant.2 c.far.ensures)
 
 returns : tie.Need-returns invariant-loop decreases-loop
 returns c = λ e.
@@ -32,8 +32,8 @@ returns c = λ e.
     let h : c.before.loop.p ≡ length a.grad-angles.now = omega arith in
     rw h at (c.before.loop.invariant.2 (eqb-true _ _ e))
 
-pub all-near-spec : {M : Type 1} → statement M
-all-near-spec =
+pub all_near_spec : {M : Type 1} → statement M
+all_near_spec =
     tie.close
     (tie.spec
     invariant-loop decreases-loop loop-holds (λ c. search rules) (λ c. search rules) (λ c κs. search rules) add-count

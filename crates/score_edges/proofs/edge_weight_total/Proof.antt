@@ -5,11 +5,11 @@ use Rattle.score_edges.proofs.edge_weight_total.Statement.{statement}
 use Rattle.score_edges.proofs.edge_weight_total.Tie as tie
 
 returns : tie.Need-returns
-unfolding E.edgeWeightTotal
+unfolding E.edge_weight_total
 returns c = c.ordered-sum.ensures
 
-pub edge-weight-total-spec : {M : Type 1} → statement M
-edge-weight-total-spec =
+pub edge_weight_total_spec : {M : Type 1} → statement M
+edge_weight_total_spec =
     tie.close
     (tie.spec
     (λ c κs. search rules) returns)

@@ -5,12 +5,12 @@ use Rattle.score_edges.proofs.far.Statement.{statement}
 use Rattle.score_edges.proofs.far.Tie as tie
 
 returns : tie.Need-returns
-unfolding N.farCount
+unfolding N.far_count
 returns c = rw (c.before.if1.true, c.if2.true)
 
 returns-2 : tie.Need-returns-2
-unfolding N.farCount
+unfolding N.far_count
 returns-2 c = ⊎_elim (λ w. rw (w.0.taken, w.1.left)) (λ w. rw w.left) c.if1.branch
 
-pub far-spec : {M : Type 1} → statement M
-far-spec = tie.close (tie.spec returns returns-2)
+pub far_spec : {M : Type 1} → statement M
+far_spec = tie.close (tie.spec returns returns-2)

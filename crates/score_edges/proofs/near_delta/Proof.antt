@@ -5,11 +5,11 @@ use Rattle.score_edges.proofs.near_delta.Statement.{statement}
 use Rattle.score_edges.proofs.near_delta.Tie as tie
 
 returns : tie.Need-returns
-unfolding N.nearDelta
+unfolding N.near_delta
 returns c = rw (c.raised-pi.ensures, c.before.less-pi.ensures)
 
-pub near-delta-spec : {M : Type 1} → statement M
-near-delta-spec =
+pub near_delta_spec : {M : Type 1} → statement M
+near_delta_spec =
     tie.close
     (tie.spec
     (λ c κs. search rules) (λ c κs. search rules) returns)

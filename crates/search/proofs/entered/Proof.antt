@@ -12,8 +12,8 @@ returns-2 : tie.Need-returns-2
 unfolding S.entered
 returns-2 c = (search rules, rw (c.before.before.answer.given.1, c.insert-top.ensures))
 
-pub entered-spec : {M : Type 1} → statement M
-entered-spec =
+pub entered_spec : {M : Type 1} → statement M
+entered_spec =
     tie.close
     (tie.spec
     (λ c. search rules) (λ c. search rules) (λ c. search rules) returns (λ c κs. search rules) returns-2)

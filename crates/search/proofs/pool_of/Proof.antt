@@ -7,7 +7,7 @@ use Rattle.search.proofs.pool_of.Statement.{statement}
 use Rattle.search.proofs.pool_of.Tie as tie
 
 returns : tie.Need-returns
-unfolding S.poolOf
+unfolding S.pool_of
 returns c =
     let c2 = c.before.before in
     let c4 = c2.before.before in
@@ -19,8 +19,8 @@ returns c =
           c.build-pair-pool.ensures.1,
     )
 
-pub pool-of-spec : {M : Type 1} → statement M
-pool-of-spec =
+pub pool_of_spec : {M : Type 1} → statement M
+pool_of_spec =
     tie.close
     (tie.spec
     (λ c. search rules) (λ c. search rules) (λ c. search rules) (λ c. search rules) (λ c. search rules)

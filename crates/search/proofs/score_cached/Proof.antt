@@ -3,13 +3,13 @@ use mathlib.Core.Path.{◌≡◌}
 use Prim.Native.Nat.{◌+◌, ◌-◌, ◌*◌}
 use native.Mathlib.Omega.{arith}
 use lib.ListN.{length}
-use Rattle.search.specs.Cache.{cachedScore}
+use Rattle.search.specs.Cache.{cached_score}
 use borrow.Author.Rules.{rules}
 use Rattle.search.proofs.score_cached.Statement.{statement}
 use Rattle.search.proofs.score_cached.Tie as tie
 
 returns : tie.Need-returns
-unfolding cachedScore
+unfolding cached_score
 returns c = λ xs ys angles weights l.
     let s = c.before.before.before.before.before.before.before.before.before in
     let n = length s.args.vals-centered.now in
@@ -19,8 +19,8 @@ returns c = λ xs ys angles weights l.
     let y : j * 320 + n - j * 320 ≡ n = omega arith in
     rw l (rw (x, y, l) at (c.score-pair-cached.ensures xs ys angles weights l))
 
-pub score-cached-spec : {M : Type 1} → statement M
-score-cached-spec =
+pub score_cached_spec : {M : Type 1} → statement M
+score_cached_spec =
     tie.close
     (tie.spec
     (λ c. search rules) (λ c. search rules) (λ c. search rules) (λ c. search rules) (λ c. search rules)

@@ -2,7 +2,7 @@
 use mathlib.Core.Path.{sym}
 use native.Mathlib.Omega.{arith}
 use borrow.Author.Tests.{eq-eqb, ne_eqb}
-use Rattle.search_ranking.specs.SinkLaws.{rank_most, rank-pairs}
+use Rattle.search_ranking.specs.SinkLaws.{rank_most, rank_pairs}
 use Rattle.search.specs.Search as S
 use Rattle.search.specs.CacheLaws.{listed}
 use borrow.Author.Rules.{rules}
@@ -43,10 +43,10 @@ returns-2 c =
     let a = s.args in
     let e = p.pool-of.ensures.1 a.val-energy a.xs.now a.ys.now a.vals-centered.now (sym s.requires.2.a) in
     let l = t.try-all.ensures.1 a.grad-angles.now a.grad-weights.now in
-    rw (← e, ne_eqb _ _ r.before.if1.false, ← rank-pairs _ _ r.rank.ensures, ← l) c.led.ensures
+    rw (← e, ne_eqb _ _ r.before.if1.false, ← rank_pairs _ _ r.rank.ensures, ← l) c.led.ensures
 
-pub search-set-spec : {M : Type 1} → statement M
-search-set-spec =
+pub search_set_spec : {M : Type 1} → statement M
+search_set_spec =
     tie.close
     (tie.spec
     (λ c κs. search rules) returns (λ c κs. search rules) try-all-requires led-requires returns-2)

@@ -1,6 +1,6 @@
 -- Both rows are filled by then, so that the cache's score is the definition's. Assumes nothing.
 use mathlib.Core.Path.{sym, ◌∙◌, ap}
-use Rattle.search.specs.CacheLaws.{cached-score}
+use Rattle.search.specs.CacheLaws.{cached_score_lem}
 use Rattle.search.specs.Search as S
 use Rattle.score.specs.declared.Scored.{Scored}
 use borrow.Author.Rules.{rules}
@@ -18,13 +18,13 @@ returns c =
       e2.0,
       c.entered.ensures.0,
       λ angles weights.
-          let score = cached-score _ _ _ a.vals-centered.now angles weights _ _ a.p e2.0 first e2.1.here in
+          let score = cached_score_lem _ _ _ a.vals-centered.now angles weights _ _ a.p e2.0 first e2.1.here in
           let answer = c.before.score-cached.ensures a.xs.now a.ys.now angles weights (sym s.requires.3.v) in
           c.entered.ensures.1 ∙ ap (λ (x : Scored). S.entered a.pass.leaders x) (answer ∙ score),
     )
 
-pub try-pair-spec : {M : Type 1} → statement M
-try-pair-spec =
+pub try_pair_spec : {M : Type 1} → statement M
+try_pair_spec =
     tie.close
     (tie.spec
     (λ c. search rules) (λ c. search rules) (λ c κs. search rules) (λ c κs. search rules) (λ c κs. search rules)

@@ -6,12 +6,12 @@ use lib.ListN.{take, get_or}
 use lib.Seq.{get_or-take}
 use Rattle.floats.specs.Rows.{Row}
 use Rattle.loops.specs.Loops.{iter}
-use Rattle.loops.specs.IterLaws.{iter-zero, iter-more}
-use Rattle.data.specs.Data.{diskOf}
+use Rattle.loops.specs.IterLaws.{iter_zero, iter_more}
+use Rattle.data.specs.Data.{disk_of}
 use Rattle.search_ranking.specs.Ranking.{blank}
 use Rattle.search.specs.Search as S
 use Rattle.search.specs.Cache.{Cached}
-use Rattle.search.specs.CacheLaws.{cached-none}
+use Rattle.search.specs.CacheLaws.{cached_none}
 use borrow.Author.Rules.{rules}
 use Rattle.search.proofs.try_width.Statement.{statement}
 use Rattle.search.proofs.try_width.Tie as tie
@@ -20,8 +20,8 @@ abbrev invariant-loop : tie.invariant-loop
 invariant-loop val-energy xs ys vals-centered candidates width cache₀ ranked k pass₀ r₀ cache pass r =
     let ps = take ranked.n ranked.pairs in
     (r ≤ k) × Cached xs ys candidates width pass.filled cache × (pass.leaders.trials ≡ pass₀.leaders.trials + r)
-    × ((angles weights : Row) → let D = diskOf val-energy xs ys vals-centered angles weights in
-    pass.leaders ≡ iter (λ r l. S.entered l (S.pairScored D candidates width (get_or ps r blank))) pass₀.leaders r)
+    × ((angles weights : Row) → let D = disk_of val-energy xs ys vals-centered angles weights in
+    pass.leaders ≡ iter (λ r l. S.entered l (S.pair_scored D candidates width (get_or ps r blank))) pass₀.leaders r)
 
 abbrev decreases-loop : tie.decreases-loop
 decreases-loop val-energy xs ys vals-centered candidates width cache₀ ranked k pass₀ r₀ cache pass r = k - r
@@ -29,7 +29,7 @@ decreases-loop val-energy xs ys vals-centered candidates width cache₀ ranked k
 loop-holds : tie.Need-loop-init invariant-loop decreases-loop
 loop-holds c =
     let s = c.before.before.before.before in
-    (search rules, cached-none _ _ _ _ _ s.requires.3, omega arith, λ angles weights. rw iter-zero)
+    (search rules, cached_none _ _ _ _ _ s.requires.3, omega arith, λ angles weights. rw iter_zero)
 
 try-pair-requires : tie.Need-try-pair-requires invariant-loop decreases-loop
 try-pair-requires c κs =
@@ -47,7 +47,7 @@ loop-again c =
     let s = l.before.before.before.before.before in
     let i = l.loop.invariant in
     let e = get_or-take s.args.t7.n s.args.t7.pairs l.loop.r blank c.before.before.before.before.before.loop-test.true in
-    (search rules, t.0, omega (arith, t.1, i.2), λ angles weights. iter-more _ _ _ _ _ (i.3 angles weights) (rw e (t.2 angles weights)))
+    (search rules, t.0, omega (arith, t.1, i.2), λ angles weights. iter_more _ _ _ _ _ (i.3 angles weights) (rw e (t.2 angles weights)))
 
 returns : tie.Need-returns invariant-loop decreases-loop
 unfolding S.tried_at
@@ -58,8 +58,8 @@ returns c =
     let i = rw h at l.loop.invariant in
     (i.1.room, i.2, λ angles weights. rw s.requires.1.full (i.3 angles weights))
 
-pub try-width-spec : {M : Type 1} → statement M
-try-width-spec =
+pub try_width_spec : {M : Type 1} → statement M
+try_width_spec =
     tie.close
     (tie.spec
     invariant-loop decreases-loop loop-holds (λ c. search rules) (λ c. search rules) try-pair-requires (λ c. search rules)

@@ -7,8 +7,8 @@ use Rattle.search_refine.proofs.offset_at.Tie as tie
 returns : tie.Need-returns
 returns c = rw (c.place.ensures.0, c.before.to_radians.ensures) (offset_at _ c.before.before.requires)
 
-pub offset-at-spec : {M : Type 1} → statement M
-offset-at-spec =
+pub offset_at_spec : {M : Type 1} → statement M
+offset_at_spec =
     tie.close
     (tie.spec
     (λ c. search rules) (λ c. search rules) (λ c κs. search rules) (λ c κs. search rules) (λ c. search rules)

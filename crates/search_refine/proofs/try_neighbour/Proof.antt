@@ -2,8 +2,8 @@
 -- Assumes nothing.
 use mathlib.Core.Path.{◌∙◌, sym}
 use native.Mathlib.Omega.{arith}
-use Rattle.data.specs.Data.{diskOf}
-use Rattle.search_refine.specs.RefineLaws.{tried-held, kept_on}
+use Rattle.data.specs.Data.{disk_of}
+use Rattle.search_refine.specs.RefineLaws.{tried_held, kept_on}
 use borrow.Author.Rules.{rules}
 use Rattle.search_refine.proofs.try_neighbour.Statement.{statement}
 use Rattle.search_refine.proofs.try_neighbour.Tie as tie
@@ -39,15 +39,15 @@ returns c =
     let a = s.args in
     let one = h1.hold.ensures in
     let two = h2.hold2.ensures in
-    let D = diskOf a.val-energy a.xs.now a.ys.now a.vals-centered.now a.grad-angles.now a.grad-weights.now in
+    let D = disk_of a.val-energy a.xs.now a.ys.now a.vals-centered.now a.grad-angles.now a.grad-weights.now in
     let total = two.total ∙ one.total in
     let first = two.still _ _ (omega (arith, i.slot_of.ensures)) (λ e. omega (arith, i.slot_of.ensures, j.slot-of2.ensures)) one.here in
     let answer = c.before.score-held.ensures a.xs.now a.ys.now a.grad-angles.now a.grad-weights.now (sym s.requires.2.v) in
-    let e = tried-held _ _ _ o.offset_at.result _ _ _ _ _ c.judge.ensures.1 answer total first two.here in
+    let e = tried_held _ _ _ o.offset_at.result _ _ _ _ _ c.judge.ensures.1 answer total first two.here in
     (c.judge.ensures.0, kept_on D _ o.offset_at.result _ _ e two.kept, total, rw (← o.offset_at.ensures) e)
 
-pub try-neighbour-spec : {M : Type 1} → statement M
-try-neighbour-spec =
+pub try_neighbour_spec : {M : Type 1} → statement M
+try_neighbour_spec =
     tie.close
     (tie.spec
     (λ c κs. search rules) (λ c κs. search rules) (λ c κs. search rules) (λ c κs. search rules) (λ c κs. search rules)

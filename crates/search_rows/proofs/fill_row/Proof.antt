@@ -3,7 +3,7 @@ use mathlib.Core.Path.{◌≡◌, ◌∙◌}
 use Prim.Native.Nat.{◌+◌, ◌-◌, ◌*◌}
 use native.Mathlib.Omega.{arith}
 use lib.ListN.{length}
-use Rattle.search_rows.specs.RowsLaws.{row-filled}
+use Rattle.search_rows.specs.RowsLaws.{row_filled}
 use borrow.Author.Rules.{rules}
 use Rattle.search_rows.proofs.fill_row.Statement.{statement}
 use Rattle.search_rows.proofs.fill_row.Tie as tie
@@ -21,11 +21,11 @@ returns c =
     let eu = c2.refined-sum.auto.1.1.1.0 in
     let u = c2.refined-sum.new.1.1.1.0 in (
       rw s.requires.1.a at c2.refined-sum.ensures,
-      rw (p, z, ← c6.axis-row.ensures) (row-filled n q _ u _ s.requires.1.most s.requires.0 s.requires.2 (er ∙ search rules) (eu ∙ search rules)),
+      rw (p, z, ← c6.axis-row.ensures) (row_filled n q _ u _ s.requires.1.most s.requires.0 s.requires.2 (er ∙ search rules) (eu ∙ search rules)),
     )
 
-pub fill-row-spec : {M : Type 1} → statement M
-fill-row-spec =
+pub fill_row_spec : {M : Type 1} → statement M
+fill_row_spec =
     tie.close
     (tie.spec
     (λ c. search rules) (λ c. search rules) (λ c. search rules) (λ c. search rules) (λ c. search rules)

@@ -3,13 +3,13 @@ use mathlib.Core.Path.{◌≡◌}
 use Prim.Native.Nat.{◌+◌, ◌-◌, ◌*◌}
 use native.Mathlib.Omega.{arith}
 use lib.ListN.{length}
-use Rattle.search_rows.specs.Rows.{heldScore}
+use Rattle.search_rows.specs.Rows.{held_score}
 use borrow.Author.Rules.{rules}
 use Rattle.search_rows.proofs.score_held.Statement.{statement}
 use Rattle.search_rows.proofs.score_held.Tie as tie
 
 returns : tie.Need-returns
-unfolding heldScore
+unfolding held_score
 returns c = λ xs ys angles weights l.
     let c5 = c.before.before.before.before.before in
     let s = c5.before.before.before.before.before in
@@ -20,8 +20,8 @@ returns c = λ xs ys angles weights l.
     let z : j * 320 + n - j * 320 ≡ n = omega arith in
     rw (l, ← c5.combine-edge-pair.ensures) (rw (p, z, l) at (c.score-pair-cached.ensures xs ys angles weights l))
 
-pub score-held-spec : {M : Type 1} → statement M
-score-held-spec =
+pub score_held_spec : {M : Type 1} → statement M
+score_held_spec =
     tie.close
     (tie.spec
     (λ c. search rules) (λ c. search rules) (λ c. search rules) (λ c. search rules) (λ c. search rules)

@@ -46,8 +46,8 @@ returns-5 c =
     let third = sym three.before.is-same3.ensures.0 ∙ three.if3.false in
     (rw (first, second, third, c.if4.false), search rules, search rules)
 
-pub slot-of-spec : {M : Type 1} → statement M
-slot-of-spec =
+pub slot_of_spec : {M : Type 1} → statement M
+slot_of_spec =
     tie.close
     (tie.spec
     (λ c. search rules) (λ c. search rules) (λ c. search rules) (λ c. search rules) (λ c κs. search rules) returns

@@ -12,8 +12,8 @@ returns-2 : tie.Need-returns-2
 unfolding S.flat
 returns-2 c = rw (← c.before.is_finite.ensures, c.if1.false)
 
-pub is-flat-spec : {M : Type 1} → statement M
-is-flat-spec =
+pub is_flat_spec : {M : Type 1} → statement M
+is_flat_spec =
     tie.close
     (tie.spec
     (λ c κs. search rules) returns returns-2)

@@ -24,5 +24,5 @@ returns-2 c =
     (⊎_elim (λ w. rw (← first, w.0.taken, ← w.1.ensures, w.2.left)) (λ w. rw (← first, w.left)))
     c.if1.branch
 
-pub kept-spec : {M : Type 1} → statement M
-kept-spec = tie.close (tie.spec (λ c κs. search rules) (λ c κs. search rules) (λ c κs. search rules) returns returns-2)
+pub kept_spec : {M : Type 1} → statement M
+kept_spec = tie.close (tie.spec (λ c κs. search rules) (λ c κs. search rules) (λ c κs. search rules) returns returns-2)

@@ -3,7 +3,7 @@ use mathlib.Core.Path.{◌≡◌, refl}
 use Prim.Native.Nat.{◌≤◌, ◌-◌}
 use native.Mathlib.Omega.{arith}
 use lib.ListN.{length}
-use Rattle.loops.specs.IterLaws.{iter-zero, iter-more}
+use Rattle.loops.specs.IterLaws.{iter_zero, iter_more}
 use Rattle.seed.specs.Seed as S
 use borrow.Author.Rules.{rules}
 use Rattle.seed.proofs.pair_sums.Statement.{statement}
@@ -17,19 +17,19 @@ decreases-loop centered h1 h2 n s₀ i₀ s i = n - i
 
 loop-holds : tie.Need-loop-init invariant-loop decreases-loop
 unfolding S.pair_sums
-loop-holds c = (search rules, rw iter-zero)
+loop-holds c = (search rules, rw iter_zero)
 
 loop-again : tie.Need-loop-preserved invariant-loop decreases-loop
-unfolding S.pair_sums S.summedBy
+unfolding S.pair_sums S.summed_by
 loop-again c =
     let c7 = c.before.before.before.before.before.before.before in
-    (search rules, iter-more _ _ _ _ _ c7.loop.invariant.1 refl)
+    (search rules, iter_more _ _ _ _ _ c7.loop.invariant.1 refl)
 
 returns : tie.Need-returns invariant-loop decreases-loop
 returns c = let h : c.before.loop.i ≡ length c.before.before.args.centered.now = omega arith in rw h at c.before.loop.invariant.1
 
-pub pair-sums-spec : {M : Type 1} → statement M
-pair-sums-spec =
+pub pair_sums_spec : {M : Type 1} → statement M
+pair_sums_spec =
     tie.close
     (tie.spec
     invariant-loop decreases-loop loop-holds (λ c. search rules) (λ c. search rules) (λ c. search rules) (λ c. search rules)

@@ -8,8 +8,8 @@ returns : tie.Need-returns
 unfolding S.scored
 returns c = c.scored-from.ensures
 
-pub score-sums-spec : {M : Type 1} → statement M
-score-sums-spec =
+pub score_sums_spec : {M : Type 1} → statement M
+score_sums_spec =
     tie.close
     (tie.spec
     (λ c κs. search rules) returns)

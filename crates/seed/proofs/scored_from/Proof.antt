@@ -5,15 +5,15 @@ use Rattle.seed.proofs.scored_from.Statement.{statement}
 use Rattle.seed.proofs.scored_from.Tie as tie
 
 returns : tie.Need-returns
-unfolding S.scoredFrom
+unfolding S.scored_from
 returns c = rw (← c.before.is-flat.ensures, c.if1.true)
 
 returns-2 : tie.Need-returns-2
-unfolding S.scoredFrom
+unfolding S.scored_from
 returns-2 c = rw (← c.before.before.is-flat.ensures, c.before.if1.false) c.seed-from.ensures
 
-pub scored-from-spec : {M : Type 1} → statement M
-scored-from-spec =
+pub scored_from_spec : {M : Type 1} → statement M
+scored_from_spec =
     tie.close
     (tie.spec
     (λ c κs. search rules) returns (λ c κs. search rules) returns-2)

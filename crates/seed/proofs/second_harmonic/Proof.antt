@@ -1,12 +1,12 @@
 -- The sums are those of the doubled angles, and the rest is straight steps. Assumes nothing.
 use Rattle.seed.specs.Seed as S
-use Rattle.seed.specs.BufferLaws.{waves-split}
+use Rattle.seed.specs.BufferLaws.{waves_split}
 use borrow.Author.Rules.{rules}
 use Rattle.seed.proofs.second_harmonic.Statement.{statement}
 use Rattle.seed.proofs.second_harmonic.Tie as tie
 
 returns : tie.Need-returns
-unfolding S.secondHarmonic S.harmonic
+unfolding S.second_harmonic S.harmonic
 returns c =
     let c4 = c.before.before.before.before in
     let c5 = c4.before in
@@ -18,12 +18,12 @@ returns c =
     let doubled = c19.double-all.ensures in
     let sines = c13.sin-cos-all.ensures in
     let waves = c6.wave-sums.ensures in
-    let split = waves-split start.args.samples.now start.args.ring-phi.now _ _ _ start.args.mean _ start.requires.phi in
+    let split = waves_split start.args.samples.now start.args.ring-phi.now _ _ _ start.args.mean _ start.requires.phi in
     let angle = c4.settled.ensures in
     rw (← split doubled sines waves, angle, c5.atan2.ensures, c.before.sqrt.ensures, c.count-f32.ensures)
 
-pub second-harmonic-spec : {M : Type 1} → statement M
-second-harmonic-spec =
+pub second_harmonic_spec : {M : Type 1} → statement M
+second_harmonic_spec =
     tie.close
     (tie.spec
     (λ c κs. search rules) (λ c κs. search rules) (λ c κs. search rules) (λ c κs. search rules) (λ c κs. search rules)

@@ -12,8 +12,8 @@ returns-2 : tie.Need-returns-2
 unfolding S.settled
 returns-2 c = rw (← c.before.is_finite.ensures, c.if1.false)
 
-pub settled-spec : {M : Type 1} → statement M
-settled-spec =
+pub settled_spec : {M : Type 1} → statement M
+settled_spec =
     tie.close
     (tie.spec
     (λ c κs. search rules) returns returns-2)

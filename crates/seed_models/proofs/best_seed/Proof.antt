@@ -3,7 +3,7 @@ use mathlib.Core.Path.{◌≡◌, ◌∙◌}
 use Prim.Native.Nat.{◌≤◌, ◌-◌}
 use native.Mathlib.Omega.{arith}
 use Rattle.loops.specs.Loops.{iter}
-use Rattle.loops.specs.IterLaws.{iter-zero, iter-more}
+use Rattle.loops.specs.IterLaws.{iter_zero, iter_more}
 use Rattle.seed.specs.declared.Seed.TheVariants.{Nothing}
 use Rattle.robust_lanes.specs.Lanes as L
 use Rattle.robust_grid.specs.Places as G
@@ -16,8 +16,8 @@ use Rattle.seed_models.proofs.best_seed.Tie as tie
 
 abbrev invariant-loop : tie.invariant-loop
 invariant-loop rows stored centered centered-ss mean samples n best₀ p₀ j₀ best p j =
-    (j ≤ G.blocks) × L.BestKept best × (p ≡ G.blockPair j) ×
-    (best.top ≡ iter (λ i. G.lanesTried n centered-ss mean (P.lanes_of stored rows centered n i) (G.blockPair i)) Nothing j)
+    (j ≤ G.blocks) × L.BestKept best × (p ≡ G.block_pair j) ×
+    (best.top ≡ iter (λ i. G.lanes_tried n centered-ss mean (P.lanes_of stored rows centered n i) (G.block_pair i)) Nothing j)
 
 abbrev decreases-loop : tie.decreases-loop
 decreases-loop rows stored centered centered-ss mean samples n best₀ p₀ j₀ best p j = G.blocks - j
@@ -28,8 +28,8 @@ count-f32-requires c κs =
     omega (arith, rows_few s.args.rows.now s.args.centered.now s.args.stored s.requires)
 
 loop-holds : tie.Need-loop-init invariant-loop decreases-loop
-unfolding G.blockPair
-loop-holds c = let none = c.before.none_yet.ensures in (search rules, none.1, rw iter-zero c.First-Block.ensures, rw iter-zero none.0)
+unfolding G.block_pair
+loop-holds c = let none = c.before.none_yet.ensures in (search rules, none.1, rw iter_zero c.First-Block.ensures, rw iter_zero none.0)
 
 lanes-of-requires : tie.Need-lanes-of-requires invariant-loop decreases-loop
 lanes-of-requires c κs =
@@ -52,13 +52,13 @@ next-block-requires c κs =
     (rw l.invariant.2 inside.0, rw l.invariant.2 inside.1)
 
 loop-again : tie.Need-loop-preserved invariant-loop decreases-loop
-unfolding G.blockPair
+unfolding G.block_pair
 loop-again c =
     let c3 = c.before.before.before in
     let l = c3.before.loop in
     let tried = c.before.lanes-tried.ensures in
     let next = rw (c.before.before.lanes-of.ensures, l.invariant.2) at tried.0 in
-    (omega (arith, c3.loop-test.true), tried.1, iter-more _ _ _ _ _ l.invariant.2 c.next-block.ensures, iter-more _ _ _ _ _ l.invariant.3 next)
+    (omega (arith, c3.loop-test.true), tried.1, iter_more _ _ _ _ _ l.invariant.2 c.next-block.ensures, iter_more _ _ _ _ _ l.invariant.3 next)
 
 returns : tie.Need-returns invariant-loop decreases-loop
 returns c =
@@ -69,8 +69,8 @@ returns c =
     let j : l.j ≡ G.blocks = omega arith in
     (rw j at l.invariant.3) ∙ walk_is a.rows.now a.centered.now a.centered-ss a.mean _ c4.count-f32.ensures a.stored s.requires
 
-pub best-seed-spec : {M : Type 1} → statement M
-best-seed-spec =
+pub best_seed_spec : {M : Type 1} → statement M
+best_seed_spec =
     tie.close
     (tie.spec
     invariant-loop decreases-loop count-f32-requires (λ c κs. search rules) (λ c κs. search rules) loop-holds lanes-of-requires

@@ -2,7 +2,7 @@
 use mathlib.Core.Path.{◌≡◌}
 use Prim.Native.Nat.{◌≤◌, ◌-◌, ◌+◌, ◌*◌}
 use native.Mathlib.Omega.{arith}
-use Rattle.robust_lanes.specs.LaneLaws.{lane-places}
+use Rattle.robust_lanes.specs.LaneLaws.{lane_places}
 use Rattle.seed_models.specs.Parts as P
 use Rattle.seed_models.specs.ModelLaws.{sums_none, sums_next}
 use borrow.Author.Rules.{rules}
@@ -24,14 +24,14 @@ loop-again : tie.Need-loop-preserved invariant-loop decreases-loop
 loop-again c =
     let c7 = c.before.before.before.before.before.before.before in
     let a = c7.before.before.before.before.before.before.before.before.before.before.before.args in
-    let places = lane-places a.block.now (8 + 4 * c7.loop.i) in
+    let places = lane_places a.block.now (8 + 4 * c7.loop.i) in
     (search rules, sums_next a.block.now a.centered.now c7.loop.i _ _ _ c7.loop.invariant.1 places c.num-added.ensures)
 
 returns : tie.Need-returns invariant-loop decreases-loop
 returns c = let h : c.before.loop.i ≡ 16 = omega arith in rw h at c.before.loop.invariant.1
 
-pub block-lanes-spec : {M : Type 1} → statement M
-block-lanes-spec =
+pub block_lanes_spec : {M : Type 1} → statement M
+block_lanes_spec =
     tie.close
     (tie.spec
     invariant-loop decreases-loop (λ c. search rules) (λ c. search rules) (λ c. search rules) (λ c. search rules)

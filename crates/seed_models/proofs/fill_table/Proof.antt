@@ -4,33 +4,33 @@ use mathlib.Core.List.{◌++◌}
 use Prim.Native.Nat.{◌≤◌, ◌-◌, ◌+◌, ◌*◌}
 use native.Mathlib.Omega.{arith}
 use lib.ListN.{length, take, drop, length-take, length-drop}
-use Rattle.loops.specs.IterLaws.{iter-zero, iter-more}
+use Rattle.loops.specs.IterLaws.{iter_zero, iter_more}
 use Rattle.loops.specs.TabLaws.{part_length}
 use Rattle.robust_grid.specs.Places as G
 use Rattle.robust_grid.specs.PairLaws.{block_inside}
 use Rattle.seed_models.specs.Words as W
 use Rattle.seed_models.specs.Parts as P
-use Rattle.seed_models.specs.WordLaws.{filled, fill_none, fill_more, fill-all}
+use Rattle.seed_models.specs.WordLaws.{filled, fill_none, fill_more, fill_all}
 use borrow.Author.Rules.{rules}
 use Rattle.seed_models.proofs.fill_table.Statement.{statement}
 use Rattle.seed_models.proofs.fill_table.Tie as tie
 
 abbrev invariant-loop : tie.invariant-loop
 invariant-loop angles h table₀ p₀ j₀ table p j =
-    (j ≤ G.blocks) × (length table ≡ W.tableSize) × (p ≡ G.blockPair j) ×
-    (table ≡ filled angles (P.modelFrom h) j ++ drop (16 + j * 72) table₀)
+    (j ≤ G.blocks) × (length table ≡ W.table_size) × (p ≡ G.block_pair j) ×
+    (table ≡ filled angles (P.model_from h) j ++ drop (16 + j * 72) table₀)
 
 abbrev decreases-loop : tie.decreases-loop
 decreases-loop angles h table₀ p₀ j₀ table p j = G.blocks - j
 
 loop-holds : tie.Need-loop-init invariant-loop decreases-loop
-unfolding G.blockPair
+unfolding G.block_pair
 loop-holds c =
     let put = c.before.before.before.put-angles in
     let s = c.before.before.before.before.before.before.before.before in (
       search rules,
       put.auto.1.0 ∙ s.requires.2,
-      rw iter-zero c.First-Block.ensures,
+      rw iter_zero c.First-Block.ensures,
       fill_none _ _ s.requires.0 s.args.table.now put.new.1.0 put.ensures,
     )
 
@@ -50,7 +50,7 @@ next-block-requires c κs =
     (rw l.invariant.2 inside.0, rw l.invariant.2 inside.1)
 
 loop-again : tie.Need-loop-preserved invariant-loop decreases-loop
-unfolding G.blockPair
+unfolding G.block_pair
 loop-again c =
     let c3 = c.before.before.before in
     let c5 = c3.before.before in
@@ -64,7 +64,7 @@ loop-again c =
     let room : 16 + l.j * 72 + (16 + l.j * 72 + 72 - (16 + l.j * 72)) ≤ length l.table = omega (arith, l.invariant.1, few) in
     let len = part_length l.table block (16 + l.j * 72) _ room (c3.fill-block.auto.1.1.0 ∙ m ∙ sym d) in
     let is = rw l.invariant.2 at c3.fill-block.ensures in
-    (omega (arith, few), len ∙ l.invariant.1, iter-more _ _ _ _ _ l.invariant.2 c.next-block.ensures, fill_more _ _ s.requires.0 _ _ _ _ _ d l.invariant.3 is)
+    (omega (arith, few), len ∙ l.invariant.1, iter_more _ _ _ _ _ l.invariant.2 c.next-block.ensures, fill_more _ _ s.requires.0 _ _ _ _ _ d l.invariant.3 is)
 
 same_length : tie.Need-same-length invariant-loop decreases-loop
 same_length c = c.before.loop.invariant.1 ∙ sym c.before.before.before.before.before.before.before.before.before.before.requires.2
@@ -75,10 +75,10 @@ returns c =
     let c5 = c.before.before.before.before.before in
     let s = c5.before.before.before.before.before in
     let j : l.j ≡ G.blocks = omega arith in
-    fill-all _ _ s.requires.0 c5.put-angles.new.1.0 l.table l.invariant.1 (rw j at l.invariant.3)
+    fill_all _ _ s.requires.0 c5.put-angles.new.1.0 l.table l.invariant.1 (rw j at l.invariant.3)
 
-pub fill-table-spec : {M : Type 1} → statement M
-fill-table-spec =
+pub fill_table_spec : {M : Type 1} → statement M
+fill_table_spec =
     tie.close
     (tie.spec
     invariant-loop decreases-loop (λ c κs. search rules) (λ c κs. search rules) loop-holds (λ c. search rules) (λ c. search rules)

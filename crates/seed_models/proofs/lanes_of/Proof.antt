@@ -40,8 +40,8 @@ returns-2 c =
     let s = c.before.before.before.before.before in
     rw (c.before.before.if1.false, ← s.requires.4, ← c.before.lane-sums.ensures) c.lane-models.ensures
 
-pub lanes-of-spec : {M : Type 1} → statement M
-lanes-of-spec =
+pub lanes_of_spec : {M : Type 1} → statement M
+lanes_of_spec =
     tie.close
     (tie.spec
     (λ c. search rules) (λ c. search rules) (λ c. search rules) (λ c. search rules) (λ c. search rules)

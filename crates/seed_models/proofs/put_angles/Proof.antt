@@ -6,7 +6,7 @@ use native.Mathlib.Omega.{arith}
 use lib.ListN.{length, get_or, drop}
 use lib.Ieee.{nan}
 use Rattle.floats.specs.Rows.{Row}
-use Rattle.loops.specs.TabLaws.{Stores, stores-none, stores-next, stored, tab-self}
+use Rattle.loops.specs.TabLaws.{Stores, stores_none, stores_next, stored, tab_self}
 use borrow.Author.Rules.{rules}
 use Rattle.seed_models.proofs.put_angles.Statement.{statement}
 use Rattle.seed_models.proofs.put_angles.Tie as tie
@@ -18,10 +18,10 @@ abbrev decreases-loop : tie.decreases-loop
 decreases-loop angles table₀ i₀ table i = 16 - i
 
 loop-holds : tie.Need-loop-init invariant-loop decreases-loop
-loop-holds c = (search rules, stores-none _ _)
+loop-holds c = (search rules, stores_none _ _)
 
 loop-again : tie.Need-loop-preserved invariant-loop decreases-loop
-loop-again c = (search rules, stores-next _ _ _ _ _ c.before.before.loop.invariant.1 refl)
+loop-again c = (search rules, stores_next _ _ _ _ _ c.before.before.loop.invariant.1 refl)
 
 returns : tie.Need-returns invariant-loop decreases-loop
 returns c =
@@ -33,10 +33,10 @@ returns c =
     let room : 16 ≤ length table = omega (arith, s.requires.1) in
     let is = rw h at l.invariant.1.is in
     let put = stored (λ k. get_or angles k nan) table nan 16 room in
-    is ∙ put ∙ ap (λ (r : Row). r ++ drop 16 table) (tab-self angles nan 16 s.requires.0)
+    is ∙ put ∙ ap (λ (r : Row). r ++ drop 16 table) (tab_self angles nan 16 s.requires.0)
 
-pub put-angles-spec : {M : Type 1} → statement M
-put-angles-spec =
+pub put_angles_spec : {M : Type 1} → statement M
+put_angles_spec =
     tie.close
     (tie.spec
     invariant-loop decreases-loop loop-holds (λ c. search rules) (λ c. search rules) (λ c. search rules) (λ c. search rules)

@@ -11,5 +11,5 @@ returns c = (rw (lt-ltb _ _ c.if1.true), omega arith)
 returns-2 : tie.Need-returns-2
 returns-2 c = (rw (le-ltb _ _ c.if1.false), omega arith)
 
-pub answer-type-spec : {M : Type 1} → statement M
-answer-type-spec = tie.close (tie.spec (λ c. search rules) returns returns-2)
+pub answer_type_spec : {M : Type 1} → statement M
+answer_type_spec = tie.close (tie.spec (λ c. search rules) returns returns-2)

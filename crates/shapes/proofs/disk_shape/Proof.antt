@@ -6,11 +6,11 @@ use Rattle.shapes.proofs.disk_shape.Statement.{statement}
 use Rattle.shapes.proofs.disk_shape.Tie as tie
 
 returns : tie.Need-returns
-unfolding S.diskShape
+unfolding S.disk_shape
 returns c = (rw (lt-ltb _ _ c.if1.true), search rules)
 
 returns-2 : tie.Need-returns-2
-unfolding S.diskShape
+unfolding S.disk_shape
 returns-2 c = (
   rw (
     le-ltb _ _ c.before.before.before.if1.false,
@@ -20,8 +20,8 @@ returns-2 c = (
   c.counted-shape.ensures.1,
 )
 
-pub disk-shape-spec : {M : Type 1} → statement M
-disk-shape-spec =
+pub disk_shape_spec : {M : Type 1} → statement M
+disk_shape_spec =
     tie.close
     (tie.spec
     returns (λ c κs. search rules) (λ c. search rules) (λ c κs. search rules) (λ c. search rules)

@@ -10,5 +10,5 @@ returns c = (omega arith, rw (eq-eqb _ _ c.if1.true))
 returns-2 : tie.Need-returns-2
 returns-2 c = (omega arith, rw (ne_eqb _ _ c.if1.false))
 
-pub samples-of-spec : {M : Type 1} → statement M
-samples-of-spec = tie.close (tie.spec returns returns-2)
+pub samples_of_spec : {M : Type 1} → statement M
+samples_of_spec = tie.close (tie.spec returns returns-2)

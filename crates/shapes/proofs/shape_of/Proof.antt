@@ -34,8 +34,8 @@ returns-4 c =
       c.typed-shape.ensures.1,
     )
 
-pub shape-of-spec : {M : Type 1} → statement M
-shape-of-spec =
+pub shape_of_spec : {M : Type 1} → statement M
+shape_of_spec =
     tie.close
     (tie.spec
     returns (λ c κs. search rules) returns-2 returns-3 (λ c κs. search rules) returns-4)

@@ -14,7 +14,7 @@ ring-shape-requires c κs =
     ⊎_elim (λ w. rw (eq-eqb _ _ w.taken) tt) (λ w. rw (ne_eqb _ _ w.0.left, w.1.taken) tt) c.if1.branch
 
 returns : tie.Need-returns
-unfolding S.typedShape
+unfolding S.typed_shape
 returns c =
     let kind = c.before.before.byte_at.result in
     let ring : (eqb kind 1 || eqb kind 3) ≡ true =
@@ -22,7 +22,7 @@ returns c =
     (rw (← c.before.before.byte_at.ensures.1, ring) c.ring-shape.ensures.0, c.ring-shape.ensures.1)
 
 returns-2 : tie.Need-returns-2
-unfolding S.typedShape
+unfolding S.typed_shape
 returns-2 c =
     let b4 = c.before.before.before.before in (
       rw (
@@ -35,7 +35,7 @@ returns-2 c =
     )
 
 returns-3 : tie.Need-returns-3
-unfolding S.typedShape
+unfolding S.typed_shape
 returns-3 c = (
   rw (
     ← c.before.before.before.byte_at.ensures.1,
@@ -46,8 +46,8 @@ returns-3 c = (
   search rules,
 )
 
-pub typed-shape-spec : {M : Type 1} → statement M
-typed-shape-spec =
+pub typed_shape_spec : {M : Type 1} → statement M
+typed_shape_spec =
     tie.close
     (tie.spec
     (λ c κs. search rules) ring-shape-requires returns (λ c κs. search rules) returns-2 returns-3)

@@ -25,8 +25,8 @@ loop-again c = (search rules, λ e. let h = c.near-too.ensures e in near_next _ 
 returns : tie.Need-returns invariant-loop decreases-loop
 returns c = λ e. let h : c.before.loop.i ≡ length c.before.before.before.args.ring-phi.now = omega arith in rw h at (c.before.loop.invariant.1 e)
 
-pub all-near-spec : {M : Type 1} → statement M
-all-near-spec =
+pub all_near_spec : {M : Type 1} → statement M
+all_near_spec =
     tie.close
     (tie.spec
     invariant-loop decreases-loop loop-holds (λ c. search rules) (λ c. search rules) (λ c κs. search rules) (λ c. search rules)

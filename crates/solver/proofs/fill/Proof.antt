@@ -4,8 +4,8 @@ use Prim.Native.Nat.{ℕ, ◌+◌, ◌*◌, ◌≤◌, ◌<◌, ◌-◌}
 use native.Mathlib.Omega.{arith}
 use lib.ListN.{length, get_or, length-set}
 use lib.Ieee.{nan}
-use Rattle.solver.specs.Solver.{sampleAt}
-use Rattle.solver.specs.Buffers.{sampleFrom}
+use Rattle.solver.specs.Solver.{sample_at}
+use Rattle.solver.specs.Buffers.{sample_from}
 use Rattle.solver.specs.SolverLaws.{filled_next}
 use borrow.Author.Rules.{rules}
 use Rattle.solver.proofs.fill.Statement.{statement}
@@ -13,7 +13,7 @@ use Rattle.solver.proofs.fill.Tie as tie
 
 abbrev invariant-loop : tie.invariant-loop
 invariant-loop samples sphi cphi p t1 t2 js₀ n i₀ js i =
-    (i ≤ n) × (length js ≡ length js₀) × ((k : ℕ) → k < i → sampleFrom js k ≡ sampleAt p t1 t2 (get_or samples k nan) (get_or sphi k nan) (get_or cphi k nan))
+    (i ≤ n) × (length js ≡ length js₀) × ((k : ℕ) → k < i → sample_from js k ≡ sample_at p t1 t2 (get_or samples k nan) (get_or sphi k nan) (get_or cphi k nan))
 
 abbrev decreases-loop : tie.decreases-loop
 decreases-loop samples sphi cphi p t1 t2 js₀ n i₀ js i = n - i

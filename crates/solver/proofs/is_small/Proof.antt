@@ -29,5 +29,5 @@ returns-2 c =
     (λ w. rw (← two.before.abs.ensures, w.0.left) f)
     two.if1.branch
 
-pub is-small-spec : {M : Type 1} → statement M
-is-small-spec = tie.close (tie.spec (λ c κs. search rules) (λ c κs. search rules) (λ c κs. search rules) returns returns-2)
+pub is_small_spec : {M : Type 1} → statement M
+is_small_spec = tie.close (tie.spec (λ c κs. search rules) (λ c κs. search rules) (λ c κs. search rules) returns returns-2)

@@ -3,9 +3,9 @@ use mathlib.Core.Path.{◌≡◌, refl, ◌∙◌, sym, ap}
 use Prim.Native.Nat.{◌≤◌, ◌-◌, ◌*◌}
 use native.Mathlib.Omega.{arith}
 use lib.ListN.{length}
-use Rattle.solver.specs.Solver.{pass, step_of, updatesFrom, updates}
+use Rattle.solver.specs.Solver.{pass, step_of, updates_from, updates}
 use Rattle.solver.specs.Buffers.{spread}
-use Rattle.solver.specs.SolverLaws.{run-full, run-stay, run-to, step-stay, step-to, solved-by, stopped-at}
+use Rattle.solver.specs.SolverLaws.{run_full, run_stay, run_to, step_stay, step_to, solved_by, stopped_at}
 use borrow.Author.Rules.{rules}
 use Rattle.solver.proofs.run_updates.Statement.{statement}
 use Rattle.solver.proofs.run_updates.Tie as tie
@@ -13,7 +13,7 @@ use Rattle.solver.proofs.run_updates.Tie as tie
 abbrev invariant-loop : tie.invariant-loop
 invariant-loop samples sphi cphi js₀ jtj₀ p₀ count₀ s₀ js jtj p count s =
     (count ≤ 6) × (length js ≡ 4 * length samples) × (spread s ≡ pass (length samples) p samples sphi cphi) ×
-    (updatesFrom (length samples) samples sphi cphi (6 - count) count p ≡ updates (length samples) samples sphi cphi p₀)
+    (updates_from (length samples) samples sphi cphi (6 - count) count p ≡ updates (length samples) samples sphi cphi p₀)
 
 abbrev decreases-loop : tie.decreases-loop
 decreases-loop samples sphi cphi js₀ jtj₀ p₀ count₀ s₀ js jtj p count s = 6 - count
@@ -39,23 +39,23 @@ loop-again c = let m = c.before.before.before.before in
     let r = t.before.before.before.before in
     let b = r.before.before in
     let l = spread b.loop.s in
-    let e = solved-by l _ _ _ r.before.matrix-of.ensures r.right_of.ensures t.solve-4x4.ensures in
+    let e = solved_by l _ _ _ r.before.matrix-of.ensures r.right_of.ensures t.solve-4x4.ensures in
     let big = sym m.before.before.is-small.ensures ∙ m.before.if2.false in
-    let s = step-to _ _ _ _ _ _ _ _ u.before.before.d0.given.1 u.cut.ensures m.before.before.before.cut2.ensures _ big m.moved.ensures in
-    (search rules, search rules, c.before.before.pass2.ensures, run-to _ _ _ _ _ _ _ l _ b.loop.invariant.2 e (search rules) s ∙ b.loop.invariant.3)
+    let s = step_to _ _ _ _ _ _ _ _ u.before.before.d0.given.1 u.cut.ensures m.before.before.before.cut2.ensures _ big m.moved.ensures in
+    (search rules, search rules, c.before.before.pass2.ensures, run_to _ _ _ _ _ _ _ l _ b.loop.invariant.2 e (search rules) s ∙ b.loop.invariant.3)
 
 returns : tie.Need-returns invariant-loop decreases-loop
 returns c = let b = c.before.before.before in
     let l = spread b.loop.s in
-    stopped-at _ l _ _ _ _ c.before.before.matrix-of.ensures refl (run-full _ _ _ _ _ _ l b.loop.invariant.2 (search rules) ∙ b.loop.invariant.3)
+    stopped_at _ l _ _ _ _ c.before.before.matrix-of.ensures refl (run_full _ _ _ _ _ _ l b.loop.invariant.2 (search rules) ∙ b.loop.invariant.3)
 
 returns-2 : tie.Need-returns-2 invariant-loop decreases-loop
 returns-2 c = let r = c.before.before.before.before.before.before in
     let b = r.before.before in
     let l = spread b.loop.s in
-    let e = solved-by l _ _ _ r.before.matrix-of.ensures r.right_of.ensures c.before.before.solve-4x4.ensures in
-    stopped-at _ l _ _ _ _ r.before.matrix-of.ensures refl
-    (run-stay _ _ _ _ _ _ l _ b.loop.invariant.2 e (search rules) (ap (step_of _) c.enum_told.given.1) ∙ b.loop.invariant.3)
+    let e = solved_by l _ _ _ r.before.matrix-of.ensures r.right_of.ensures c.before.before.solve-4x4.ensures in
+    stopped_at _ l _ _ _ _ r.before.matrix-of.ensures refl
+    (run_stay _ _ _ _ _ _ l _ b.loop.invariant.2 e (search rules) (ap (step_of _) c.enum_told.given.1) ∙ b.loop.invariant.3)
 
 returns-3 : tie.Need-returns-3 invariant-loop decreases-loop
 returns-3 c = let u = c.before.before.before in
@@ -63,13 +63,13 @@ returns-3 c = let u = c.before.before.before in
     let r = t.before.before.before.before in
     let b = r.before.before in
     let l = spread b.loop.s in
-    let e = solved-by l _ _ _ r.before.matrix-of.ensures r.right_of.ensures t.solve-4x4.ensures in
+    let e = solved_by l _ _ _ r.before.matrix-of.ensures r.right_of.ensures t.solve-4x4.ensures in
     let little = sym c.before.is-small.ensures ∙ c.if2.true in
-    let s = step-stay _ _ _ _ _ _ _ _ u.before.before.d0.given.1 u.cut.ensures c.before.before.cut2.ensures little in
-    stopped-at _ l _ _ _ _ r.before.matrix-of.ensures refl (run-stay _ _ _ _ _ _ l _ b.loop.invariant.2 e (search rules) s ∙ b.loop.invariant.3)
+    let s = step_stay _ _ _ _ _ _ _ _ u.before.before.d0.given.1 u.cut.ensures c.before.before.cut2.ensures little in
+    stopped_at _ l _ _ _ _ r.before.matrix-of.ensures refl (run_stay _ _ _ _ _ _ l _ b.loop.invariant.2 e (search rules) s ∙ b.loop.invariant.3)
 
-pub run-updates-spec : {M : Type 1} → statement M
-run-updates-spec =
+pub run_updates_spec : {M : Type 1} → statement M
+run_updates_spec =
     tie.close
     (tie.spec
     invariant-loop decreases-loop (λ c κs. search rules) loop-holds (λ c κs. search rules) (λ c κs. search rules)

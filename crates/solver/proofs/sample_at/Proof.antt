@@ -5,11 +5,11 @@ use Rattle.solver.proofs.sample_at.Statement.{statement}
 use Rattle.solver.proofs.sample_at.Tie as tie
 
 returns : tie.Need-returns
-unfolding S.sampleAt
+unfolding S.sample_at
 returns c = rw (c.before.before.before.before.tanh2.ensures, c.before.before.before.before.before.tanh.ensures)
 
-pub sample-at-spec : {M : Type 1} → statement M
-sample-at-spec =
+pub sample_at_spec : {M : Type 1} → statement M
+sample_at_spec =
     tie.close
     (tie.spec
     (λ c κs. search rules) (λ c κs. search rules) returns)

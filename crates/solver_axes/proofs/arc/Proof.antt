@@ -8,5 +8,5 @@ returns : tie.Need-returns
 unfolding C.arc
 returns c = search rules
 
-pub arc-spec : {M : Type 1} → statement M
-arc-spec = tie.close (tie.spec (λ c κs. search rules) returns)
+pub arc_spec : {M : Type 1} → statement M
+arc_spec = tie.close (tie.spec (λ c κs. search rules) returns)

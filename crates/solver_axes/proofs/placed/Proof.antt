@@ -8,5 +8,5 @@ returns : tie.Need-returns
 unfolding C.placed
 returns c = rw c.rem-euclid-pi.ensures
 
-pub placed-spec : {M : Type 1} → statement M
-placed-spec = tie.close (tie.spec (λ c κs. search rules) returns)
+pub placed_spec : {M : Type 1} → statement M
+placed_spec = tie.close (tie.spec (λ c κs. search rules) returns)

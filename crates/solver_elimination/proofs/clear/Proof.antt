@@ -3,7 +3,7 @@ use mathlib.Core.Path.{◌≡◌}
 use Prim.Native.Nat.{◌≤◌, ◌-◌}
 use native.Mathlib.Omega.{arith}
 use Rattle.loops.specs.Loops.{iter}
-use Rattle.loops.specs.IterLaws.{iter-zero, iter-next}
+use Rattle.loops.specs.IterLaws.{iter_zero, iter_next}
 use lib.ListN.{get_or, set}
 use mathlib.Core.List.{[]}
 use Rattle.solver_elimination.specs.Solve.{cleared, clear}
@@ -18,10 +18,10 @@ abbrev decreases-loop : tie.decreases-loop
 decreases-loop m₀ i p k₀ m k = 4 - k
 
 loop-holds : tie.Need-loop-init invariant-loop decreases-loop
-loop-holds c = (search rules, rw iter-zero)
+loop-holds c = (search rules, rw iter_zero)
 
 loop-again : tie.Need-loop-preserved invariant-loop decreases-loop
-loop-again c = let b = c.before.before.before.before in (search rules, rw (iter-next, ← b.loop.invariant.1, c.cleared.ensures))
+loop-again c = let b = c.before.before.before.before in (search rules, rw (iter_next, ← b.loop.invariant.1, c.cleared.ensures))
 
 returns : tie.Need-returns invariant-loop decreases-loop
 unfolding clear

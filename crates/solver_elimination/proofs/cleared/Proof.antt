@@ -13,8 +13,8 @@ returns-2 : tie.Need-returns-2
 unfolding cleared
 returns-2 c = rw (ne_eqb _ _ c.before.if1.false, ← c.before.before.requires) c.reduced.ensures
 
-pub cleared-spec : {M : Type 1} → statement M
-cleared-spec =
+pub cleared_spec : {M : Type 1} → statement M
+cleared_spec =
     tie.close
     (tie.spec
     returns (λ c κs. search rules) returns-2)

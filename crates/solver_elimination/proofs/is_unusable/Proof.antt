@@ -12,8 +12,8 @@ returns-2 : tie.Need-returns-2
 unfolding S.unusable
 returns-2 c = rw (← c.before.is_finite.ensures, c.if1.false)
 
-pub is-unusable-spec : {M : Type 1} → statement M
-is-unusable-spec =
+pub is_unusable_spec : {M : Type 1} → statement M
+is_unusable_spec =
     tie.close
     (tie.spec
     (λ c κs. search rules) (λ c κs. search rules) returns returns-2)

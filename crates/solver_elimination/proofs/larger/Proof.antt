@@ -12,8 +12,8 @@ returns-2 : tie.Need-returns-2
 unfolding larger
 returns-2 c = (search rules, rw (← c.before.abs2.ensures, ← c.before.before.before.abs.ensures, c.if1.false))
 
-pub larger-spec : {M : Type 1} → statement M
-larger-spec =
+pub larger_spec : {M : Type 1} → statement M
+larger_spec =
     tie.close
     (tie.spec
     (λ c. search rules) (λ c. search rules) (λ c. search rules) (λ c. search rules) (λ c κs. search rules)

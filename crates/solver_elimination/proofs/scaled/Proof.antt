@@ -4,7 +4,7 @@ use lib.Ieee.{nan, binary32}
 use borrow.Kind.Array.{e_float, good_length}
 use Rattle.floats.specs.Rows.{Row}
 use Rattle.loops.specs.Loops.{tab}
-use Rattle.loops.specs.TabLaws.{tab-self}
+use Rattle.loops.specs.TabLaws.{tab_self}
 use Rattle.solver_elimination.specs.Solve.{scaled}
 use borrow.Author.Rules.{rules}
 use Rattle.solver_elimination.proofs.scaled.Statement.{statement}
@@ -13,10 +13,10 @@ use Rattle.solver_elimination.proofs.scaled.Tie as tie
 returns : tie.Need-returns
 unfolding tab
 returns c = let r = c.args.t1 in
-    ap (λ (r : Row). scaled r c.args.f) (tab-self r nan 8 (good_length (e_float binary32) 8 r _ c.well-formed.0))
+    ap (λ (r : Row). scaled r c.args.f) (tab_self r nan 8 (good_length (e_float binary32) 8 r _ c.well-formed.0))
 
-pub scaled-spec : {M : Type 1} → statement M
-scaled-spec =
+pub scaled_spec : {M : Type 1} → statement M
+scaled_spec =
     tie.close
     (tie.spec
     (λ c. search rules) (λ c. search rules) (λ c. search rules) (λ c. search rules) (λ c. search rules)

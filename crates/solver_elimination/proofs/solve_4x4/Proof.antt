@@ -1,19 +1,19 @@
 -- The first of two right sides has its own solution, whatever the second is. Assumes nothing.
 use mathlib.Core.Path.{sym, ap, ◌∙◌}
-use Rattle.solver_elimination.specs.Wide.{firstSide}
-use Rattle.solver_elimination.specs.WideLaws.{first_by, right-listed}
+use Rattle.solver_elimination.specs.Wide.{first_side}
+use Rattle.solver_elimination.specs.WideLaws.{first_by, right_listed}
 use borrow.Author.Rules.{rules}
 use Rattle.solver_elimination.proofs.solve_4x4.Statement.{statement}
 use Rattle.solver_elimination.proofs.solve_4x4.Tie as tie
 
 returns : tie.Need-returns
-returns c = ap firstSide (sym c.enum_told.given.1 ∙ c.before.before.eliminate.ensures) ∙ sym (first_by _ _ _) ∙ right-listed _ _
+returns c = ap first_side (sym c.enum_told.given.1 ∙ c.before.before.eliminate.ensures) ∙ sym (first_by _ _ _) ∙ right_listed _ _
 
 returns-2 : tie.Need-returns-2
-returns-2 c = ap firstSide (sym c.before.sides.given.1 ∙ c.before.before.before.eliminate.ensures) ∙ sym (first_by _ _ _) ∙ right-listed _ _
+returns-2 c = ap first_side (sym c.before.sides.given.1 ∙ c.before.before.before.eliminate.ensures) ∙ sym (first_by _ _ _) ∙ right_listed _ _
 
-pub solve-4x4-spec : {M : Type 1} → statement M
-solve-4x4-spec =
+pub solve_4x4_spec : {M : Type 1} → statement M
+solve_4x4_spec =
     tie.close
     (tie.spec
     (λ c. search rules) (λ c. search rules) (λ c. search rules) (λ c. search rules) (λ c κs. search rules)

@@ -6,8 +6,8 @@ use Rattle.solver_errors.proofs.no_estimate.Tie as tie
 returns : tie.Need-returns
 returns c = rw c.unfounded.ensures
 
-pub no-estimate-spec : {M : Type 1} → statement M
-no-estimate-spec =
+pub no_estimate_spec : {M : Type 1} → statement M
+no_estimate_spec =
     tie.close
     (tie.spec
     (λ c κs. search rules) returns)

@@ -5,11 +5,11 @@ use Rattle.solver_errors.proofs.standing_by.Statement.{statement}
 use Rattle.solver_errors.proofs.standing_by.Tie as tie
 
 returns : tie.Need-returns
-unfolding S.standingBy
+unfolding S.standing_by
 returns c = rw (c.is-finite3.ensures, c.before.is-finite2.ensures, c.before.before.is_finite.ensures)
 
-pub standing-by-spec : {M : Type 1} → statement M
-standing-by-spec =
+pub standing_by_spec : {M : Type 1} → statement M
+standing_by_spec =
     tie.close
     (tie.spec
     (λ c κs. search rules) (λ c κs. search rules) (λ c κs. search rules) returns)

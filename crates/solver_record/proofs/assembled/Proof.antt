@@ -11,8 +11,8 @@ returns-2 : tie.Need-returns-2
 unfolding F.assembled
 returns-2 c = rw c.if1.false
 
-pub assembled-spec : {M : Type 1} → statement M
-assembled-spec =
+pub assembled_spec : {M : Type 1} → statement M
+assembled_spec =
     tie.close
     (tie.spec
     returns returns-2)

@@ -6,11 +6,11 @@ use Rattle.solver_record.proofs.degenerate_fit.Statement.{statement}
 use Rattle.solver_record.proofs.degenerate_fit.Tie as tie
 
 returns : tie.Need-returns
-unfolding R.degenerateRecord F.degenerateFit
+unfolding R.degenerate_record F.degenerate_fit
 returns c = rw (c.sqrt.ensures, c.before.max.ensures)
 
-pub degenerate-fit-spec : {M : Type 1} → statement M
-degenerate-fit-spec =
+pub degenerate_fit_spec : {M : Type 1} → statement M
+degenerate_fit_spec =
     tie.close
     (tie.spec
     (λ c κs. search rules) (λ c κs. search rules) returns)

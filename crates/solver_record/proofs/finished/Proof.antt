@@ -12,8 +12,8 @@ returns c = let a = c.before in
     let e = n.before.before.before in
     rw (c.assembled.ensures, a.canonicalize-tracking-swap.ensures.0, r.sqrt.ensures, n.count-f32.ensures, e.axis-std-errors.ensures)
 
-pub finished-spec : {M : Type 1} → statement M
-finished-spec =
+pub finished_spec : {M : Type 1} → statement M
+finished_spec =
     tie.close
     (tie.spec
     (λ c κs. search rules) (λ c κs. search rules) (λ c κs. search rules) (λ c κs. search rules) (λ c κs. search rules)

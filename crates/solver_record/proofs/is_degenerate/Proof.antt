@@ -29,5 +29,5 @@ returns-2 c =
     (λ w. rw (← finite, w.0.left, ← w.1.ensures, sym w.2 ∙ f))
     c.before.if1.branch
 
-pub is-degenerate-spec : {M : Type 1} → statement M
-is-degenerate-spec = tie.close (tie.spec (λ c κs. search rules) (λ c κs. search rules) returns returns-2)
+pub is_degenerate_spec : {M : Type 1} → statement M
+is_degenerate_spec = tie.close (tie.spec (λ c κs. search rules) (λ c κs. search rules) returns returns-2)

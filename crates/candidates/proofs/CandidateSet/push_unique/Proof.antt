@@ -6,23 +6,23 @@ use Rattle.candidates.proofs.CandidateSet.push_unique.Statement.{statement}
 use Rattle.candidates.proofs.CandidateSet.push_unique.Tie as tie
 
 returns : tie.Need-returns
-unfolding C.pushUnique
+unfolding C.push_unique
 returns c = (search rules, search rules, rw (le-leb _ _ c.if1.true))
 
 returns-2 : tie.Need-returns-2
-unfolding C.pushUnique
+unfolding C.push_unique
 returns-2 c =
     let b = c.before.before in
     (search rules, search rules, rw (lt-leb _ _ b.before.if1.false, ← b.wrap-pi.ensures.0, ← c.before.is-near.ensures, c.if2.true))
 
 returns-3 : tie.Need-returns-3
-unfolding C.pushUnique C.appended
+unfolding C.push_unique C.appended
 returns-3 c =
     let b = c.before.before in
     (search rules, search rules, rw (lt-leb _ _ b.before.if1.false, ← b.wrap-pi.ensures.0, ← c.before.is-near.ensures, c.if2.false))
 
-pub push-unique-spec : {M : Type 1} → statement M
-push-unique-spec =
+pub push_unique_spec : {M : Type 1} → statement M
+push_unique_spec =
     tie.close
     (tie.spec
     returns (λ c κs. search rules) (λ c κs. search rules) returns-2 (λ c. search rules) (λ c. search rules)

@@ -1,12 +1,12 @@
 -- The loop looks forward: from here on the search gives what it gives from the start. Assumes nothing.
-use Rattle.explain_sentences.specs.SentencesLaws.{foreign-on, foreign-here, foreign-none}
+use Rattle.explain_sentences.specs.SentencesLaws.{foreign_on, foreign_here, foreign_none}
 use Rattle.std.proofs.Common.{◌≡◌, ◌-◌, ◌≤◌, length, ◌∙◌, arith, rules}
-use Rattle.explain_sentences.specs.Sentences.{foreignFrom}
+use Rattle.explain_sentences.specs.Sentences.{foreign_from}
 use Rattle.explain_sentences.proofs.bad.first_foreign.Statement.{statement}
 use Rattle.explain_sentences.proofs.bad.first_foreign.Tie as tie
 
 abbrev invariant-loop : tie.invariant-loop
-invariant-loop line n i₀ i = (i ≤ n) × (foreignFrom line (n - i) i ≡ foreignFrom line n 0)
+invariant-loop line n i₀ i = (i ≤ n) × (foreign_from line (n - i) i ≡ foreign_from line n 0)
 
 abbrev decreases-loop : tie.decreases-loop
 decreases-loop line n i₀ i = n - i
@@ -20,18 +20,18 @@ loop-holds c =
 returns : tie.Need-returns invariant-loop decreases-loop
 returns c =
     let b4 = c.before.before.before.before in
-    foreign-here _ _ _ (search rules) (rw c.before.is-hex.ensures at c.if1.true) ∙ b4.loop.invariant.1
+    foreign_here _ _ _ (search rules) (rw c.before.is-hex.ensures at c.if1.true) ∙ b4.loop.invariant.1
 
 loop-again : tie.Need-loop-preserved invariant-loop decreases-loop
 loop-again c =
     let b4 = c.before.before.before.before in
-    (search rules, foreign-on _ _ _ (search rules) (rw c.before.is-hex.ensures at c.if1.false) ∙ b4.loop.invariant.1)
+    (search rules, foreign_on _ _ _ (search rules) (rw c.before.is-hex.ensures at c.if1.false) ∙ b4.loop.invariant.1)
 
 returns-2 : tie.Need-returns-2 invariant-loop decreases-loop
-returns-2 c = foreign-none _ _ _ (omega arith) ∙ c.before.loop.invariant.1
+returns-2 c = foreign_none _ _ _ (omega arith) ∙ c.before.loop.invariant.1
 
-pub first-foreign-spec : {M : Type 1} → statement M
-first-foreign-spec =
+pub first_foreign_spec : {M : Type 1} → statement M
+first_foreign_spec =
     tie.close
     (tie.spec
     invariant-loop decreases-loop loop-holds (λ c. search rules) (λ c κs. search rules) returns (λ c. search rules)

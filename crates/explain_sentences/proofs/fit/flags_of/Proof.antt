@@ -6,11 +6,11 @@ use Rattle.explain_sentences.proofs.fit.flags_of.Statement.{statement}
 use Rattle.explain_sentences.proofs.fit.flags_of.Tie as tie
 
 returns : tie.Need-returns
-unfolding flags_of S.fitRows
+unfolding flags_of S.fit_rows
 returns c = (refl, refl)
 
-pub flags-of-spec : {M : Type 1} → statement M
-flags-of-spec =
+pub flags_of_spec : {M : Type 1} → statement M
+flags_of_spec =
     tie.close
     (tie.spec
     returns)

@@ -6,8 +6,8 @@ use Rattle.explain_sentences.proofs.refusal.is_angle.Tie as tie
 returns : tie.Need-returns
 returns c = rw (c.is-ring.ensures, c.before.before.samples-at.ensures.1)
 
-pub is-angle-spec : {M : Type 1} → statement M
-is-angle-spec =
+pub is_angle_spec : {M : Type 1} → statement M
+is_angle_spec =
     tie.close
     (tie.spec
     (λ c κs. search rules) (λ c. search rules) (λ c κs. search rules) (λ c. search rules) returns)

@@ -6,8 +6,8 @@ use Rattle.explain_sentences.proofs.refusal.is_shown.Tie as tie
 returns : tie.Need-returns
 returns c = rw c.belongs.ensures
 
-pub is-shown-spec : {M : Type 1} → statement M
-is-shown-spec =
+pub is_shown_spec : {M : Type 1} → statement M
+is_shown_spec =
     tie.close
     (tie.spec
     (λ c κs. search rules) returns)

@@ -12,8 +12,8 @@ returns-2 : tie.Need-returns-2
 unfolding S.name_of
 returns-2 c = rw c.if1.false
 
-pub name-of-spec : {M : Type 1} → statement M
-name-of-spec =
+pub name_of_spec : {M : Type 1} → statement M
+name_of_spec =
     tie.close
     (tie.spec
     (λ c κs. search rules) (λ c. search rules) returns returns-2)

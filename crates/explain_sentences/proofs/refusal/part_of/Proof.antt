@@ -23,8 +23,8 @@ returns-3 c =
     let b2 = c.before.before in
     (omega (arith, div-le_self (b2.args.place - 3) b2.args.n), rw (le-ltb _ _ c.before.if1.false, ne_eqb _ _ c.if2.false))
 
-pub part-of-spec : {M : Type 1} → statement M
-part-of-spec =
+pub part_of_spec : {M : Type 1} → statement M
+part_of_spec =
     tie.close
     (tie.spec
     returns returns-2 (λ c. search rules) add-result returns-3)

@@ -9,8 +9,8 @@ invariant-loop n base least places w₀ rest₀ k₀ w rest k = k ≤ 20
 abbrev decreases-loop : tie.decreases-loop
 decreases-loop n base least places w₀ rest₀ k₀ w rest k = 20 - k
 
-pub digits-spec : {M : Type 1} → statement M
-digits-spec =
+pub digits_spec : {M : Type 1} → statement M
+digits_spec =
     tie.close
     (tie.spec
     invariant-loop decreases-loop (λ c. search rules) (λ c. search rules) (λ c κs. search rules) (λ c. search rules)

@@ -9,8 +9,8 @@ invariant-loop on s w₀ i₀ w i = i ≤ 24
 abbrev decreases-loop : tie.decreases-loop
 decreases-loop on s w₀ i₀ w i = 24 - i
 
-pub letters-spec : {M : Type 1} → statement M
-letters-spec =
+pub letters_spec : {M : Type 1} → statement M
+letters_spec =
     tie.close
     (tie.spec
     invariant-loop decreases-loop (λ c. search rules) (λ c. search rules) (λ c κs. search rules) (λ c. search rules)

@@ -9,8 +9,8 @@ invariant-loop value₀ power₀ value power = 0 ≤ power
 abbrev decreases-loop : tie.decreases-loop
 decreases-loop value₀ power₀ value power = 800 - power
 
-pub lowered-spec : {M : Type 1} → statement M
-lowered-spec =
+pub lowered_spec : {M : Type 1} → statement M
+lowered_spec =
     tie.close
     (tie.spec
     invariant-loop decreases-loop (λ c. search rules) (λ c. search rules) (λ c. search rules) (λ c. search rules)

@@ -9,8 +9,8 @@ invariant-loop x value₀ power₀ value power = 0 ≤ power
 abbrev decreases-loop : tie.decreases-loop
 decreases-loop x value₀ power₀ value power = power
 
-pub raised-spec : {M : Type 1} → statement M
-raised-spec =
+pub raised_spec : {M : Type 1} → statement M
+raised_spec =
     tie.close
     (tie.spec
     invariant-loop decreases-loop (λ c. search rules) (λ c. search rules) (λ c. search rules) (λ c. search rules)
