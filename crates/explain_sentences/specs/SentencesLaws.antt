@@ -2,7 +2,7 @@
 use Rattle.std.specs.Prelude.{◌≡◌, ℕ, suc, ◌+◌, ◌-◌, ◌<◌, Bool, true, false, cond, not, ◌&&◌, ◌||◌, List, ◌==◌, slice_index, refl}
 use Rattle.std.proofs.Common.{sym, true≢false}
 use native.Mathlib.Omega.{arith}
-use borrow.Author.Tests.{not-true, not_false}
+use borrow.Author.Tests.{not-true, not-false}
 use Rattle.hex.specs.Hex.{is_hex}
 use Rattle.explain_sorts.specs.declared.Above.{Above}
 use Rattle.explain_sorts.specs.declared.Sort.{Sort}
@@ -13,7 +13,7 @@ use Rattle.explain_sentences.specs.Sentences.{foreign_from, is_clean}
 module _ (l : List ℕ) (n i : ℕ) where
   pub foreign_on : i < n → not (is_hex (slice_index l i)) ≡ false → foreign_from l (n - (i + 1)) (i + 1) ≡ foreign_from l (n - i) i
   unfolding foreign_from
-  foreign_on h e = let z : n - i ≡ suc (n - (i + 1)) = omega arith in rw (z, not_false (is_hex (slice_index l i)) e)
+  foreign_on h e = let z : n - i ≡ suc (n - (i + 1)) = omega arith in rw (z, not-false (is_hex (slice_index l i)) e)
 
   pub foreign_here : i < n → not (is_hex (slice_index l i)) ≡ true → i ≡ foreign_from l (n - i) i
   unfolding foreign_from

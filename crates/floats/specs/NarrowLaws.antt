@@ -16,7 +16,7 @@ use lib.Pow.{pow-add, pow_pos, pow_mono}
 use Rattle.std.specs.Float.{nan, inf, fin, Format, binary32, binary64}
 use Rattle.std.specs.Float.Ieee.{prec, emax, low, up, down, size, nearest, odd, units, round, of_bits, fits, neg, ne}
 use Rattle.std.specs.Float.Ieee.Fits.{round_is, round-fits, nan-fits, inf-fits, down_pos, eq→eqb, nearest-le}
-use Rattle.std.specs.Float.Ieee.Digits.{size_le}
+use Rattle.std.specs.Float.Ieee.Digits.{size-le}
 use Rattle.std.specs.Float.Ieee.Exact.{units_val}
 use Rattle.std.specs.Float.Ieee.Bits.{of_bits-to_bits, to_bits-lt}
 use Rattle.std.specs.Float.Ieee.Compare.{differs_from_itself}
@@ -85,7 +85,7 @@ module _ (m e : ℕ) (lo : 2 ^ 52 ≤ m) (hi : m < 2 ^ 53) where
       (div-lt_iff_lt-mul (pow_pos 925)).1
       (lt_of_lt_of_le (mul-lt-mul_of_pos_right hi (pow_pos (e - 1)))
       (le_trans (le_of_eq (sym (pow-add 2 53 (e - 1)))) (le_trans (pow_mono (short e h)) (le_of_eq (pow-add 2 24 925))))) in
-      round_k n 0 (none (size (n / 2 ^ 925)) (size_le (n / 2 ^ 925) 24 b))
+      round_k n 0 (none (size (n / 2 ^ 925)) (size-le (n / 2 ^ 925) 24 b))
       ∙ ap (λ (y : ℕ). units binary32 false y 0)
       (closest_same n (2 ^ 925) m (2 ^ (926 - e)) (pow_pos 925) (pow_pos (926 - e))
       (mul_assoc m (2 ^ (e - 1)) (2 ^ (926 - e)) ∙ ap (λ (y : ℕ). m * y) (sym (pow-add 2 (e - 1) (926 - e)) ∙ ap (λ (y : ℕ). 2 ^ y) (both e p h))))

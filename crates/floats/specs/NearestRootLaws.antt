@@ -10,7 +10,7 @@ use native.Mathlib.Nat.{div-mul-le_self, lt-div-mul-add, le-div_iff_mul-le, pow-
 use Rattle.std.proofs.Math.Dec.{nleb→lt}
 use Rattle.std.specs.Float.Ieee.{binary32, size}
 use Rattle.std.specs.Float.Ieee.Fits.{kept-lt}
-use Rattle.std.specs.Float.Ieee.Digits.{size-lt, size_le, size_reaches}
+use Rattle.std.specs.Float.Ieee.Digits.{size-lt, size-le, size_reaches}
 use Rattle.std.specs.Float.Ieee.Exact.{units_val}
 use Rattle.floats.specs.UnitLaws.{Val}
 use Rattle.floats.specs.RoundingLaws.{Rep}
@@ -178,7 +178,7 @@ module _ (n : ℕ) (r : Rep binary32 n) (p : 0 < n) where
       (q', subst (λ (z : Float). Val binary32 z false (q' * 2 ^ k)) (sym (sqrt_at binary32 x n p v)) (units_val binary32 false q' k (top q' t.digits.1)), t)
     where
       short : size w ≤ 213
-      short = size_le w 213 (root_lt w (2 ^ 213) (lt_of_le_of_lt roots.0 (lt_of_lt_of_le (mul-lt-mul_of_pos_right r.4 (pow_pos 149)) (lit≤ tt))))
+      short = size-le w 213 (root_lt w (2 ^ 213) (lt_of_le_of_lt roots.0 (lt_of_lt_of_le (mul-lt-mul_of_pos_right r.4 (pow_pos 149)) (lit≤ tt))))
 
       room : (s : ℕ) → s ≤ 213 → s - 24 ≤ 189
       room s h = omega arith

@@ -10,7 +10,7 @@ use Rattle.std.proofs.Math.Pow.{pow-lt}
 use Rattle.std.specs.Float.{nan, inf, fin, Format, binary32, binary64}
 use Rattle.std.specs.Float.Ieee.{prec, low, up, down, size, odd, hid, ones, top, of_fields, of_bits, to_bits, fits, nan_bits, neg, emax, units}
 use Rattle.std.specs.Float.Ieee.Fits.{down_pos, inf-fits, odd-fits, two, two-le_pos}
-use Rattle.std.specs.Float.Ieee.Digits.{size-lt, size_le}
+use Rattle.std.specs.Float.Ieee.Digits.{size-lt, size-le}
 use Rattle.std.specs.Float.Ieee.Bits.{is_true, of_bits-to_bits, nan_bits_is, nan_bits_above}
 use Rattle.std.proofs.Math.Arith.{le→nltb}
 use Rattle.std.specs.Float.Ieee.Exact.{odd_sign}
@@ -46,7 +46,7 @@ read_high f b x h e l =
 
 -- ---- a number's digits
 pub size_is : (n z : ℕ) → 2 ^ z ≤ n → n < 2 ^ suc z → size n ≡ suc z
-size_is n z lo hi = le_antisymm (size_le n (suc z) hi) (lt_of_not-le (λ (g : size n ≤ z). not-le_of_lt (lt_of_lt_of_le (size-lt n) (pow_mono g)) lo))
+size_is n z lo hi = le_antisymm (size-le n (suc z) hi) (lt_of_not-le (λ (g : size n ≤ z). not-le_of_lt (lt_of_lt_of_le (size-lt n) (pow_mono g)) lo))
 
 -- ---- writing
 pub write_val : (f : Format) (x : Float) (n : ℕ) → Val f x false n → to_bits f x ≡ (size n - prec f) * hid f + n / 2 ^ (size n - prec f)
@@ -82,7 +82,7 @@ write f x q k lo hi v =
 -- fewer digits, and no factor: the pattern is q
 pub write_small : (f : Format) (x : Float) (q : ℕ) → q < 2 ^ prec f → Val f x false q → to_bits f x ≡ q
 write_small f x q h v =
-    let z : size q - prec f ≡ 0 = none (size q) (prec f) (size_le q (prec f) h) in
+    let z : size q - prec f ≡ 0 = none (size q) (prec f) (size-le q (prec f) h) in
     write_val f x q v ∙ ap (λ (y : ℕ). y * hid f + q / 2 ^ y) z ∙ ap (λ (y : ℕ). y + q / 1) (native.Mathlib.Nat.zero-mul (hid f)) ∙
     zero-add (q / 1) ∙ native.Mathlib.Nat.div-one q
   where

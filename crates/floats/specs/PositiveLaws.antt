@@ -11,7 +11,7 @@ use Rattle.std.specs.Float.Ieee.{binary32, up, down, size, of_bits, fits, is_nan
 use Rattle.std.specs.Float.Ieee.Fits.{kept-lt, up_pos, and_l}
 use Rattle.std.specs.Float.Ieee.Bits.{of_bits-to_bits}
 use Rattle.std.specs.Float.Ieee.Compare.{differs_from_itself}
-use Rattle.std.specs.Float.Ieee.Digits.{size_le}
+use Rattle.std.specs.Float.Ieee.Digits.{size-le}
 use Rattle.floats.specs.UnitLaws.{Val, lt_val, eq_val}
 use Rattle.floats.specs.RoundingLaws.{counted}
 use Rattle.floats.specs.FiniteLaws.{zero32, of_true}
@@ -31,7 +31,7 @@ less s h = omega arith
 pub pattern_below : (x : Float) (n : ℕ) → Val binary32 x false n → n < 2 ^ 277 → to_bits binary32 x < 0x7f800000
 pattern_below x n v h =
     subst (λ (b : ℕ). b < 0x7f800000) (sym (write_val binary32 x n v))
-    (below (size n - 24) (n / 2 ^ (size n - 24)) (less (size n) (size_le n 277 h)) (kept-lt 24 n))
+    (below (size n - 24) (n / 2 ^ (size n - 24)) (less (size n) (size-le n 277 h)) (kept-lt 24 n))
 
 pub below_zero : (x : Float) (n : ℕ) → Val binary32 x true n → eq x z ≡ false → lt x z ≢ false
 below_zero x n v e l = elim (eq-zero-or-pos n) [

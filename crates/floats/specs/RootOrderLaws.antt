@@ -8,7 +8,7 @@ use Rattle.std.proofs.lemmas.Bool.{false≢true}
 use Rattle.std.proofs.Math.Nat.{le-suc}
 use Rattle.std.specs.Float.Ieee.{nan, prec, emax, low, up, down, size, odd, units, lt, le, eq, below}
 use Rattle.std.specs.Float.{inf, fin, Format}
-use Rattle.std.specs.Float.Ieee.Digits.{size-lt, size_le, size_reaches}
+use Rattle.std.specs.Float.Ieee.Digits.{size-lt, size-le, size_reaches}
 use Rattle.std.specs.Float.Ieee.Fits.{kept-lt, two, two-le_pos, up_pos, down_pos, and_r}
 use Rattle.std.specs.Float.Ieee.Exact.{units_val}
 use Rattle.floats.specs.UnitLaws.{lt_val, zero_val}
@@ -122,7 +122,7 @@ module _ (f : Format) (N M w v : ℕ) (h : N ≤ M) (g : w ≤ v) where
       room p j k P h = omega arith
 
   rounded_mono : rounded f N w ≤ rounded f M v
-  rounded_mono = go (eq-or-lt_of_le (fewer (size w) (size v) (prec f) (size_le w (size v) (lt_of_le_of_lt g (size-lt v)))))
+  rounded_mono = go (eq-or-lt_of_le (fewer (size w) (size v) (prec f) (size-le w (size v) (lt_of_le_of_lt g (size-lt v)))))
     where
       fewer : (x y p : ℕ) → x ≤ y → x - p ≤ y - p
       fewer x y p h = omega arith

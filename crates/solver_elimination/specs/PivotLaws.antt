@@ -7,7 +7,7 @@ use native.Mathlib.Omega.{arith}
 use Rattle.std.proofs.Math.Dec.{T}
 use Rattle.std.specs.Float.{nan, inf, fin}
 use Rattle.std.specs.Float.Ieee.{binary32, up, down, size, lt, fits, is_nan, of_bits}
-use Rattle.std.specs.Float.Ieee.Digits.{size-lt, size_le, size_reaches}
+use Rattle.std.specs.Float.Ieee.Digits.{size-lt, size-le, size_reaches}
 use Rattle.std.specs.Float.Ieee.Scale.{finite}
 use Rattle.floats.specs.Ops.{lit}
 use Rattle.floats.specs.Library.{abs}
@@ -129,7 +129,7 @@ powered : (p : Float) (s : Bool) (c : ℕ) → Val binary32 p s c → 2 ^ 82 ≤
 powered p s c v h k =
     let z = size c in
     let low : 82 < z = lt_of_not-le (λ (q : z ≤ 82). not-le_of_lt (size-lt c) (le_trans (pow_mono q) h)) in
-    let high : z ≤ 277 = size_le c 277 k in
+    let high : z ≤ 277 = size-le c 277 k in
     let n : z ≡ suc (z - 1) = omega (arith, low) in
     record {
       sign = s;

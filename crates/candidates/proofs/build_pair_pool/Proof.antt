@@ -2,7 +2,7 @@
 use mathlib.Core.Path.{◌≡◌, ap}
 use Prim.Native.Nat.{◌≤◌, ◌<◌, ◌+◌, ◌-◌}
 use native.Mathlib.Omega.{arith}
-use borrow.Author.Tests.{not-true, not_false}
+use borrow.Author.Tests.{not-true, not-false}
 use Rattle.loops.specs.Loops.{iter, range}
 use Rattle.loops.specs.IterLaws.{iter_zero, range_start, iter_more, range_more}
 use Rattle.candidates.specs.declared.Pool.{Pool}
@@ -52,7 +52,7 @@ unfolding C.pooled_pair C.pooled
 pairs-again-2 c =
     let v = c.before.before in
     let e = v.before.before.before.before.pairs.invariant.5 in
-    let yes = not_false v.valid-pair.result c.before.if1.false in (
+    let yes = not-false v.valid-pair.result c.before.if1.false in (
       search rules,
       search rules,
       search rules,

@@ -7,7 +7,7 @@ use Prim.Native.Nat.{ℕ}
 use lib.Dec.{eqb}
 use lib.ListN.{length}
 use Rattle.floats.specs.Rows.{Row}
-use borrow.Author.Tests.{eq-eqb, ne_eqb, eqb-true, ltb-false, not-true, not_false}
+use borrow.Author.Tests.{eq-eqb, ne_eqb, eqb-true, ltb-false, not-true, not-false}
 use Rattle.checked.proofs.fit_disk.Statement.{statement}
 use Rattle.checked.proofs.fit_disk.Tie as tie
 
@@ -34,10 +34,10 @@ returns-2 c =
     (⊎_elim
     (λ w. rw (some, few, xs_same _, eq-eqb _ _ w.0.left, not-true (eqb _ _) w.1.taken))
     (⊎_elim
-    (λ w. let y = eq-eqb _ _ w.0.left in rw (some, few, xs_same _, y, not_false (eqb _ _) w.1.left, not-true (eqb _ _) w.2.taken))
+    (λ w. let y = eq-eqb _ _ w.0.left in rw (some, few, xs_same _, y, not-false (eqb _ _) w.1.left, not-true (eqb _ _) w.2.taken))
     (λ w.
     let y = eq-eqb _ _ w.0.left in
-    rw (some, few, xs_same _, y, not_false (eqb _ _) w.1.left, not_false (eqb _ _) w.2.left, not-true (eqb _ _) w.3.taken))))
+    rw (some, few, xs_same _, y, not-false (eqb _ _) w.1.left, not-false (eqb _ _) w.2.left, not-true (eqb _ _) w.3.taken))))
     c.if3.branch
 
 disk-looked-requires : tie.Need-disk-looked-requires
@@ -45,7 +45,7 @@ disk-looked-requires c κs =
     let c3 = c.before.before.before in
     let args = c3.before.before.before.before.before.before.before.before.args in
     let n = length args.xs.now in
-    let same : (l : Row) → not (eqb (length l) n) ≡ false → length l ≡ n = λ l e. eqb-true (length l) n (not_false (eqb (length l) n) e) in
+    let same : (l : Row) → not (eqb (length l) n) ≡ false → length l ≡ n = λ l e. eqb-true (length l) n (not-false (eqb (length l) n) e) in
     record {
       most = ltb-false 320 n c3.before.if2.false;
       y = c3.if3.false;
@@ -64,9 +64,9 @@ returns-3 c =
       c2.if2.false,
       xs_same _,
       eq-eqb _ _ c4.before.if3.false,
-      not_false (eqb _ _) c4.if4.false,
-      not_false (eqb _ _) c.before.before.if5.false,
-      not_false (eqb _ _) c.before.if6.false,
+      not-false (eqb _ _) c4.if4.false,
+      not-false (eqb _ _) c.before.before.if5.false,
+      not-false (eqb _ _) c.before.if6.false,
     ) c.disk-looked.ensures
 
 pub fit_disk_spec : {M : Type 1} → statement M

@@ -11,7 +11,7 @@ use lib.Ieee.Scale.{finite}
 use Rattle.floats.specs.FiniteLaws.{finite_test, of_true, finite_number}
 use Rattle.remainders.specs.RemainderLaws.{rem_wild, far_field, far_rem, modulus, M}
 use borrow.Author.Rules.{rules}
-use borrow.Author.Tests.{not-true, not_false}
+use borrow.Author.Tests.{not-true, not-false}
 use Rattle.remainders.proofs.rem_far.Statement.{statement}
 use Rattle.remainders.proofs.rem_far.Tie as tie
 
@@ -22,7 +22,7 @@ wild x e = sym (finite_test binary32 x) ∙ not-true (eq (sub binary32 x x) (sub
 
 tame : (x : Float) → ne (sub binary32 x x) (sub binary32 x x) ≡ false → T (finite x)
 unfolding ne
-tame x e = of_true (sym (finite_test binary32 x) ∙ not_false (eq (sub binary32 x x) (sub binary32 x x)) e)
+tame x e = of_true (sym (finite_test binary32 x) ∙ not-false (eq (sub binary32 x x) (sub binary32 x x)) e)
 
 -- a remainder is small enough for an exact cast
 exact : (r a : ℕ) → r ≡ a % M → T (in_float binary32 (pos r))

@@ -2,7 +2,7 @@
 use mathlib.Core.Path.{◌≡◌, sym, subst, ◌∙◌}
 use Prim.Native.Nat.{◌≤◌, ◌+◌, ◌-◌}
 use native.Mathlib.Omega.{arith}
-use borrow.Author.Tests.{leb-true, not-true, not_false}
+use borrow.Author.Tests.{leb-true, not-true, not-false}
 use Rattle.loops.specs.Loops.{iter}
 use Rattle.loops.specs.IterLaws.{iter_zero, iter_more}
 use Rattle.robust_lanes.specs.Lanes as L
@@ -33,7 +33,7 @@ lanes-again c =
     let a = c9.before.args in
     let inv = c5.lanes.invariant in
     let few = c4.lanes-test.true in
-    let pair = sym c3.is-pair.ensures ∙ not_false _ c.before.before.if1.false in
+    let pair = sym c3.is-pair.ensures ∙ not-false _ c.before.before.if1.false in
     let same = lane_skipped a.n a.centered-ss a.mean a.m a.p _ c9.mean-squares.ensures c5.lanes.k few _ _ pair inv.1.is
     c.if2.true in
     (omega (arith, few), inv.1, iter_more _ _ _ _ _ inv.2 same)
@@ -41,7 +41,7 @@ lanes-again c =
 grid-angle-requires-2 : tie.Need-grid-angle-requires-2 invariant-lanes decreases-lanes
 grid-angle-requires-2 c κs =
     let c5 = c.before.before.before.before.before in
-    let pair = sym c5.is-pair.ensures ∙ not_false _ c.before.before.before.before.if1.false in
+    let pair = sym c5.is-pair.ensures ∙ not-false _ c.before.before.before.before.if1.false in
     let c7 = c5.before.before in
     let p = c7.before.before.before.before.before.args.p in
     omega (arith, leb-true (p.b + c7.lanes.k) (P.last_of p.a) pair, last_most p.a)
@@ -68,7 +68,7 @@ lanes-again-2 c =
     let a = c14.before.args in
     let inv = c10.lanes.invariant in
     let few = c9.lanes-test.true in
-    let pair = sym c8.is-pair.ensures ∙ not_false _ c.before.before.before.before.before.before.before.if1.false in
+    let pair = sym c8.is-pair.ensures ∙ not-false _ c.before.before.before.before.before.before.before.if1.false in
     let theta1 = c.before.before.before.before.grid-angle.ensures in
     let theta2 = c.before.before.grid-angle2.ensures in
     let scored = rw (theta1, theta2) at c.before.scored-from.ensures in

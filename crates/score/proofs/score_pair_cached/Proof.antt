@@ -1,7 +1,7 @@
 -- Two refusals, and then the sums and what is made of them. Assumes nothing.
 use Rattle.score.specs.Score as S
 use borrow.Author.Rules.{rules}
-use borrow.Author.Tests.{not-true, not_false}
+use borrow.Author.Tests.{not-true, not-false}
 use Rattle.score.proofs.score_pair_cached.Statement.{statement}
 use Rattle.score.proofs.score_pair_cached.Tie as tie
 
@@ -15,7 +15,7 @@ returns-2 : tie.Need-returns-2
 unfolding S.score_pair_cached
 returns-2 c =
     let v = c.before.before.valid-pair in
-    λ xs ys angles weights l. rw (← v.ensures, not_false v.result c.before.if1.false, c.if2.true)
+    λ xs ys angles weights l. rw (← v.ensures, not-false v.result c.before.if1.false, c.if2.true)
 
 returns-3 : tie.Need-returns-3
 unfolding S.score_pair_cached
@@ -25,7 +25,7 @@ returns-3 c =
     let v = c4.before.valid-pair in
     λ xs ys angles weights l. rw (
       ← v.ensures,
-      not_false v.result c4.if1.false,
+      not-false v.result c4.if1.false,
       c3.if2.false,
       l,
       ← c.before.before.cached-sums.ensures,
