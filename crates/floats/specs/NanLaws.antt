@@ -11,22 +11,22 @@ use Rattle.std.specs.Float.Ieee.Bits.{nan_bits_is, nan_bits_above}
 use Rattle.std.specs.Float.Ieee.Compare.{differs_from_itself}
 use Rattle.floats.specs.FiniteLaws.{of_true}
 
-is_nan : (x : Float) → is_nan x ≡ true → x ≡ nan
+is_nan_lem : (x : Float) → is_nan x ≡ true → x ≡ nan
 unfolding is_nan
-is_nan nan e = refl
-is_nan (inf s) e = absurd (false≢true e)
-is_nan (fin s m k) e = absurd (false≢true e)
+is_nan_lem nan e = refl
+is_nan_lem (inf s) e = absurd (false≢true e)
+is_nan_lem (fin s m k) e = absurd (false≢true e)
 
 pub nan_word : (f : Format) (w : ℕ) → ones f * hid f < w % top f → nan ≡ from_bits f w
-nan_word f w h = sym (is_nan (from_bits f w) (sym (nan_bits_is f w) ∙ nan_bits_above f w ∙ lt-ltb (ones f * hid f) (w % top f) h))
+nan_word f w h = sym (is_nan_lem (from_bits f w) (sym (nan_bits_is f w) ∙ nan_bits_above f w ∙ lt-ltb (ones f * hid f) (w % top f) h))
 
 pub no_nan_word : (f : Format) (w : ℕ) → w % top f ≤ ones f * hid f → T (not (nan_bits f w))
 no_nan_word f w h = subst (λ (b : Bool). T (not b)) (sym (nan_bits_above f w)) (le→nltb (ones f * hid f) (w % top f) h)
 
 -- the pattern that is written for a NaN
-pub nan_bits : (x : Float) → ne x x ≡ true → 0x7fc0_0000 ≡ to_bits binary32 x
+pub nan_bits_lem : (x : Float) → ne x x ≡ true → 0x7fc0_0000 ≡ to_bits binary32 x
 unfolding to_bits
-nan_bits x d = subst (λ (y : Float). 0x7fc0_0000 ≡ to_bits binary32 y) (sym (differs_from_itself x (of_true d))) refl
+nan_bits_lem x d = subst (λ (y : Float). 0x7fc0_0000 ≡ to_bits binary32 y) (sym (differs_from_itself x (of_true d))) refl
 
 -- what is made of a NaN is one; on the left by computation
 module _ (f : Format) where

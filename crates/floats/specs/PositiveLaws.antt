@@ -1,13 +1,13 @@
 -- A value that a program has tested: no NaN, not zero, not below zero. Its pattern is that of an infinity, or lies from 1 up to below that. And the
 -- root's own cases. Assumes nothing.
-use Rattle.std.specs.Prelude.{◌≡◌, ℕ, zero, suc, ◌+◌, ◌-◌, ◌*◌, ◌/◌, ◌^◌, ◌<◌, ◌≤◌, Bool, true, false, not, ◌&&◌, ◌||◌, T, pos, ◌==◌, ◌≢◌, to_bits, Float}
+use Rattle.std.specs.Prelude.{◌≡◌, ℕ, zero, suc, ◌+◌, ◌-◌, ◌*◌, ◌/◌, ◌^◌, ◌<◌, ◌≤◌, Bool, true, false, not, ◌&&◌, ◌||◌, T, pos, ◌==◌, ◌≢◌, Float}
 use Rattle.std.proofs.Math.Path.{refl, subst}
 use Rattle.std.proofs.Common.{sym, ap, ◌∙◌, inl, inr, zero-le, arith, true≢false, eqb→eq, ltb→lt, lt-ltb}
 use native.Mathlib.Nat.{eq-zero-or-pos, le_of_eq, lt_irrefl, mul-pos, zero-lt-suc, zero-mul, not-le_of_lt}
 use Rattle.std.specs.Bool.{beq}
 use Rattle.std.proofs.lemmas.Bool.{false≢true}
 use Rattle.std.specs.Float.{nan, inf, fin}
-use Rattle.std.specs.Float.Ieee.{binary32, up, down, size, of_bits, fits, is_nan, eq, ne, lt, div}
+use Rattle.std.specs.Float.Ieee.{binary32, up, down, size, of_bits, fits, is_nan, to_bits, eq, ne, lt, div}
 use Rattle.std.specs.Float.Ieee.Fits.{kept-lt, up_pos, and_l}
 use Rattle.std.specs.Float.Ieee.Bits.{of_bits-to_bits}
 use Rattle.std.specs.Float.Ieee.Compare.{differs_from_itself}

@@ -1,7 +1,7 @@
 -- A square root is a NaN or not below zero, and one that is capped by `min` with PI lies from 0 to PI, whatever went in. Assumes nothing.
-use Rattle.std.specs.Prelude.{◌≡◌, ℕ, zero, suc, ◌+◌, ◌*◌, ◌/◌, ◌^◌, ◌≤◌, Bool, true, false, cond, not, ◌&&◌, ◌||◌, T, ℤ, pos, ◌==◌, is_nan, nat_lt, refl}
+use Rattle.std.specs.Prelude.{◌≡◌, ℕ, zero, suc, ◌+◌, ◌*◌, ◌/◌, ◌^◌, ◌≤◌, Bool, true, false, cond, not, ◌&&◌, ◌||◌, T, ℤ, pos, ◌==◌, nat_lt, refl}
 use Rattle.std.proofs.Common.{sym, ap, ◌∙◌, subst, inl, inr, zero-le, le_trans, le_of_eq, eq-or-lt_of_le, zero-mul, true≢false, arith, lt→ltb}
-use lib.Ieee.{Float, nan, inf, fin, Format, binary32, up, down, units, odd, lt, le, eq, fits, below, level, low, prec, emax, of_bits}
+use lib.Ieee.{Float, nan, inf, fin, Format, binary32, up, down, units, odd, lt, le, eq, fits, below, level, low, prec, emax, of_bits, is_nan}
 use Rattle.std.specs.Float.Ieee.Fits.{eq→eqb, and_i}
 use Rattle.floats.specs.Ops.{nought, pi}
 use Rattle.floats.specs.Library.{sqrt, root_units, min, negative, before}

@@ -9,7 +9,7 @@ use native.Mathlib.Nat.{zero-mul, mul-one, one-mul, mul_assoc, mul_right_comm, m
 use native.Mathlib.Nat.{eq_of_mul-eq-mul_right, mod-lt, mod-le, sub-add_cancel}
 use Rattle.std.proofs.Math.Dec.{nleb→lt}
 use Rattle.std.proofs.Math.Pow.{pow-lt}
-use lib.Ieee.{Float, nan, inf, fin, Format, binary32, binary64, prec, emax, low, up, down, units, round, le, below, level, fits}
+use lib.Ieee.{Float, nan, inf, fin, Format, binary32, binary64, prec, emax, low, up, down, units, odd, round, le, below, level, fits}
 use Rattle.std.specs.Float.Ieee.Fits.{down_pos, and_l, and_r, round-fits, round_is}
 use Rattle.std.specs.Float.Ieee.Exact.{round_exact, units_val}
 use Rattle.std.specs.Float.Ieee.Scale.{round_under, grid, overflow, finite}
@@ -72,22 +72,24 @@ finite_under (inf false) (inf s) u t h = absurd t
 finite_under (inf false) (fin s m e) u t h = absurd h
 finite_under (fin s m e) y u t h = tt
 
+upper_pick : (b : Bool) (x : Float) → Upper x → Upper (cond b x (inf false))
+upper_pick true x u = u
+upper_pick false x u = refl
+
+odd_upper : (d q k l : ℕ) → Upper (odd d false q k l)
+unfolding odd
+odd_upper d zero k l = refl
+odd_upper d (suc q) k l = refl
+
+units_upper : (f : Format) (q k : ℕ) → Upper (units f false q k)
+unfolding units
+units_upper f q k =
+    upper_pick (nat_lt (q * 2 ^ k) (2 ^ (low f + suc (emax f)))) (odd (suc (prec f)) false q k (low f)) (odd_upper (suc (prec f)) q k (low f))
+
 upper_round : (f : Format) (n : ℕ) → Upper (round f false n (2 ^ low f))
 upper_round f n =
-    subst Upper (sym (round_is f false n (2 ^ low f))) (go (kept (prec f) (n * 2 ^ low f) (2 ^ low f)) (drop (prec f) (n * 2 ^ low f) (2 ^ low f)))
-  where
-    pick : (b : Bool) (x : Float) → Upper x → Upper (cond b x (inf false))
-    pick true x u = u
-    pick false x u = refl
-
-    odd_upper : (d q k l : ℕ) → Upper (lib.Ieee.odd d false q k l)
-    odd_upper d zero k l = unfold lib.Ieee.odd in refl
-    odd_upper d (suc q) k l = unfold lib.Ieee.odd in refl
-
-    go : (q k : ℕ) → Upper (units f false q k)
-    go q k =
-        unfold units in pick (nat_lt (q * 2 ^ k) (2 ^ (low f + suc (emax f)))) (lib.Ieee.odd (suc (prec f)) false q k (low f))
-        (odd_upper (suc (prec f)) q k (low f))
+    subst Upper (sym (round_is f false n (2 ^ low f)))
+    (units_upper f (kept (prec f) (n * 2 ^ low f) (2 ^ low f)) (drop (prec f) (n * 2 ^ low f) (2 ^ low f)))
 
 le_units : (a b : ℕ) → T (below false a false b || level false a false b) → a ≤ b
 le_units a b t = go (nat_lt a b) (ltb→lt a b) t

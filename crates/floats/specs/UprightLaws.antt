@@ -29,6 +29,7 @@ none_upright f (fin s (suc m) e) w =
   where
     never : (c : ℕ) → c ≤ 0 → (n : ℕ) → 0 < n → n ≢ c * down e
     never zero h n p q = lt_irrefl 0 (subst (λ (z : ℕ). 0 < z) (q ∙ zero-mul (down e)) p)
+    never (suc _) h n p q = elim h [ ]
 
 round_upright : (f : Format) (s : Bool) (a c : ℕ) → 0 < c → (T s → a ≡ 0) → Upright (round f s a c)
 round_upright f false a c p h = clear_upright (round f false a c) (round_clear f a c)

@@ -1,5 +1,7 @@
 // What Rust's library does on f32 and f64, each function proved equal to its definition in
 // specs/Library.antt for every value: NaN, infinities, both zeros and subnormals.
+#![tactic(auto)]
+
 ghost use Rattle.std.specs.Prelude.{◌≡◌, ◌^◌, ◌<◌, true, pos, from_bits, to_bits};
 ghost use Rattle.std.specs.Float.{binary32, binary64};
 ghost use Rattle.std.specs.Float.Ieee.{eq, of_int};
