@@ -1,4 +1,6 @@
 // Candidate angles and the pool of pairs: disk_sector/candidates.rs.
+#![tactic(auto)]
+
 ghost use Rattle.std.specs.Prelude.{◌≡◌, false, ◌+◌, ◌≤◌, ◌<◌, length, replicate};
 ghost use Rattle.floats.specs.Library.{hist_bins};
 ghost use Rattle.candidates.specs.Candidates as C;

@@ -1,5 +1,7 @@
 // The checked entries: what a caller gets who may hand over anything. Wrong lengths and values that
 // are not finite are refused by number and place; everything else is fitted.
+#![tactic(auto)]
+
 ghost use Rattle.std.specs.Prelude.{◌≡◌, [], ◌<◌, ◌≤◌, length, Float};
 ghost use Rattle.solver.specs.Buffers.{max_samples};
 ghost use Rattle.data.specs.Data.{lent_disk, OfPixels, DiskSized, max_tanh_pixels};

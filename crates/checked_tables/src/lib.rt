@@ -1,4 +1,6 @@
 // Storing tables of seed models: the entry that refuses by number and place.
+#![tactic(auto)]
+
 ghost use Rattle.std.specs.Prelude.{◌≡◌, length};
 ghost use Rattle.seed_models.specs.Words.{state_size, fresh_in};
 ghost use Rattle.checked_tables.specs.Tables as T;

@@ -1,5 +1,7 @@
 // The disk's record is a definition, specs/Data.antt: in the code a disk is the five slices that a
 // caller has, one after the other. Here stands what the code of the disk search shares.
+#![tactic(auto)]
+
 ghost use Rattle.std.specs.Prelude.{◌≡◌};
 ghost use Rattle.data.specs.Data.{max_tanh_pixels};
 

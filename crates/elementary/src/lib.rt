@@ -1,6 +1,8 @@
 // sin, cos, tanh, exp and atan2 in fixed steps, each proved equal to its definition in
 // specs/Elementary.antt. Only f32 `+ - * /`, comparisons and selects, so that a loop over pixels
 // becomes vector code; the one look at bits is `scale`.
+#![tactic(auto)]
+
 ghost use Rattle.std.specs.Prelude.{◌≡◌, not, T};
 ghost use Rattle.std.specs.Float.Ieee.{is_nan};
 ghost use Rattle.elementary.specs.Elementary as E;

@@ -1,6 +1,6 @@
 -- What explain does with its input, turn by turn: all that it says but what stands in its sentences' blanks. Definitions only.
 use Rattle.std.specs.Prelude.{◌≡◌, ℕ, ◌+◌, ◌%◌, ◌^◌, true, List}
-use Rattle.hex.specs.Hex.{Written}
+use Rattle.hexadecimal.specs.Hex.{Written}
 use Rattle.lines.specs.declared.Found.{Found}
 use Rattle.lines.specs.declared.Found.TheVariants.{Line, More, Done}
 use Rattle.lines.specs.Lines.{found_of}

@@ -2,6 +2,8 @@
 // A frame line and the answer in the line after it are a pair; an answer alone is explained alone.
 // Which sentences are said of each line equals its definition, specs/Explain.antt and what that cites;
 // what stands in their blanks is proved safe, no more.
+#![tactic(auto)]
+
 ghost use Rattle.std.specs.Prelude.{◌≡◌, ◌+◌, ◌≤◌, length};
 ghost use Rattle.lines.specs.Turns.{StateKept, Lies, input, output};
 ghost use Rattle.explain_sorts.specs.Sorts.{SortSound};

@@ -2,7 +2,7 @@
 -- Its warnings stand in `explain_warnings`; what stands in the blanks, numbers and endings of nouns, is not said.
 use Rattle.std.specs.Prelude.{ℕ, zero, suc, ◌+◌, ◌-◌, ◌*◌, ◌/◌, ◌%◌, Bool, true, cond, not, ◌&&◌, ◌||◌, List, [], ◌∷◌, ◌++◌, length, ◌==◌, nat_le, nat_lt, slice_index}
 use Prim.Native.String.{String}
-use Rattle.hex.specs.Hex.{Written, is_hex}
+use Rattle.hexadecimal.specs.Hex.{Written, is_hex}
 use Rattle.shapes.specs.Shapes.{samples_of}
 use Rattle.explain_words.specs.Tell.{telling}
 use Rattle.explain_warnings.specs.declared.Reading.{Reading}

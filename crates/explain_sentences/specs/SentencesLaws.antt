@@ -3,7 +3,7 @@ use Rattle.std.specs.Prelude.{◌≡◌, ℕ, suc, ◌+◌, ◌-◌, ◌<◌, Bo
 use Rattle.std.proofs.Common.{sym, true≢false}
 use native.Mathlib.Omega.{arith}
 use borrow.Author.Tests.{not-true, not-false}
-use Rattle.hex.specs.Hex.{is_hex}
+use Rattle.hexadecimal.specs.Hex.{is_hex}
 use Rattle.explain_sorts.specs.declared.Above.{Above}
 use Rattle.explain_sorts.specs.declared.Sort.{Sort}
 use Rattle.explain_sorts.specs.declared.Sort.TheVariants.{Frame, Fit, Refused, Bad}

@@ -15,7 +15,7 @@ fn first_foreign(line: &[u8]) -> usize
 {
     let n = line.len();
     for i in 0..n {
-        if !hex::is_hex(line[i]) {
+        if !hexadecimal::is_hex(line[i]) {
             return i;
         }
     }

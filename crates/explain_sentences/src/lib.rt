@@ -1,5 +1,7 @@
 // What explain says of a line, in sentences: each function tells its own, and which of them are told
 // equals its definition in specs/Sentences.antt. The words in their blanks are proved safe, no more.
+#![tactic(auto)]
+
 use explain_sorts::Above;
 use explain_words::numbers::{bits, number, plural};
 

@@ -1,7 +1,7 @@
 -- What a line of frames and answers is, and which answer the frame above it is due. Definitions only.
 use Rattle.std.specs.Prelude.{Bool, true, false, cond, not, ◌&&◌, ◌||◌, List, ℕ, zero, suc, ◌+◌, ◌*◌, ◌≤◌, length, eqb, ltb}
 use Rattle.std.specs.Float.Ieee.Scale.{finite}
-use Rattle.hex.specs.Hex.{byte_of, word_of, value_of}
+use Rattle.hexadecimal.specs.Hex.{byte_of, word_of, value_of}
 use Rattle.shapes.specs.Shapes.{shape_of, fit_length, samples_of, answer_type}
 use Rattle.shapes.specs.declared.Shape.{Shape}
 use Rattle.shapes.specs.declared.Shape.TheVariants as Shapes

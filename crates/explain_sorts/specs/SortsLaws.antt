@@ -3,7 +3,7 @@ use Rattle.std.specs.Prelude.{◌≡◌, true, false, not, List}
 use Prim.Native.Nat.{ℕ, suc, ◌+◌, ◌-◌, ◌*◌, ◌<◌}
 use native.Mathlib.Omega.{arith}
 use Rattle.std.specs.Float.Ieee.Scale.{finite}
-use Rattle.hex.specs.Hex.{value_of}
+use Rattle.hexadecimal.specs.Hex.{value_of}
 use Rattle.shapes.specs.declared.Fault.{Fault}
 use Rattle.shapes.specs.declared.Fault.TheVariants.{TooLong, Foreign, Short, RingLength, DiskShort, DiskLength}
 use Rattle.explain_sorts.specs.Sorts.{wild_word, SortSound, fault_sort}

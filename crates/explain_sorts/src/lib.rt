@@ -1,5 +1,7 @@
 // What a line of frames and answers is, and which answer the frame above it is due. Nothing is written
 // here; all of it equals its definition in specs/Sorts.antt.
+#![tactic(auto)]
+
 ghost use Rattle.std.specs.Prelude.{◌≡◌, ◌+◌, ◌*◌, ◌≤◌, ◌<◌, length};
 ghost use Rattle.shapes.specs.Shapes.{fit_length};
 ghost use Rattle.explain_sorts.specs.Sorts as S;
@@ -101,8 +103,8 @@ fn refusal_sort(line: &[u8], kind: u32) -> Sort
     requires { 8 ≤ length line.now }
     ensures { (result ≡ S.refusal_sort line.now kind) × S.SortSound (length line.now) result }
 {
-    let number = hex::byte_at(line, 2);
-    let place = hex::byte_at(line, 4) * 256 + hex::byte_at(line, 6);
+    let number = hexadecimal::byte_at(line, 2);
+    let place = hexadecimal::byte_at(line, 4) * 256 + hexadecimal::byte_at(line, 6);
     if (number == 0) | (number > 5) {
         return bad(NO_NUMBER, kind, number, 0);
     }
@@ -138,7 +140,7 @@ fn fit_answer(line: &[u8], kind: u32) -> Sort
     if n != size {
         return bad(ANSWER_LENGTH, kind, 0, 0);
     }
-    let number = hex::byte_at(line, 2);
+    let number = hexadecimal::byte_at(line, 2);
     if number != 0 {
         return bad(FIT_NUMBER, kind, number, 0);
     }
@@ -199,7 +201,7 @@ fn wild_word(line: &[u8], at: usize, n: usize) -> usize
 {
     for k in 0..n {
         let p = at + 8 * k;
-        if !floats::is_finite(hex::value_at(line, p)) {
+        if !floats::is_finite(hexadecimal::value_at(line, p)) {
             return k;
         }
     }
@@ -214,7 +216,7 @@ fn valued(line: &[u8], number: u64, kind: u32, pixels: u32, at: usize, n: usize)
     let k = wild_word(line, at, n);
     if k < n {
         let p = at + 8 * k;
-        let bits = hex::word_at(line, p);
+        let bits = hexadecimal::word_at(line, p);
         return Above {
             line: number,
             kind,

@@ -6,7 +6,7 @@ use Rattle.std.specs.Float.Ieee.{eq, lt, le, is_nan}
 use Rattle.std.specs.Float.Ieee.Scale.{finite}
 use Rattle.floats.specs.Ops.{◌⊘◌, lit, nought, one, pi, half_pi}
 use Rattle.floats.specs.Library.{max}
-use Rattle.hex.specs.Hex.{byte_of, value_of}
+use Rattle.hexadecimal.specs.Hex.{byte_of, value_of}
 use Rattle.explain_words.specs.Tell.{telling}
 use Rattle.explain_warnings.specs.declared.Reading.{Reading}
 

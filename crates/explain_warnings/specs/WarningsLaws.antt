@@ -5,7 +5,7 @@ use Rattle.std.specs.Float.{nan, inf, fin}
 use Rattle.std.specs.Float.Ieee.{eq}
 use Rattle.std.specs.Float.Ieee.Scale.{finite}
 use Rattle.explain_words.specs.Tell.{told, telling, spelled, piece, flags_of, barred, barless, all_barless}
-use Rattle.hex.specs.Hex.{bytes, codes}
+use Rattle.hexadecimal.specs.Hex.{bytes, codes}
 use Rattle.explain_words.specs.TellLaws.{told_telling}
 use Rattle.explain_warnings.specs.declared.Reading.{Reading}
 use Rattle.explain_warnings.specs.Warnings.{is_infinite, warnings_of, warnings_text}

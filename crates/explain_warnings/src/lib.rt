@@ -1,7 +1,9 @@
 // What in an answer is not to be taken at face value: the values of an answer's line, and the warnings
 // that they call for, in sentences. All of it equals its definition in specs/Warnings.antt.
+#![tactic(auto)]
+
 ghost use Rattle.std.specs.Prelude.{◌≡◌, ◌+◌, ◌≤◌, length};
-ghost use Rattle.hex.specs.Hex.{Written};
+ghost use Rattle.hexadecimal.specs.Hex.{Written};
 ghost use Rattle.explain_words.specs.Tell.{flags_of};
 ghost use Rattle.shapes.specs.Shapes.{fit_length};
 ghost use Rattle.explain_warnings.specs.Warnings as W;
@@ -35,22 +37,22 @@ fn ring_reading(line: &[u8]) -> Reading
 {
     Reading {
         disk: false,
-        amp: hex::value_at(line, 4),
-        theta1: hex::value_at(line, 12),
-        theta2: hex::value_at(line, 20),
-        error1: hex::value_at(line, 28),
-        error2: hex::value_at(line, 36),
-        rms: hex::value_at(line, 44),
+        amp: hexadecimal::value_at(line, 4),
+        theta1: hexadecimal::value_at(line, 12),
+        theta2: hexadecimal::value_at(line, 20),
+        error1: hexadecimal::value_at(line, 28),
+        error2: hexadecimal::value_at(line, 36),
+        rms: hexadecimal::value_at(line, 44),
         width: 0.0,
         rel_rms: 0.0,
         corr: 0.0,
         edge_score: 0.0,
         objective: 0.0,
         trials: 0,
-        starts: hex::byte_at(line, 52),
-        first: hex::byte_at(line, 54),
-        second: hex::byte_at(line, 56),
-        known: hex::byte_at(line, 58),
+        starts: hexadecimal::byte_at(line, 52),
+        first: hexadecimal::byte_at(line, 54),
+        second: hexadecimal::byte_at(line, 56),
+        known: hexadecimal::byte_at(line, 58),
     }
 }
 
@@ -60,22 +62,22 @@ fn disk_reading(line: &[u8]) -> Reading
 {
     Reading {
         disk: true,
-        theta1: hex::value_at(line, 4),
-        theta2: hex::value_at(line, 12),
-        width: hex::value_at(line, 20),
-        amp: hex::value_at(line, 28),
-        rms: hex::value_at(line, 36),
-        rel_rms: hex::value_at(line, 44),
-        corr: hex::value_at(line, 52),
-        edge_score: hex::value_at(line, 60),
-        objective: hex::value_at(line, 68),
-        error1: hex::value_at(line, 76),
-        error2: hex::value_at(line, 84),
-        trials: hex::byte_at(line, 92) * 256 + hex::byte_at(line, 94),
+        theta1: hexadecimal::value_at(line, 4),
+        theta2: hexadecimal::value_at(line, 12),
+        width: hexadecimal::value_at(line, 20),
+        amp: hexadecimal::value_at(line, 28),
+        rms: hexadecimal::value_at(line, 36),
+        rel_rms: hexadecimal::value_at(line, 44),
+        corr: hexadecimal::value_at(line, 52),
+        edge_score: hexadecimal::value_at(line, 60),
+        objective: hexadecimal::value_at(line, 68),
+        error1: hexadecimal::value_at(line, 76),
+        error2: hexadecimal::value_at(line, 84),
+        trials: hexadecimal::byte_at(line, 92) * 256 + hexadecimal::byte_at(line, 94),
         starts: 0,
         first: 0,
         second: 0,
-        known: hex::byte_at(line, 96),
+        known: hexadecimal::byte_at(line, 96),
     }
 }
 

@@ -2,7 +2,7 @@
 -- `{a}` in a sentence is the first word, `{b}` the second; every other character stands for itself. A sentence has no bar.
 use Rattle.std.specs.Prelude.{ℕ, zero, suc, ◌+◌, ◌*◌, ◌%◌, ◌≤◌, Bool, true, false, cond, not, ◌&&◌, ◌||◌, List, [], ◌∷◌, ◌++◌, length, ◌==◌, nat_lt, slice_index, slice_index_or}
 use Prim.Native.String.{String}
-use Rattle.hex.specs.Hex.{Written, bytes}
+use Rattle.hexadecimal.specs.Hex.{Written, bytes}
 
 -- ---- a word has 24 characters, of which control characters are left out: so no word ends a line
 abbrev pub letter : ℕ → List ℕ

@@ -7,8 +7,8 @@ use Prim.Native.String.{String}
 use Rattle.std.proofs.Math.Numerals.{add-one}
 use Rattle.std.proofs.lemmas.Bool.{not-true}
 use Rattle.std.proofs.Math.Seq.{drop-length, get_or-append_seam}
-use Rattle.hex.specs.Hex.{Written, bytes}
-use Rattle.hex.specs.HexLaws.{written_none, written_as, written_then}
+use Rattle.hexadecimal.specs.Hex.{Written, bytes}
+use Rattle.hexadecimal.specs.HexLaws.{written_none, written_as, written_then}
 use Rattle.explain_words.specs.Tell.{Told, letter, spelt, piece, piece_if, spelled, sentence_after, told, telling, flags_of, barred, barless, all_barless}
 
 -- ---- a word, letter by letter

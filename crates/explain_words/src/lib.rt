@@ -1,10 +1,12 @@
 // Text for people: sentences with words in their blanks, written into a lent buffer. What is written is
 // proved to be the sentences that are asked for, with the words that are given in their blanks
 // (specs/Tell.antt); how a number is spelt (`numbers`) is proved safe and ending, no more.
+#![tactic(auto)]
+
 pub mod numbers;
 
 ghost use Rattle.std.specs.Prelude.{◌≡◌, ◌+◌, ◌*◌, ◌<◌, ◌≤◌, false, length, slice_index_or};
-ghost use Rattle.hex.specs.Hex.{Written};
+ghost use Rattle.hexadecimal.specs.Hex.{Written};
 ghost use Rattle.explain_words.specs.Tell as T;
 
 // A character of a word; control characters are left out, so that no word ends a line.

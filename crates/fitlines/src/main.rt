@@ -1,5 +1,7 @@
 // fitlines: the answer to each frame line of standard input, one a line, on standard output.
 // Everything that decides anything is in `lines` and `frames`; here are the buffers and the loop.
+#![tactic(auto)]
+
 ghost use Rattle.std.specs.Prelude.{◌≡◌, length};
 ghost use Rattle.lines.specs.Turns.{Answered, StateKept, Lies, input, output};
 ghost use Rattle.fitlines.specs.Fitlines as P;

@@ -2,7 +2,7 @@
 use Rattle.std.specs.Prelude.{Bool, cond, List, [], ◌∷◌, ◌++◌, map, ℕ, ◌+◌, ◌*◌, ◌%◌, ◌^◌, length, ltb, Float}
 use Rattle.std.specs.Float.{binary32}
 use Rattle.std.specs.Float.Ieee.{to_bits}
-use Rattle.hex.specs.Hex.{value_of, values_of, byte_text, count_text, words_text, put}
+use Rattle.hexadecimal.specs.Hex.{value_of, values_of, byte_text, count_text, words_text, put}
 use Rattle.shapes.specs.Shapes.{shape_of, samples_of, answer_type}
 use Rattle.shapes.specs.declared.Shape.{Shape}
 use Rattle.shapes.specs.declared.Shape.TheVariants as Shapes

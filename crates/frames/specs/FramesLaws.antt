@@ -1,8 +1,8 @@
 -- The lengths of the answers' texts: 60 of a ring's fit, 98 of a disk's and 8 of a refusal. Assumes nothing.
 use Rattle.std.specs.Prelude.{◌≡◌, refl, List, ◌++◌, ℕ, ◌+◌, ◌≤◌, length}
 use Rattle.std.proofs.Common.{ap, ◌∙◌, append_assoc, arith, length-append}
-use Rattle.hex.specs.Hex.{byte_text, count_text, put}
-use Rattle.hex.specs.HexLaws.{words_length, put_put}
+use Rattle.hexadecimal.specs.Hex.{byte_text, count_text, put}
+use Rattle.hexadecimal.specs.HexLaws.{words_length, put_put}
 use Rattle.robust_choice.specs.declared.RingFit.{RingFit}
 use Rattle.checked.specs.declared.Measured.{Measured}
 use Rattle.frames.specs.Frames.{ring_words, ring_text, disk_words, disk_text, refusal_text}

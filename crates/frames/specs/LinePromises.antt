@@ -4,7 +4,7 @@ use Rattle.std.specs.Prelude.{◌≡◌, Bool, true, false, ℕ, ◌+◌, ◌*�
 use Rattle.std.proofs.Math.Path.{refl}
 use mathlib.Core.List.{List, [], ◌∷◌, ◌++◌}
 use Rattle.std.proofs.Common.{arith}
-use Rattle.hex.specs.Hex.{value_of, values_of, byte_text, count_text, words_text}
+use Rattle.hexadecimal.specs.Hex.{value_of, values_of, byte_text, count_text, words_text}
 use Rattle.shapes.specs.Shapes.{shape_of, samples_of, answer_type}
 use Rattle.shapes.specs.declared.Fault.{Fault}
 use Rattle.shapes.specs.declared.Shape.{Shape}

@@ -2,7 +2,7 @@
 -- says that the number returned and the whole buffer equal it. Assumes nothing.
 use Rattle.std.specs.Prelude.{◌≡◌, List, ◌++◌, ℕ, ◌<◌, ◌≤◌, length, drop}
 use Rattle.std.proofs.Common.{lt-ltb, le-ltb}
-use Rattle.hex.specs.HexLaws.{put_zero}
+use Rattle.hexadecimal.specs.HexLaws.{put_zero}
 use Rattle.frames.specs.Frames.{reply_of, answer_of, text_of, number_of}
 
 -- a buffer under 98 bytes keeps every byte, and the number is 1

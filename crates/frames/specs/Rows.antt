@@ -28,7 +28,7 @@ use Rattle.robust.specs.Robust.{total, deviations, fit_is_suspicious, start, rin
 use Rattle.robust.specs.Record.{record_ring}
 use Rattle.checked.specs.Checked.{wild_from, first_wild, ring_looked, checked_ring}
 use Rattle.candidates.specs.Candidates.{combine_edge_pair}
-use Rattle.hex.specs.Hex.{is_hex, all_hex, byte_of, word_of, values_of, byte_text, count_text, word_text, words_text, codes, bytes}
+use Rattle.hexadecimal.specs.Hex.{is_hex, all_hex, byte_of, word_of, values_of, byte_text, count_text, word_text, words_text, codes, bytes}
 use Rattle.shapes.specs.Shapes.{shape_of, typed_shape, ring_shape, disk_shape, counted_shape}
 use Rattle.frames.specs.Frames.{answer_of, ring_text, refusal_text, text_of}
 

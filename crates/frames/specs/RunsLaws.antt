@@ -2,7 +2,7 @@
 use Rattle.std.specs.Prelude.{◌≡◌, List, ℕ, ◌+◌, ◌-◌, ◌*◌, ◌≤◌, length, take, drop, Float}
 use Rattle.std.proofs.Common.{ap, ◌∙◌, arith}
 use Rattle.loops.specs.TabLaws.{tab_length, tab_same, drop_tab, take_tab}
-use Rattle.hex.specs.Hex.{value_of, values_of}
+use Rattle.hexadecimal.specs.Hex.{value_of, values_of}
 use Rattle.data.specs.Data.{DiskData, disk_of}
 use Rattle.frames.specs.Frames.{disk_of_line}
 

@@ -1,7 +1,9 @@
 // Frame lines: a line of text in, the answer's text into a lent buffer, and the number back.
+#![tactic(auto)]
+
 ghost use Rattle.std.specs.Prelude.{◌≡◌, ◌+◌, ◌*◌, ◌≤◌, length};
 ghost use Rattle.data.specs.Data.{max_tanh_pixels};
-ghost use Rattle.hex.specs.Hex.{put, Written};
+ghost use Rattle.hexadecimal.specs.Hex.{put, Written};
 ghost use Rattle.shapes.specs.Shapes.{ring_length, samples_of, RingType};
 ghost use Rattle.checked.specs.Checked.{checked_disk, fit_counts, flag};
 ghost use Rattle.frames.specs.Frames as F;
@@ -41,8 +43,8 @@ fn ring_line(line: &[u8]) -> RingAnswer
 {
     let mut samples = [0.0f32; 16];
     let mut angles = [0.0f32; 16];
-    hex::values(line, 2, &mut samples);
-    hex::values(line, 130, &mut angles);
+    hexadecimal::values(line, 2, &mut samples);
+    hexadecimal::values(line, 130, &mut angles);
     checked::fit_ring(&samples, &angles)
 }
 
@@ -53,8 +55,8 @@ fn ring24_line(line: &[u8]) -> RingAnswer
 {
     let mut samples = [0.0f32; 24];
     let mut angles = [0.0f32; 24];
-    hex::values(line, 2, &mut samples);
-    hex::values(line, 194, &mut angles);
+    hexadecimal::values(line, 2, &mut samples);
+    hexadecimal::values(line, 194, &mut angles);
     checked::fit_ring24(&samples, &angles)
 }
 
@@ -106,10 +108,10 @@ fn runs_line(line: &[u8], n: usize, vs: &mut [f32]) -> Answer
     requires { (n ≤ max_tanh_pixels) × (length line.now ≡ 30 + 40 * n) × (length vs.old ≡ 5 * n) }
     ensures { result ≡ F.disk_answer line.now n }
 {
-    let energy = hex::value_at(line, 6);
-    let base0 = hex::value_at(line, 14);
-    let base1 = hex::value_at(line, 22);
-    hex::values(line, 30, vs);
+    let energy = hexadecimal::value_at(line, 6);
+    let base0 = hexadecimal::value_at(line, 14);
+    let base1 = hexadecimal::value_at(line, 22);
+    hexadecimal::values(line, 30, vs);
     runs_answered(energy, base0, base1, vs, n)
 }
 
@@ -176,8 +178,8 @@ fn write_ring(kind: u8, r: RingFit, out: &mut [u8], at: usize) -> u32
     ensures { (result ≡ 0) × (out.new ≡ put out.old at (F.ring_text kind r)) }
 {
     let ws = ring_words(r);
-    hex::put_count(out, at, kind as u32 * 256);
-    hex::put_words(out, at + 4, &ws);
+    hexadecimal::put_count(out, at, kind as u32 * 256);
+    hexadecimal::put_words(out, at + 4, &ws);
     0
 }
 
@@ -211,10 +213,10 @@ fn write_disk(m: Measured, out: &mut [u8], at: usize) -> u32
     let e = m.estimate;
     let s = e.standing;
     let k = as_number(s.known);
-    hex::put_count(out, at, 0x8200);
-    hex::put_words(out, at + 4, &ws);
-    hex::put_count(out, at + 92, trials);
-    hex::put_byte(out, at + 96, k);
+    hexadecimal::put_count(out, at, 0x8200);
+    hexadecimal::put_words(out, at + 4, &ws);
+    hexadecimal::put_count(out, at + 92, trials);
+    hexadecimal::put_byte(out, at + 96, k);
     0
 }
 
@@ -222,9 +224,9 @@ fn write_refusal(kind: u8, number: u8, place: u16, out: &mut [u8], at: usize) ->
     requires { at + 98 ≤ length out.old }
     ensures { (result ≡ number) × (out.new ≡ put out.old at (F.refusal_text kind number place)) }
 {
-    hex::put_byte(out, at, kind as u32);
-    hex::put_byte(out, at + 2, number as u32);
-    hex::put_count(out, at + 4, place as u32);
+    hexadecimal::put_byte(out, at, kind as u32);
+    hexadecimal::put_byte(out, at + 2, number as u32);
+    hexadecimal::put_count(out, at + 4, place as u32);
     number as u32
 }
 

@@ -2,6 +2,8 @@
 // function line 10 to 66 calls. The program around it, tests/funclines.c, reads the lines and is not
 // proved. No part of the product: an export may ask for something by `requires`, which that program
 // tests before it calls, and promises nothing but that it is safe and ends.
+#![tactic(auto)]
+
 ghost use Rattle.std.specs.Prelude.{◌^◌, ◌<◌};
 
 use robust_choice::{RingFit, Second};

@@ -1,5 +1,7 @@
 // The test instrument's half of the disk: libfunclines_disk.a, one export for each function that a
 // function line 70 to 95 calls; crates/funclines has the other half, and says what both are for.
+#![tactic(auto)]
+
 ghost use Rattle.std.specs.Prelude.{◌≡◌, ◌≤◌, length};
 ghost use Rattle.data.specs.Data.{DiskSized, max_tanh_pixels};
 ghost use Rattle.candidates.specs.Candidates.{max_candidates, max_paired, max_pairs};

@@ -1,4 +1,6 @@
 // Angles of undirected lines, modulo PI: disk_sector/geometry.rs, and its twin in ring_fit/seed.rs.
+#![tactic(auto)]
+
 ghost use Rattle.std.specs.Prelude.{◌≡◌};
 ghost use Rattle.std.specs.Float.Ieee.{neg};
 ghost use Rattle.floats.specs.Ops.{◌⊕◌, ◌⊖◌, nought, pi, half_pi};

@@ -1,5 +1,7 @@
 // The library for C and Rust callers: libjengubool.a. Each function is one call of a proved one;
 // include/jengubool.h declares them, with what each promises.
+#![tactic(auto)]
+
 ghost use Rattle.std.specs.Prelude.{◌≡◌, ◌≤◌, [], map, length};
 ghost use Rattle.std.specs.Float.{binary32};
 ghost use Rattle.data.specs.Data.{lent_disk};

@@ -1,6 +1,6 @@
 -- The turns of a program that answers line by line: what each leaves of its input, its text and its place. Definitions only.
 use Rattle.std.specs.Prelude.{Bool, true, false, cond, ◌≡◌, List, ℕ, ◌+◌, ◌-◌, ◌≤◌, length, take, drop, leb}
-use Rattle.hex.specs.Hex.{put}
+use Rattle.hexadecimal.specs.Hex.{put}
 use Rattle.lines.specs.declared.Feed.{Feed}
 use Rattle.lines.specs.declared.Found.{Found}
 use Rattle.lines.specs.declared.Found.TheVariants.{Line, More, Done}

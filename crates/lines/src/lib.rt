@@ -2,6 +2,8 @@
 // are left. A line longer than the caller's limit is dropped as it comes, in constant memory, and
 // told by `skip`. The turns of a program that answers line by line are here too, but for the answer:
 // a turn finds a line, asks `room` for its answer's place and calls `answered`, or reads on, or ends.
+#![tactic(auto)]
+
 ghost use Rattle.std.specs.Prelude.{◌≡◌, ◌+◌, ◌-◌, ◌≤◌, ◌<◌, length};
 ghost use Rattle.lines.specs.Lines.{Filled, Front, begun, end_from, found_of, is_gone, kept_of, passed, FoundWithin};
 ghost use Rattle.lines.specs.Turns as T;

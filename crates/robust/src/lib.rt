@@ -1,5 +1,7 @@
 // The whole ring fit: ring_fit/robust.rs, the suspicion gate and the grid search behind it. The grid itself is the crate
 // robust_grid.
+#![tactic(auto)]
+
 ghost use Rattle.std.specs.Prelude.{◌≡◌, true, [], ◌*◌, ◌<◌, length};
 ghost use Rattle.solver_record.specs.Record.{without_mean};
 ghost use Rattle.solver.specs.Record.{record_with_seed};

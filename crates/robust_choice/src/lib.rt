@@ -1,4 +1,6 @@
 // Which start a ring's answer is of: ring_fit/robust.rs, the end of fit_ring.
+#![tactic(auto)]
+
 ghost use Rattle.std.specs.Prelude.{◌≡◌};
 ghost use Rattle.robust_choice.specs.Parts as P;
 

@@ -1,4 +1,6 @@
 // The grid of seeds behind a suspicious start: ring_fit/robust.rs, the rows of robust_grid_fit, and four pairs of them.
+#![tactic(auto)]
+
 ghost use Rattle.std.specs.Prelude.{◌≡◌, ◌+◌, ◌*◌, ◌≤◌, ◌<◌, leb, length};
 ghost use Rattle.floats.specs.Rows.{count};
 ghost use Rattle.solver.specs.Buffers.{max_samples};

@@ -1,5 +1,7 @@
 // Four pairs of the grid side by side, and the best seed so far with what its root was taken of: the inner part of
 // ring_fit/robust.rs, robust_grid_fit.
+#![tactic(auto)]
+
 ghost use Rattle.std.specs.Prelude.{◌≡◌, ◌<◌, length};
 ghost use Rattle.floats.specs.Ops.{nought};
 ghost use Rattle.floats.specs.Rows.{count};

@@ -1,5 +1,7 @@
 // Loops over the elementary functions, exported for the bench. Each works up to the least of its
 // lengths, so that no caller owes a proof.
+#![tactic(auto)]
+
 ghost use Rattle.std.specs.Prelude.{◌≤◌};
 
 use elementary::{atan2, exp_neg, sin_cos_near, tanh};

@@ -1,4 +1,6 @@
 // The score of a pair of axes, the order of fits and the errors of a fit: disk_sector/score.rs.
+#![tactic(auto)]
+
 ghost use Rattle.std.specs.Prelude.{◌≡◌, ◌≤◌, Float, length};
 ghost use Rattle.data.specs.Data.{OfPixels, OfValues, OfGradients, max_tanh_pixels};
 ghost use Rattle.candidates.specs.Candidates.{max_candidates};

@@ -1,6 +1,8 @@
 // How well the gradients agree with a line: the edge sums of score.rs, precompute_edge_alignments,
 // and of search.rs, build_axis_rows. Terms go into a lent row first and are added afterwards in the
 // order of the pixels: the same bits, and the terms become vector code.
+#![tactic(auto)]
+
 ghost use Rattle.std.specs.Prelude.{◌≡◌, true, length};
 ghost use Rattle.score_edges.specs.Edges as E;
 ghost use Rattle.score_edges.specs.NearLaws as N;

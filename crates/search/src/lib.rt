@@ -1,5 +1,7 @@
 // The whole disk search: disk_sector/search.rs, insert_top and best_disk_fit. Its step 3 is in
 // search_ranking.
+#![tactic(auto)]
+
 ghost use Rattle.std.specs.Prelude.{◌≡◌, ◌+◌, ◌*◌, ◌≤◌, ◌<◌, length, take};
 ghost use Rattle.data.specs.Data.{lent_disk, OfPixels, OfValues, OfGradients, DiskSized, max_tanh_pixels};
 ghost use Rattle.candidates.specs.Candidates.{max_paired, max_pairs};

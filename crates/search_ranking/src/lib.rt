@@ -1,4 +1,6 @@
 // The ranking of the pool: disk_sector/search.rs, best_disk_fit, step 3.
+#![tactic(auto)]
+
 ghost use Rattle.std.specs.Prelude.{◌≡◌, ◌≤◌, replicate};
 ghost use Rattle.candidates.specs.Candidates.{max_pairs, no_pair};
 ghost use Rattle.search_ranking.specs.Ranking as R;

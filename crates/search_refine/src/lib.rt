@@ -1,6 +1,8 @@
 // The refinement of a fit: disk_sector/search.rs, refine_fit_cached. Each of the 24 neighbours is
 // taken around the best of its moment; the rows of its axes are kept or made by search_rows. The
 // public contract knows of no kept rows.
+#![tactic(auto)]
+
 ghost use Rattle.std.specs.Prelude.{◌≡◌, ◌+◌, ◌<◌, length, get_or};
 ghost use Rattle.data.specs.Data.{lent_disk, DiskSized};
 ghost use Rattle.search_rows.specs.Rows.{SlotsKept, rows_room};

@@ -2,6 +2,8 @@
 // rows an axis, each in a slot with the angle that it was made for as its key, and makes a row only
 // where no slot has it. All rows stand in one lent buffer, 320 places apart: axis 1 in the slots 0 to
 // 2, axis 2 in 3 to 5, and scratch behind them.
+#![tactic(auto)]
+
 ghost use Rattle.std.specs.Prelude.{◌≡◌, true, ◌+◌, ◌≤◌, ◌<◌, Float, length};
 ghost use Rattle.std.specs.Float.Ieee.{lt};
 ghost use Rattle.floats.specs.Ops.{nought};

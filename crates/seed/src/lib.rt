@@ -1,5 +1,7 @@
 // Seeds of the ring fit: ring_fit/seed.rs, second_harmonic, score_seed_pair and
 // insert_seed_candidate.
+#![tactic(auto)]
+
 ghost use Rattle.std.specs.Prelude.{◌≡◌, ◌≤◌, length};
 ghost use Rattle.solver.specs.Buffers.{max_samples};
 ghost use Rattle.seed.specs.Seed as S;

@@ -1,5 +1,7 @@
 // Seed models for a ring that does not move: ring_fit/seed.rs and robust.rs under the feature `std`, with tables of angles
 // that a caller supplies, in memory that the caller lends.
+#![tactic(auto)]
+
 ghost use Rattle.std.specs.Prelude.{◌≡◌, ◌&&◌, ◌++◌, ◌+◌, ◌*◌, ◌≤◌, ◌<◌, length, drop};
 ghost use Rattle.floats.specs.Rows.{at, count};
 ghost use Rattle.solver.specs.Buffers.{max_samples};

@@ -1,7 +1,7 @@
 -- A frame's shape (docs/RULES.md, Frame lines): its type, length and characters, in the order of the refusals. Definitions only.
 use Rattle.std.specs.Prelude.{Bool, cond, not, ◌||◌, List, ◌≡◌, ℕ, ◌+◌, ◌*◌, ◌≤◌, length, T, ltb, eqb}
 use Rattle.data.specs.Data.{max_tanh_pixels}
-use Rattle.hex.specs.Hex.{all_hex, byte_of}
+use Rattle.hexadecimal.specs.Hex.{all_hex, byte_of}
 use Rattle.shapes.specs.declared.Fault.TheVariants.{TooLong, Foreign, Short, RingLength, DiskShort, DiskLength}
 use Rattle.shapes.specs.declared.Shape.{Shape}
 use Rattle.shapes.specs.declared.Shape.TheVariants.{Ring, Disk, BadCount, OtherType, Malformed}

@@ -1,5 +1,7 @@
 // A frame's shape: what a line's type, length and characters say of it, before any value is read.
 // The order of the refusals is that of docs/RULES.md, Frame lines, and stands in specs/Shapes.antt.
+#![tactic(auto)]
+
 ghost use Rattle.std.specs.Prelude.{◌≡◌, ◌+◌, ◌≤◌, ◌<◌, length};
 ghost use Rattle.shapes.specs.Shapes as S;
 
@@ -93,7 +95,7 @@ fn disk_shape(line: &[u8]) -> Shape
     if line.len() < DISK_HEAD {
         return Shape::Malformed(Fault::DiskShort);
     }
-    let n = hex::byte_at(line, 2) * 256 + hex::byte_at(line, 4);
+    let n = hexadecimal::byte_at(line, 2) * 256 + hexadecimal::byte_at(line, 4);
     counted_shape(line, n)
 }
 
@@ -101,7 +103,7 @@ fn typed_shape(line: &[u8]) -> Shape
     requires { 2 ≤ length line.now }
     ensures { (result ≡ S.typed_shape line.now) × S.ShapeSized (length line.now) result }
 {
-    let kind = hex::byte_at(line, 0);
+    let kind = hexadecimal::byte_at(line, 0);
     if kind == 1 || kind == 3 {
         return ring_shape(line, kind);
     }
@@ -118,7 +120,7 @@ pub fn shape_of(line: &[u8]) -> Shape
     if n > LIMIT {
         return Shape::Malformed(Fault::TooLong);
     }
-    if !hex::all_hex(line) {
+    if !hexadecimal::all_hex(line) {
         return Shape::Malformed(Fault::Foreign);
     }
     if n < 2 {

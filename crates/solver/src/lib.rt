@@ -1,4 +1,6 @@
 // The Gauss-Newton fit from a seed: ring_fit/solver.rs, fit_with_seed.
+#![tactic(auto)]
+
 ghost use Rattle.std.specs.Prelude.{◌≡◌, true, ◌*◌, ◌≤◌, length};
 ghost use Rattle.solver.specs.Solver as S;
 ghost use Rattle.solver.specs.Record as R;

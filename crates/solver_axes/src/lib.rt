@@ -1,5 +1,7 @@
 // Two axes brought into their canonical form: ring_fit/solver.rs, wrap_to_tau, canonicalize and
 // canonicalize_tracking_swap. The ring and the disk both go through here.
+#![tactic(auto)]
+
 ghost use Rattle.std.specs.Prelude.{◌≡◌};
 ghost use Rattle.solver_axes.specs.Canonical as C;
 

@@ -1,5 +1,7 @@
 // Elimination of a 4 by 4 system with one right side or two: ring_fit/solver.rs, solve_4x4. A row has eight places: the
 // matrix, two right sides, and two that lie idle, so that it is two vectors of four.
+#![tactic(auto)]
+
 ghost use Rattle.std.specs.Prelude.{◌≡◌, false, ◌<◌};
 ghost use Rattle.floats.specs.Rows.{at};
 ghost use Rattle.solver_elimination.specs.Solve as S;

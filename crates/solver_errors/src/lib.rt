@@ -1,5 +1,7 @@
 // The standard errors of the two axes, and whether they are known: ring_fit/solver.rs, axis_std_errors. Both right sides go
 // through one elimination.
+#![tactic(auto)]
+
 ghost use Rattle.std.specs.Prelude.{◌≡◌, ◌^◌, ◌<◌};
 ghost use Rattle.solver_elimination.specs.Solve.{solve4x4, unit2, unit3};
 ghost use Rattle.solver_errors.specs.StdErrors as S;

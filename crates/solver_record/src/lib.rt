@@ -1,5 +1,7 @@
 // The record of a start's fit: ring_fit/solver.rs, degenerate_fit, the test before it, and what fit_with_seed answers where its
 // updates stopped.
+#![tactic(auto)]
+
 ghost use Rattle.std.specs.Prelude.{◌≡◌, ◌^◌, ◌<◌};
 ghost use Rattle.solver_record.specs.Fit as F;
 ghost use Rattle.solver_record.specs.Record as R;

@@ -1,6 +1,6 @@
 -- Each sort has its own sentences, and a frame has none. Assumes nothing.
 use Rattle.explain_sorts.specs.Sorts.{SortSound}
-use Rattle.hex.specs.HexLaws.{written_none}
+use Rattle.hexadecimal.specs.HexLaws.{written_none}
 use Rattle.std.proofs.Common.{[], length, subst, arith, rules}
 use Rattle.explain.proofs.body_told.Statement.{statement}
 use Rattle.explain.proofs.body_told.Tie as tie

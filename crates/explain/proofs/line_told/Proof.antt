@@ -1,5 +1,5 @@
 -- Three texts side by side are one. Assumes nothing.
-use Rattle.hex.specs.HexLaws.{written_then}
+use Rattle.hexadecimal.specs.HexLaws.{written_then}
 use Rattle.std.proofs.Common.{arith, rules}
 use Rattle.explain.proofs.line_told.Statement.{statement}
 use Rattle.explain.proofs.line_told.Tie as tie

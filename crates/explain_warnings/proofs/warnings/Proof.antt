@@ -2,9 +2,9 @@
 use native.Mathlib.Omega.{arith}
 use Rattle.explain_warnings.specs.WarningsLaws.{warnings_told}
 use Rattle.explain_warnings.specs.Warnings as W
-use Rattle.hex.specs.HexLaws.{written_as}
+use Rattle.hexadecimal.specs.HexLaws.{written_as}
 use Rattle.explain_words.specs.Tell.{barred}
-use Rattle.hex.specs.Hex.{bytes, codes}
+use Rattle.hexadecimal.specs.Hex.{bytes, codes}
 use borrow.Author.Rules.{rules}
 use Rattle.explain_warnings.proofs.warnings.Statement.{statement}
 use Rattle.explain_warnings.proofs.warnings.Tie as tie

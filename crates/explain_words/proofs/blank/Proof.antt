@@ -1,5 +1,5 @@
 -- Past the last word there is none. Assumes nothing.
-use Rattle.hex.specs.HexLaws.{written_none}
+use Rattle.hexadecimal.specs.HexLaws.{written_none}
 use Rattle.explain_words.specs.TellLaws.{spelt_empty}
 use lib.ListN.{get_or-eq_default}
 use Rattle.std.proofs.Common.{[], arith, rules}

@@ -1,7 +1,7 @@
 -- A control character is left out. Assumes nothing.
-use Rattle.hex.specs.HexLaws.{written_none}
+use Rattle.hexadecimal.specs.HexLaws.{written_none}
 use Rattle.std.proofs.Common.{arith, rules, le-ltb, lt-ltb}
-use Rattle.hex.specs.HexLaws.{put_one}
+use Rattle.hexadecimal.specs.HexLaws.{put_one}
 use Rattle.explain_words.proofs.letter.Statement.{statement}
 use Rattle.explain_words.proofs.letter.Tie as tie
 

@@ -1,7 +1,7 @@
 -- The three ways are the definition's. Assumes nothing.
-use Rattle.hex.specs.HexLaws.{written_none}
+use Rattle.hexadecimal.specs.HexLaws.{written_none}
 use Rattle.explain_words.specs.Tell as T
-use Rattle.hex.specs.HexLaws.{put_one}
+use Rattle.hexadecimal.specs.HexLaws.{put_one}
 use Rattle.std.proofs.Common.{arith, rules}
 use Rattle.explain_words.proofs.piece.Statement.{statement}
 use Rattle.explain_words.proofs.piece.Tie as tie

@@ -1,5 +1,5 @@
 -- Nothing is said of a sentence that is not told. Assumes nothing.
-use Rattle.hex.specs.HexLaws.{written_none}
+use Rattle.hexadecimal.specs.HexLaws.{written_none}
 use Rattle.std.proofs.Common.{arith, rules}
 use Rattle.explain_words.proofs.piece_if.Statement.{statement}
 use Rattle.explain_words.proofs.piece_if.Tie as tie

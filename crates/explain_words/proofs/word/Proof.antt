@@ -1,9 +1,9 @@
 -- What is said so far are the letters of the word so far. Assumes nothing.
-use Rattle.hex.specs.HexLaws.{written_none, written_then}
+use Rattle.hexadecimal.specs.HexLaws.{written_none, written_then}
 use Rattle.explain_words.specs.TellLaws.{spelt_none, spelt_next}
 use Rattle.std.proofs.Common.{◌≡◌, ◌+◌, ◌-◌, ◌≤◌, length, arith, rules}
 use Rattle.explain_words.specs.Tell.{spelt}
-use Rattle.hex.specs.Hex.{Written}
+use Rattle.hexadecimal.specs.Hex.{Written}
 use Rattle.explain_words.proofs.word.Statement.{statement}
 use Rattle.explain_words.proofs.word.Tie as tie
 

@@ -3,8 +3,8 @@ use mathlib.Core.Path.{ap}
 use Prim.Native.Nat.{◌+◌}
 use native.Mathlib.Omega.{arith}
 use Rattle.frames.specs.Frames.{line_text, text_of}
-use Rattle.hex.specs.Hex.{Written}
-use Rattle.hex.specs.HexLaws.{written_one, written_then}
+use Rattle.hexadecimal.specs.Hex.{Written}
+use Rattle.hexadecimal.specs.HexLaws.{written_one, written_then}
 use borrow.Author.Rules.{rules}
 use Rattle.frames.proofs.append.Statement.{statement}
 use Rattle.frames.proofs.append.Tie as tie

@@ -1,8 +1,8 @@
 -- Four writes side by side are one. Assumes nothing.
 use Rattle.frames.specs.FramesLaws.{four_puts}
 use Rattle.frames.specs.Frames as F
-use Rattle.hex.specs.HexLaws.{words_length}
-use Rattle.hex.specs.Hex.{byte_text, count_text}
+use Rattle.hexadecimal.specs.HexLaws.{words_length}
+use Rattle.hexadecimal.specs.Hex.{byte_text, count_text}
 use mathlib.Core.Path.{refl}
 use borrow.Author.Rules.{rules}
 use Rattle.frames.proofs.write_disk.Statement.{statement}

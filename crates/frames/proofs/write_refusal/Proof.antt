@@ -3,8 +3,8 @@ use mathlib.Core.Path.{refl}
 use Prim.Native.Nat.{◌+◌}
 use native.Mathlib.Omega.{arith}
 use Rattle.frames.specs.Frames.{refusal_text}
-use Rattle.hex.specs.Hex.{count_text, byte_text}
-use Rattle.hex.specs.HexLaws.{put_put}
+use Rattle.hexadecimal.specs.Hex.{count_text, byte_text}
+use Rattle.hexadecimal.specs.HexLaws.{put_put}
 use borrow.Author.Rules.{rules}
 use Rattle.frames.proofs.write_refusal.Statement.{statement}
 use Rattle.frames.proofs.write_refusal.Tie as tie

@@ -2,8 +2,8 @@
 use mathlib.Core.Path.{refl}
 use Prim.Native.Nat.{◌+◌}
 use native.Mathlib.Omega.{arith}
-use Rattle.hex.specs.Hex.{count_text, byte_text, words_text}
-use Rattle.hex.specs.HexLaws.{put_put, words_length}
+use Rattle.hexadecimal.specs.Hex.{count_text, byte_text, words_text}
+use Rattle.hexadecimal.specs.HexLaws.{put_put, words_length}
 use Rattle.frames.specs.Frames as F
 use borrow.Author.Rules.{rules}
 use Rattle.frames.proofs.write_ring.Statement.{statement}

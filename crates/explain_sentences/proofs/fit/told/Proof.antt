@@ -3,8 +3,8 @@ use Rattle.std.proofs.Common.{refl, ap, arith, rules}
 use Rattle.explain_sentences.specs.Sentences as S
 use Rattle.explain_words.specs.TellLaws.{rows_told}
 use Rattle.explain_words.specs.Tell.{barred, all_barless, barless}
-use Rattle.hex.specs.Hex.{bytes, codes}
-use Rattle.hex.specs.HexLaws.{written_then, written_as}
+use Rattle.hexadecimal.specs.Hex.{bytes, codes}
+use Rattle.hexadecimal.specs.HexLaws.{written_then, written_as}
 use Rattle.explain_sentences.proofs.fit.told.Statement.{statement}
 use Rattle.explain_sentences.proofs.fit.told.Tie as tie
 

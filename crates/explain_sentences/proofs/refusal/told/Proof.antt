@@ -3,7 +3,7 @@ use Rattle.std.proofs.Common.{refl, arith, rules}
 use Rattle.explain_sentences.specs.Sentences as S
 use Rattle.explain_words.specs.TellLaws.{rows_told}
 use Rattle.explain_words.specs.Tell.{barred, all_barless, barless}
-use Rattle.hex.specs.Hex.{bytes, codes}
+use Rattle.hexadecimal.specs.Hex.{bytes, codes}
 use Rattle.explain_sentences.proofs.refusal.told.Statement.{statement}
 use Rattle.explain_sentences.proofs.refusal.told.Tie as tie
 

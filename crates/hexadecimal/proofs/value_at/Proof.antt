@@ -1,7 +1,7 @@
 -- The word's value. Assumes nothing.
 use borrow.Author.Rules.{rules}
-use Rattle.hex.proofs.value_at.Statement.{statement}
-use Rattle.hex.proofs.value_at.Tie as tie
+use Rattle.hexadecimal.proofs.value_at.Statement.{statement}
+use Rattle.hexadecimal.proofs.value_at.Tie as tie
 
 returns : tie.Need-returns
 returns c = rw (← c.before.word_at.ensures) c.from-bits.ensures

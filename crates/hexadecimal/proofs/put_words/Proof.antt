@@ -3,11 +3,11 @@ use mathlib.Core.Path.{◌≡◌, ◌∙◌, sym, ap}
 use Prim.Native.Nat.{◌≤◌, ◌+◌, ◌-◌, ◌*◌}
 use native.Mathlib.Omega.{arith}
 use lib.ListN.{length, get_or}
-use Rattle.hex.specs.Hex.{words_text, word_text, put}
-use Rattle.hex.specs.HexLaws.{put_put, put_none, words_length, word_length, words_none, words_next}
+use Rattle.hexadecimal.specs.Hex.{words_text, word_text, put}
+use Rattle.hexadecimal.specs.HexLaws.{put_put, put_none, words_length, word_length, words_none, words_next}
 use borrow.Author.Rules.{rules}
-use Rattle.hex.proofs.put_words.Statement.{statement}
-use Rattle.hex.proofs.put_words.Tie as tie
+use Rattle.hexadecimal.proofs.put_words.Statement.{statement}
+use Rattle.hexadecimal.proofs.put_words.Tie as tie
 
 abbrev invariant-loop : tie.invariant-loop
 invariant-loop out₀ at ws n k₀ out k = (k ≤ n) × (length out ≡ length out₀) × (out ≡ put out₀ at (words_text ws k))

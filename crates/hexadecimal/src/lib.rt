@@ -1,7 +1,9 @@
 // Hexadecimal digits, words and values: reading them from a slice, and writing them into a lent one.
+#![tactic(auto)]
+
 ghost use Rattle.std.specs.Prelude.{◌≡◌, ◌+◌, ◌*◌, ◌<◌, ◌≤◌, length};
-ghost use Rattle.hex.specs.Hex.{is_hex, all_hex, digit_of, byte_of, word_of, word_list_of, value_of, values_of};
-ghost use Rattle.hex.specs.Hex.{hex_of, byte_text, count_text, word_text, words_text, put};
+ghost use Rattle.hexadecimal.specs.Hex.{is_hex, all_hex, digit_of, byte_of, word_of, word_list_of, value_of, values_of};
+ghost use Rattle.hexadecimal.specs.Hex.{hex_of, byte_text, count_text, word_text, words_text, put};
 
 pub fn is_hex(b: u8) -> bool
     ensures { result ≡ is_hex b }

@@ -1,10 +1,10 @@
 -- Two bytes side by side are one write. Assumes nothing.
 use native.Mathlib.Omega.{arith}
-use Rattle.hex.specs.Hex.{byte_text, count_text}
-use Rattle.hex.specs.HexLaws.{put_put}
+use Rattle.hexadecimal.specs.Hex.{byte_text, count_text}
+use Rattle.hexadecimal.specs.HexLaws.{put_put}
 use borrow.Author.Rules.{rules}
-use Rattle.hex.proofs.put_count.Statement.{statement}
-use Rattle.hex.proofs.put_count.Tie as tie
+use Rattle.hexadecimal.proofs.put_count.Statement.{statement}
+use Rattle.hexadecimal.proofs.put_count.Tie as tie
 
 returns : tie.Need-returns
 unfolding count_text byte_text

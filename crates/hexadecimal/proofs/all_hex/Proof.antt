@@ -3,11 +3,11 @@ use mathlib.Core.Path.{◌≡◌}
 use Prim.Native.Nat.{◌≤◌, ◌-◌}
 use native.Mathlib.Omega.{arith}
 use lib.ListN.{length}
-use Rattle.hex.specs.Hex.{all_hex}
+use Rattle.hexadecimal.specs.Hex.{all_hex}
 use Rattle.loops.specs.IterLaws.{iter_zero, iter_next}
 use borrow.Author.Rules.{rules}
-use Rattle.hex.proofs.all_hex.Statement.{statement}
-use Rattle.hex.proofs.all_hex.Tie as tie
+use Rattle.hexadecimal.proofs.all_hex.Statement.{statement}
+use Rattle.hexadecimal.proofs.all_hex.Tie as tie
 
 abbrev invariant-loop : tie.invariant-loop
 invariant-loop s n ok₀ i₀ ok i = (i ≤ n) × (ok ≡ all_hex s i)

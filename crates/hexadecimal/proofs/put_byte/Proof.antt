@@ -4,11 +4,11 @@ use mathlib.Core.Path.{◌≡◌}
 use Prim.Native.Nat.{◌+◌, ◌/◌, ◌%◌}
 use native.Mathlib.Omega.{arith}
 use lib.ListN.{length-set, length}
-use Rattle.hex.specs.Hex.{hex_of, byte_text, put}
-use Rattle.hex.specs.HexLaws.{put_one, put_put, put_length}
+use Rattle.hexadecimal.specs.Hex.{hex_of, byte_text, put}
+use Rattle.hexadecimal.specs.HexLaws.{put_one, put_put, put_length}
 use borrow.Author.Rules.{rules}
-use Rattle.hex.proofs.put_byte.Statement.{statement}
-use Rattle.hex.proofs.put_byte.Tie as tie
+use Rattle.hexadecimal.proofs.put_byte.Statement.{statement}
+use Rattle.hexadecimal.proofs.put_byte.Tie as tie
 
 slice-write-out-2 : tie.Need-slice-write-out-2
 slice-write-out-2 c = simp length-set (omega arith)

@@ -1,8 +1,8 @@
 -- Each return is one way of the definition. Assumes nothing.
-use Rattle.hex.specs.Hex.{is_hex}
+use Rattle.hexadecimal.specs.Hex.{is_hex}
 use borrow.Author.Tests.{lt-ltb, le-ltb}
-use Rattle.hex.proofs.is_hex.Statement.{statement}
-use Rattle.hex.proofs.is_hex.Tie as tie
+use Rattle.hexadecimal.proofs.is_hex.Statement.{statement}
+use Rattle.hexadecimal.proofs.is_hex.Tie as tie
 
 returns : tie.Need-returns
 unfolding is_hex

@@ -1,10 +1,10 @@
 -- Two halves side by side are one write. Assumes nothing.
 use native.Mathlib.Omega.{arith}
-use Rattle.hex.specs.Hex.{byte_text, count_text, word_text}
-use Rattle.hex.specs.HexLaws.{put_put}
+use Rattle.hexadecimal.specs.Hex.{byte_text, count_text, word_text}
+use Rattle.hexadecimal.specs.HexLaws.{put_put}
 use borrow.Author.Rules.{rules}
-use Rattle.hex.proofs.put_word.Statement.{statement}
-use Rattle.hex.proofs.put_word.Tie as tie
+use Rattle.hexadecimal.proofs.put_word.Statement.{statement}
+use Rattle.hexadecimal.proofs.put_word.Tie as tie
 
 returns : tie.Need-returns
 unfolding word_text count_text byte_text

@@ -7,7 +7,7 @@ use Prim.Native.Nat.{ℕ, zero, suc, ◌+◌, ◌*◌, ◌≤◌, ◌<◌}
 use native.Mathlib.Omega.{arith}
 use Rattle.std.proofs.Math.ListN.{length, take, drop, length-append, length-take}
 use Rattle.std.proofs.Math.Seq.{set_split, take_at, drop-drop}
-use Rattle.hex.specs.Hex.{byte_text, count_text, word_text, words_text, put, Written}
+use Rattle.hexadecimal.specs.Hex.{byte_text, count_text, word_text, words_text, put, Written}
 
 module _ (l : List ℕ) (at : ℕ) where
   pub put_length : (xs : List ℕ) → at + length xs ≤ length l → length (put l at xs) ≡ length l

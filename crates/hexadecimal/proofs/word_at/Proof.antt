@@ -1,8 +1,8 @@
 -- Four bytes make a word. Assumes nothing.
-use Rattle.hex.specs.Hex.{word_of}
+use Rattle.hexadecimal.specs.Hex.{word_of}
 use borrow.Author.Rules.{rules}
-use Rattle.hex.proofs.word_at.Statement.{statement}
-use Rattle.hex.proofs.word_at.Tie as tie
+use Rattle.hexadecimal.proofs.word_at.Statement.{statement}
+use Rattle.hexadecimal.proofs.word_at.Tie as tie
 
 returns : tie.Need-returns
 unfolding word_of

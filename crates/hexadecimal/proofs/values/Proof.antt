@@ -2,17 +2,18 @@
 use mathlib.Core.Path.{◌≡◌, ◌∙◌}
 use Prim.Native.Nat.{◌≤◌, ◌+◌, ◌-◌, ◌*◌}
 use native.Mathlib.Omega.{arith}
+use lib.Ieee.{nan}
 use lib.ListN.{length, set, length-set}
-use Rattle.hex.specs.Hex.{word_of, word_list_of}
+use Rattle.hexadecimal.specs.Hex.{value_of, values_of}
 use Rattle.loops.specs.TabLaws.{stored_all}
 use Rattle.loops.specs.Loops.{iter}
 use Rattle.loops.specs.IterLaws.{iter_zero, iter_next}
 use borrow.Author.Rules.{rules}
-use Rattle.hex.proofs.words.Statement.{statement}
-use Rattle.hex.proofs.words.Tie as tie
+use Rattle.hexadecimal.proofs.values.Statement.{statement}
+use Rattle.hexadecimal.proofs.values.Tie as tie
 
 abbrev invariant-loop : tie.invariant-loop
-invariant-loop s at out₀ n k₀ out k = (k ≤ n) × (length out ≡ n) × (out ≡ iter (λ k l. set l k (word_of s (at + 8 * k))) out₀ k)
+invariant-loop s at out₀ n k₀ out k = (k ≤ n) × (length out ≡ n) × (out ≡ iter (λ k l. set l k (value_of s (at + 8 * k))) out₀ k)
 
 abbrev decreases-loop : tie.decreases-loop
 decreases-loop s at out₀ n k₀ out k = n - k
@@ -24,14 +25,13 @@ loop-again : tie.Need-loop-preserved invariant-loop decreases-loop
 loop-again c = (search rules, simp length-set (search rules), rw iter_next (cc))
 
 returns : tie.Need-returns invariant-loop decreases-loop
-unfolding word_list_of
+unfolding values_of
 returns c =
-    let b4 = c.before.before.before.before in
-    let h : c.before.loop.k ≡ length b4.args.out.now = omega arith in
-    rw h at c.before.loop.invariant.2 ∙ stored_all _ _ 0
+    let h : c.before.loop.k ≡ length c.before.before.before.before.args.out.now = omega arith in
+    rw h at c.before.loop.invariant.2 ∙ stored_all _ _ nan
 
-pub words_spec : {M : Type 1} → statement M
-words_spec =
+pub values_spec : {M : Type 1} → statement M
+values_spec =
     tie.close
     (tie.spec
     invariant-loop decreases-loop loop-holds (λ c. search rules) (λ c. search rules) (λ c κs. search rules)

@@ -1,8 +1,8 @@
 -- The two ways are those of the definition. Assumes nothing.
 use borrow.Author.Tests.{lt-ltb, le-ltb}
 use borrow.Author.Rules.{rules}
-use Rattle.hex.proofs.hex.Statement.{statement}
-use Rattle.hex.proofs.hex.Tie as tie
+use Rattle.hexadecimal.proofs.hex.Statement.{statement}
+use Rattle.hexadecimal.proofs.hex.Tie as tie
 
 returns : tie.Need-returns
 returns c = rw (lt-ltb _ _ c.if1.true)

@@ -1,9 +1,9 @@
 -- Two digits make a byte. Assumes nothing.
 use native.Mathlib.Omega.{arith}
-use Rattle.hex.specs.Hex.{byte_of}
+use Rattle.hexadecimal.specs.Hex.{byte_of}
 use borrow.Author.Rules.{rules}
-use Rattle.hex.proofs.byte_at.Statement.{statement}
-use Rattle.hex.proofs.byte_at.Tie as tie
+use Rattle.hexadecimal.proofs.byte_at.Statement.{statement}
+use Rattle.hexadecimal.proofs.byte_at.Tie as tie
 
 returns : tie.Need-returns
 unfolding byte_of
