@@ -83,7 +83,7 @@ def used_lines(uses, text):
                 parts = [p for p in short.split("◌") if p]
                 if all(p in text for p in parts):
                     keep.append(n)
-            elif short in words or bare in words:
+            elif short in words or bare in words or short == "[]" and "[]" in text:
                 keep.append(n)
         if keep:
             out.append(f"use {path}.{{{', '.join(keep)}}}")
@@ -150,7 +150,8 @@ def substituted(body, table):
 
 
 class Function:
-    def __init__(self, names):
+    def __init__(self, names, params):
+        self.params = params
         self.needs = {}
         for old, new in names["needs"]:
             self.needs[plain(old)] = new
@@ -224,6 +225,10 @@ class Function:
         if parts[0] == "args":
             if len(parts) > 1:
                 parts[1] = parts[1].replace("-", "_")
+                # An array passed by value went by its place, t1 for the first.
+                place = re.fullmatch(r"t([0-9]+)", parts[1])
+                if place and parts[1] not in self.params and 0 < int(place.group(1)) <= len(self.params):
+                    parts[1] = self.params[int(place.group(1)) - 1]
             return ".".join([m.group(1)] + parts)
         if parts[0] in ("requires", "pre"):
             parts[0] = "requires"
@@ -249,6 +254,8 @@ class Function:
             name = m.group(1)
             text = text[:m.start()] + text[m.end():]
             text = re.sub(r"(?<!" + EDGE + r")(?<!\.)" + re.escape(name) + r"(?!" + EDGE + r")", "c", text)
+        for m in re.finditer(r"let (" + EDGE + r"+) = c(?:\.before)*\.args in\b", text):
+            text = re.sub(r"(?<!" + EDGE + r")(?<!\.)" + re.escape(m.group(1)) + r"\.t(?=[0-9])", "c.args.t", text)
         return re.sub(r"(?<!" + EDGE + r")(?<!\.)(c)((?:\." + EDGE + r"+)+)", self.path, text)
 
 
@@ -257,12 +264,12 @@ def fresh(body):
     return next(n for n in ("l", "v", "z", "here", "turn") if n not in words)
 
 
-def turn(crate, name, names):
+def turn(crate, name, names, params):
     folder = os.path.join("crates", crate, "proofs", *name.split("."))
     path = os.path.join(folder, "Proof.antt")
     with open(path, encoding="utf-8") as f:
         text = f.read()
-    fn = Function(names)
+    fn = Function(names, params)
     header, uses, decls = blocks(text)
     inv, ans, left = [], [], []
     for b in decls:
@@ -329,7 +336,9 @@ def main():
         if only and name not in only:
             continue
         if os.path.exists(os.path.join("crates", crate, "proofs", *name.split("."), "Proof.antt")):
-            left = turn(crate, name, value)
+            own = f"{crate}::{name.replace('.', '::')}"
+            params = next((v["params"][own] for v in names.values() if isinstance(v, dict) and own in v.get("params", {})), [])
+            left = turn(crate, name, value, params)
             print(name + (": left " + "; ".join(left) if left else ""))
 
 
