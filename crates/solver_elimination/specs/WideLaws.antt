@@ -78,11 +78,15 @@ module _ (c d : ℕ) where
   -- ---- matrices
   row_carried : (m n : Matrix) (k : ℕ) → Carried c d m n → RowCarried c d (get_or m k []) (get_or n k [])
   row_carried [] [] k w = record { left = λ j h. refl; right = refl }
+  row_carried [] (s ∷ n) k w = elim w [ ]
+  row_carried (r ∷ m) [] k w = elim w [ ]
   row_carried (r ∷ m) (s ∷ n) zero (Forall₂.cons h w) = h
   row_carried (r ∷ m) (s ∷ n) (suc k) (Forall₂.cons h w) = row_carried m n k w
 
   set_carried : (m n : Matrix) (k : ℕ) (r s : Row) → Carried c d m n → RowCarried c d r s → Carried c d (set m k r) (set n k s)
   set_carried [] [] k r s w v = Forall₂.nil
+  set_carried [] (y ∷ n) k r s w v = elim w [ ]
+  set_carried (x ∷ m) [] k r s w v = elim w [ ]
   set_carried (x ∷ m) (y ∷ n) zero r s (Forall₂.cons h w) v = Forall₂.cons v w
   set_carried (x ∷ m) (y ∷ n) (suc k) r s (Forall₂.cons h w) v = Forall₂.cons h (set_carried m n k r s w v)
 
@@ -122,6 +126,8 @@ module _ (c d : ℕ) where
 
   column_together : (i : ℕ) (x y : Elim) → i < 4 → Together x y → Together (S.column i x) (S.column i y)
   column_together i gone gone h t = both_gone
+  column_together i gone (going n) h t = elim t [ ]
+  column_together i (going m) gone h t = elim t [ ]
   column_together i (going m) (going n) h (both_going w) = rw (stopped_carried m n i h w) (go (S.stopped n i))
     where
       go : (b : Bool) → Together (cond b gone (going (S.columned m i))) (cond b gone (going (S.columned n i)))
@@ -130,6 +136,8 @@ module _ (c d : ℕ) where
 
   column_of_lem : (x y : Elim) → Together x y → S.column_of c x ≡ S.column_of d y
   column_of_lem gone gone t = refl
+  column_of_lem gone (going n) t = elim t [ ]
+  column_of_lem (going m) gone t = elim t [ ]
   column_of_lem (going m) (going n) (both_going w) =
       rw ((row_carried m n 0 w).right, (row_carried m n 1 w).right, (row_carried m n 2 w).right, (row_carried m n 3 w).right)
 

@@ -1,0 +1,11 @@
+-- The first of two right sides has its own solution, whatever the second is. Assumes nothing.
+use mathlib.Core.Path.{sym, ap, ◌∙◌}
+use Rattle.solver_elimination.specs.Wide.{first_side}
+use Rattle.solver_elimination.specs.WideLaws.{first_by, right_listed}
+use Rattle.solver_elimination.proofs.solve_4x4.Goals as goal
+
+pub returns-in_default : goal.returns-in_default
+returns-in_default c = ap first_side (sym c.in_default.is ∙ c.eliminate-sides.ensures) ∙ sym (first_by _ _ _) ∙ right_listed _ _
+
+pub returns : goal.returns
+returns c = ap first_side (sym c.in-Both.is ∙ c.eliminate-sides.ensures) ∙ sym (first_by _ _ _) ∙ right_listed _ _
