@@ -1,6 +1,7 @@
 -- Sentences with blanks: which of them are told, and what stands in a blank. Definitions only.
 -- `{a}` in a sentence is the first word, `{b}` the second; every other character stands for itself. A sentence has no bar.
-use Rattle.std.specs.Prelude.{ℕ, zero, suc, ◌+◌, ◌*◌, ◌%◌, ◌≤◌, Bool, true, false, cond, not, ◌&&◌, ◌||◌, List, [], ◌∷◌, ◌++◌, length, ◌==◌, nat_lt, slice_index, slice_index_or}
+use Rattle.std.specs.Prelude.{ℕ, zero, suc, ◌+◌, ◌*◌, ◌%◌, ◌≤◌, Bool, true, false, cond, not, ◌&&◌, ◌||◌, List, [], ◌∷◌, ◌++◌, length, ◌==◌, nat_lt}
+use Rattle.std.specs.Prelude.{slice_index, slice_index_or}
 use Prim.Native.String.{String}
 use Rattle.hexadecimal.specs.Hex.{Written, bytes}
 

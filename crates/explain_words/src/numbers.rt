@@ -19,7 +19,7 @@ struct Scaled {
 
 // The digits of n, at least `least`, with `places` of them behind the point, then zeros, and, where it is
 // scaled, an exponent.
-#[derive(Drop)]
+#[derive(Clone, Copy)]
 struct Numeral {
     negative: bool,
     n: u64,
