@@ -1,7 +1,6 @@
 #!/usr/bin/env python3
 """narrow.py [--check] FILE..: breaks lines of more than 160 characters in .antt and .rt files; --check only lists them.
 
-In a proof, a path that is used at a need, `c .before .before .pass .ensures`, is bound once: `let at-pass = c .before .before .pass in`.
 A signature is broken behind an arrow, a comment between words, a list of imports into two lines, anything else at the space
 that stands least deep in brackets. Run `rt fmt` and the prover afterwards: the text must mean what it meant."""
 import re
@@ -9,7 +8,6 @@ import sys
 
 LIMIT = 160
 AIM = 150
-PATH = re.compile(r"(?<![\w·.-])c((?: \.before)+) \.([^\s().,]+)")
 CLOSED, OPEN = ")}]⌝", "({[⌜"
 
 
@@ -71,46 +69,13 @@ def imports(line):
     return [part + end for part in out]
 
 
-def chain(name, start, count, field):
-    """The lets that bind a path of `count` steps, in parts of at most twelve."""
-    out = []
-    while count > 12:
-        out.append(f"let {name}-{count} = {start}{' .before' * 12} in")
-        start, count = f"{name}-{count}", count - 12
-    out.append(f"let {name} = {start}{' .before' * count} .{field} in")
-    return out
-
-
-def bound(line):
-    """A proof's line with its paths bound by let."""
-    found = re.match(r"((?:\S+ )+?)= (.*)$", line)
-    if not found or not PATH.search(found.group(2)):
-        return None
-    body, lets, names = found.group(2), [], {}
-    for steps, field in PATH.findall(body):
-        key = (steps.count(".before"), field)
-        if key in names:
-            continue
-        name = "at-" + field
-        while name in names.values():
-            name += "′"
-        names[key] = name
-        lets += chain(name, "c", *key)
-    body = PATH.sub(lambda m: names[(m.group(1).count(".before"), m.group(2))], body)
-    return [found.group(1) + "="] + ["    " + part for part in lets] + wrapped("    " + body)
-
-
-def narrowed(line, proof):
+def narrowed(line):
     text = line.lstrip()
     for sign in ("--", "//"):
         if text.startswith(sign + " "):
             return comment(line, sign)
     if re.match(r"(pub |ghost )*use .*\.\{", text):
         return imports(line)
-    if proof and not line.startswith(" "):
-        lines = bound(line)
-        if lines:
-            return lines
     found = re.match(r"(\s*(?:\S+ )*?\S+ =) (.*)$", line)
     if found and depths(line)[len(found.group(1))] == 0 and " : " not in found.group(1) and not text.startswith("let "):
         indent = len(line) - len(text)
@@ -129,7 +94,7 @@ def main():
             for number in long:
                 print(f"{path}:{number}: {len(lines[number - 1])} characters")
         elif long:
-            out = [part for line in lines for part in (narrowed(line, "/proofs/" in path) if len(line) > LIMIT else [line])]
+            out = [part for line in lines for part in (narrowed(line) if len(line) > LIMIT else [line])]
             with open(path, "w", encoding="utf-8") as file:
                 file.write("\n".join(out))
     return 1 if wide else 0
