@@ -1,5 +1,7 @@
 // The square root of an f32, correctly rounded, for every f32. A guess made with floating-point steps is mended by comparing squares of whole numbers,
 // so nothing is asked of the guess but that it is small enough for its square to fit.
+#![tactic(auto)]
+
 ghost use Rattle.std.specs.Prelude.{◌≡◌, ◌+◌, ◌*◌, ◌^◌, ◌<◌, ◌≤◌, false};
 ghost use Rattle.std.specs.Float.{binary32};
 ghost use Rattle.std.specs.Float.Ieee.{of_bits, units};
