@@ -1,4 +1,6 @@
 // An f64 to the nearest f32, ties to the even one, for every f64: the lossy cast, which `as` does not have.
+#![tactic(auto)]
+
 ghost use Rattle.std.specs.Prelude.{◌≡◌, ◌^◌, ◌<◌, ◌≤◌};
 ghost use Rattle.std.specs.Float.{binary64};
 ghost use Rattle.std.specs.Float.Ieee.{of_bits};
