@@ -1,5 +1,7 @@
 // Rust's `%` and `rem_euclid` by PI and by TAU, for every f32, from bits and whole numbers: C's fmodf is not called.
 // PI is 13176795 * 2 ^ -22 and TAU is twice that, so a remainder is one of whole numbers by 13176795.
+#![tactic(auto)]
+
 ghost use Rattle.std.specs.Prelude.{◌≡◌, false, ◌+◌, ◌*◌, ◌%◌, ◌^◌, ◌<◌, ◌≤◌};
 ghost use Rattle.std.specs.Float.{binary32};
 ghost use Rattle.std.specs.Float.Ieee.{lt, rem};
