@@ -1,17 +1,11 @@
 -- The nearest whole number s to the root of m is the whole root q, or q + 1: whichever the rounding of the root asks for. Assumes nothing.
-use Prim.Native.Nat.{ℕ, suc, ◌+◌, ◌*◌, ◌-◌, ◌^◌, ◌≤◌, ◌<◌}
-use mathlib.Core.Path.{◌≡◌, refl, ap, subst, ◌∙◌}
-use mathlib.Core.Bool.{Bool, true, false}
-use native.Mathlib.Omega.{arith}
-use native.Mathlib.Nat.{lt_of_lt_of_le, le_of_eq, mul-add, add-mul}
-use lib.Dec.{ltb}
-use lib.Ieee.{binary32, units}
+use Rattle.std.proofs.Common.{ℕ, suc, ◌+◌, ◌*◌, ◌-◌, ◌^◌, ◌≤◌, ◌<◌, ◌≡◌, refl, ap, subst, ◌∙◌, Bool, true, false, ltb, arith}
+use Rattle.std.proofs.Common.{lt_of_lt_of_le, le_of_eq, mul-add, add-mul, mul-le-mul}
+use Rattle.std.specs.Float.Ieee.{binary32, units}
 use borrow.Author.Tests.{ltb-true, ltb-false}
 use Rattle.floats.specs.RootLaws.{root_above, root_below, root_up, root_stay, suc_square}
 use Rattle.floats.specs.Library.{root_units}
-use borrow.Author.Rules.{rules}
-use Rattle.roots.proofs.root_even.Statement.{statement}
-use Rattle.roots.proofs.root_even.Tie as tie
+use Rattle.roots.proofs.root_even.Goals as goal
 
 -- a number below the next square, in the words of IsRoot
 next : (m q : ℕ) → m ≤ q * q + q + q → m < suc q * suc q
@@ -35,7 +29,7 @@ above_zero m s h = go (ltb 0 s) refl
   where
     go : (b : Bool) → ltb 0 s ≡ b → s ≡ (s - 1) + 1
     go true t = omega (arith, ltb-true 0 s t)
-    go false t = omega (arith, native.Mathlib.Nat.mul-le-mul (ltb-false 0 s t) (ltb-false 0 s t))
+    go false t = omega (arith, mul-le-mul (ltb-false 0 s t) (ltb-false 0 s t))
 
 module _ (m s : ℕ) (a : 2 ^ 46 ≤ m) (b : m < 2 ^ 48) (u : m ≤ s * s + s) (l : s * s < m + s) where
   size : (8388608 ≤ s) × (s ≤ 16777216)
@@ -62,18 +56,8 @@ module _ (m s : ℕ) (a : 2 ^ 46 ≤ m) (b : m < 2 ^ 48) (u : m ≤ s * s + s) (
           let w = lower m s (s - 1) (above_zero m s f) f l in
           ap (λ (z : ℕ). units binary32 false z h) (above_zero m s f) ∙ root_up m h (s - 1) (w.0, next m (s - 1) w.2) a b k w.1
 
-nearest-root-requires : tie.Need-nearest-root-requires
-nearest-root-requires c κs = search rules
-
-assembled-requires : tie.Need-assembled-requires
-assembled-requires c κs =
-    omega (arith, size c.before.args.m c.nearest-root.result (omega arith) (omega arith) c.nearest-root.ensures.0 c.nearest-root.ensures.1)
-
-returns : tie.Need-returns
+pub returns : goal.returns
 returns c =
     c.assembled.ensures
-    ∙ near c.before.before.args.m c.before.nearest-root.result (omega arith) (omega arith) c.before.nearest-root.ensures.0
-    c.before.nearest-root.ensures.1 c.before.before.args.h (omega arith)
-
-pub root_even_spec : {M : Type 1} → statement M
-root_even_spec = tie.close (tie.spec nearest-root-requires assembled-requires returns)
+    ∙ near c.args.m c.nearest_root.result c.requires.bound c.requires.m_bound c.nearest_root.ensures.0 c.nearest_root.ensures.1
+    c.args.h c.requires.h_bound
