@@ -160,7 +160,10 @@ class Function:
             m = re.match(r"(?:overflow|slice_bounds|bounds|offset_bounds|nonzero)_?-?(.*)", new)
         self.loops = {old: (new, vs, ch) for ((old, new), vs), ch in zip(names["loops"], names["changed"])}
         self.fields = {}
+        self.callees = {}
         for place, parent, (old, new), callee, extra in names["places"]:
+            if callee:
+                self.callees[new] = callee.split("::")
             if old:
                 self.fields.setdefault(plain(old), [])
                 if new not in self.fields[plain(old)]:
@@ -243,6 +246,11 @@ class Function:
         if first in self.fields:
             new = self.fields[first]
             parts[0] = new[0] if len(new) == 1 else next((x for x in new if x == parts[0]), new[0])
+            callee = self.callees.get(parts[0])
+            if callee and len(parts) > 2 and parts[1] == "ensures" and parts[2].isdigit():
+                named = NAMED.get((callee[0], callee[-1], "ensures"), [])
+                if int(parts[2]) < len(named):
+                    parts[2] = named[int(parts[2])]
         return ".".join([m.group(1)] + parts)
 
     def body(self, text):
@@ -257,6 +265,29 @@ class Function:
         for m in re.finditer(r"let (" + EDGE + r"+) = c(?:\.before)*\.args in\b", text):
             text = re.sub(r"(?<!" + EDGE + r")(?<!\.)" + re.escape(m.group(1)) + r"\.t(?=[0-9])", "c.args.t", text)
         return re.sub(r"(?<!" + EDGE + r")(?<!\.)(c)((?:\." + EDGE + r"+)+)", self.path, text)
+
+
+def named_clauses():
+    """The names of the `ensures` and `requires` of each function that has such, by crate and function."""
+    out = {}
+    for folder in sorted(os.listdir("crates")):
+        src = os.path.join("crates", folder, "src")
+        for file in sorted(os.listdir(src)) if os.path.isdir(src) else []:
+            if not file.endswith(".rt"):
+                continue
+            fn = None
+            with open(os.path.join(src, file), encoding="utf-8") as f:
+                for line in f:
+                    m = re.match(r"\s*(?:pub )?fn (\w+)", line)
+                    if m:
+                        fn = m.group(1)
+                    m = re.match(r"\s*(ensures|requires) (\w+) \{", line)
+                    if m and fn:
+                        out.setdefault((folder, fn, m.group(1)), []).append(m.group(2))
+    return out
+
+
+NAMED = named_clauses()
 
 
 def fresh(body):
