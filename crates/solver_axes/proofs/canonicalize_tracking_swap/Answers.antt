@@ -19,7 +19,7 @@ returns-then-amp c =
     let two = c.wrap_to_tau-t2.ensures.value in
     let turned = c.wrap_to_tau.ensures.value in
     let h = ranged c.args.theta1 c.args.theta2 c.args.amp _ (search rules) (search rules) (search rules)
-        (rw (c.if-amp.true, ← one, ← two, ← turned) c.axes_settled.ensures) in
+    (rw (c.if-amp.true, ← one, ← two, ← turned) c.axes_settled.ensures) in
     record { value = h.0; canonical_range = h.1 }
 
 pub returns : goal.returns
@@ -28,5 +28,5 @@ returns c =
     let one = c.wrap_to_tau-t1.ensures.value in
     let two = c.wrap_to_tau-t2.ensures.value in
     let h = ranged c.args.theta1 c.args.theta2 c.args.amp _ (search rules) (search rules) (search rules)
-        (rw (c.if-amp.false, ← one, ← two) c.axes_settled-2.ensures) in
+    (rw (c.if-amp.false, ← one, ← two) c.axes_settled-2.ensures) in
     record { value = h.0; canonical_range = h.1 }

@@ -13,9 +13,9 @@ use Rattle.solver_elimination.proofs.eliminate.Goals as goal
 pub loop-i-init : goal.loop-i-init
 unfolding widened
 loop-i-init c = (
-      search rules,
-      rw (iter_zero, c.widened_row-r3.ensures, c.widened_row-r2.ensures, c.widened_row-r1.ensures, c.widened_row-r0.ensures),
-    )
+  search rules,
+  rw (iter_zero, c.widened_row-r3.ensures, c.widened_row-r2.ensures, c.widened_row-r1.ensures, c.widened_row-r0.ensures),
+)
 
 pub returns-then-column_stops : goal.returns-then-column_stops
 unfolding sides

@@ -12,8 +12,8 @@ returns-then-abs c =
     let finite = c.is_finite.ensures in
     let t = c.if-abs.true in
     elim c.if-not-is_finite.branch [
-      then-not-is_finite w ↦ rw (← finite, w.if-not-is_finite.true) t |
-      else-not-is_finite w ↦ rw (← finite, w.if-not-is_finite.false, ← w.abs.ensures, sym w.value-is ∙ t) t
+      | then-not-is_finite w ↦ rw (← finite, w.if-not-is_finite.true) t
+      | else-not-is_finite w ↦ rw (← finite, w.if-not-is_finite.false, ← w.abs.ensures, sym w.value-is ∙ t) t
     ]
 
 -- neither does
@@ -23,6 +23,6 @@ returns-else-abs c =
     let finite = c.is_finite.ensures in
     let f = c.if-abs.false in
     elim c.if-not-is_finite.branch [
-      then-not-is_finite w ↦ absurd (true≢false (sym (ap not w.if-not-is_finite.true) ∙ sym w.value-is ∙ f)) |
-      else-not-is_finite w ↦ rw (← finite, w.if-not-is_finite.false, ← w.abs.ensures, sym w.value-is ∙ f)
+      | then-not-is_finite w ↦ absurd (true≢false (sym (ap not w.if-not-is_finite.true) ∙ sym w.value-is ∙ f))
+      | else-not-is_finite w ↦ rw (← finite, w.if-not-is_finite.false, ← w.abs.ensures, sym w.value-is ∙ f)
     ]
