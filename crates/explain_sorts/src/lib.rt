@@ -9,7 +9,7 @@ ghost use Rattle.explain_sorts.specs.Sorts as S;
 use shapes::{Fault, Shape};
 
 // A refusal's type, number and place.
-#[derive(Drop)]
+#[derive(Clone, Copy)]
 pub struct Refusal {
     pub kind: u32,
     pub number: u32,
@@ -18,7 +18,7 @@ pub struct Refusal {
 
 // What is wrong with a line that is neither a frame nor an answer: the reason, and what it speaks of, a
 // type, a number of refusal, a count of pixels.
-#[derive(Drop)]
+#[derive(Clone, Copy)]
 pub struct Wrong {
     pub why: u32,
     pub kind: u32,
@@ -55,7 +55,7 @@ pub const STRANGE_NUMBER: u32 = 11;
 // The line above an answer: its number, 0 where there is none; its type, 255 where it is malformed; a
 // disk's count of pixels; and by which number it is refused, at which place, 0 where it is not, with the
 // bits of the value there. Of a flawed answer it is not known whether it is meant as a frame: number 0.
-#[derive(Drop)]
+#[derive(Clone, Copy)]
 pub struct Above {
     pub line: u64,
     pub kind: u32,
@@ -67,7 +67,7 @@ pub struct Above {
 
 // A frame, whose count of pixels may be one that is refused; a fit, of its answer's type; a refusal;
 // none of these.
-#[derive(Drop)]
+#[derive(Clone, Copy)]
 pub enum Sort {
     Frame(Above),
     Fit(u32),
