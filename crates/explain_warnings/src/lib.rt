@@ -10,7 +10,7 @@ ghost use Rattle.explain_warnings.specs.Warnings as W;
 
 // What a line's answer says. A ring has no width, relative residual, correlation, edge score, objective
 // and trials, and a disk no starts and updates: they are 0 there.
-#[derive(Drop)]
+#[derive(Clone, Copy)]
 pub struct Reading {
     pub disk: bool,
     pub amp: f32,
