@@ -1,6 +1,7 @@
 -- What explain says of a line, sentence by sentence: when, and in which words. Definitions only.
 -- Its warnings stand in `explain_warnings`; what stands in the blanks, numbers and endings of nouns, is not said.
-use Rattle.std.specs.Prelude.{ℕ, zero, suc, ◌+◌, ◌-◌, ◌*◌, ◌/◌, ◌%◌, Bool, true, cond, not, ◌&&◌, ◌||◌, List, [], ◌∷◌, ◌++◌, length, ◌==◌, nat_le, nat_lt, slice_index}
+use Rattle.std.specs.Prelude.{ℕ, zero, suc, ◌+◌, ◌-◌, ◌*◌, ◌/◌, ◌%◌, Bool, true, cond, not, ◌&&◌, ◌||◌, List, [], ◌∷◌, ◌++◌, length, ◌==◌, nat_le, nat_lt}
+use Rattle.std.specs.Prelude.{slice_index}
 use Prim.Native.String.{String}
 use Rattle.hexadecimal.specs.Hex.{Written, is_hex}
 use Rattle.shapes.specs.Shapes.{samples_of}

@@ -1,0 +1,12 @@
+-- The text's flags and its sentences are the definition's. Assumes nothing.
+use Rattle.std.proofs.Common.{refl, arith}
+use Rattle.explain_sentences.specs.Sentences as S
+use Rattle.explain_words.specs.TellLaws.{rows_told}
+use Rattle.explain_words.specs.Tell.{flags_of, barred, all_barless, barless}
+use Rattle.hexadecimal.specs.Hex.{bytes, codes}
+use Rattle.explain_sentences.proofs.alone_told.Goals as goal
+
+pub returns : goal.returns
+unfolding S.alone_rows flags_of barred bytes codes all_barless barless
+returns c =
+    (omega (arith, c.tell.ensures.fits), rows_told (S.alone_rows c.args.alone c.args.a) _ c.tell.ensures.written refl refl)

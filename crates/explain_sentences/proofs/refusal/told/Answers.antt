@@ -1,0 +1,15 @@
+-- The text's flags and its sentences are the definition's. Assumes nothing.
+use Rattle.std.proofs.Common.{refl, arith}
+use Rattle.explain_sentences.specs.Sentences as S
+use Rattle.explain_words.specs.TellLaws.{rows_told}
+use Rattle.explain_words.specs.Tell.{barred, all_barless, barless}
+use Rattle.hexadecimal.specs.Hex.{bytes, codes}
+use Rattle.explain_sentences.proofs.refusal.told.Goals as goal
+
+pub returns : goal.returns
+unfolding S.refusal_rows barred bytes codes all_barless barless
+returns c =
+    let r = c.args.r in
+    let a = c.args.a in
+    let e = rw (c.name_of-name.ensures, c.is_shown-shown.ensures) at c.flags_of-flags.ensures.0 in
+    (omega (arith, c.tell.ensures.fits), rows_told (S.refused_rows r a) _ c.tell.ensures.written e refl)
