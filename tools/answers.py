@@ -142,7 +142,10 @@ def substituted(body, table):
                 out.extend(tokens[i + 1:j + 1])
                 i = j
         elif t in table and t not in stack[-1] and (not out or out[-1] != "."):
-            out.append(table[t])
+            before = "".join(out).rstrip()[-1:]
+            after = "".join(tokens[i + 1:i + 3]).lstrip()[:1]
+            field = before in ("{", ";") and after == "="
+            out.append(t if field else table[t])
         else:
             out.append(t)
         i += 1
@@ -264,7 +267,8 @@ class Function:
             text = re.sub(r"(?<!" + EDGE + r")(?<!\.)" + re.escape(name) + r"(?!" + EDGE + r")", "c", text)
         for m in re.finditer(r"let (" + EDGE + r"+) = c(?:\.before)*\.args in\b", text):
             text = re.sub(r"(?<!" + EDGE + r")(?<!\.)" + re.escape(m.group(1)) + r"\.t(?=[0-9])", "c.args.t", text)
-        return re.sub(r"(?<!" + EDGE + r")(?<!\.)(c)((?:\." + EDGE + r"+)+)", self.path, text)
+        text = re.sub(r"(?<!" + EDGE + r")(?<!\.)(c)((?:\." + EDGE + r"+)+)", self.path, text)
+        return re.sub(r"(?<!" + EDGE + r")not-(?:true|false) (?:\([^()]*\)|[^\s()]+) (c\.if-not-" + EDGE + r"+\.(?:true|false))", r"\1", text)
 
 
 def named_clauses():

@@ -23,7 +23,7 @@ const OFF_DEGS: [f32; 5] = [-8.0, -4.0, 0.0, 4.0, 8.0];
 const GRID_DEG: usize = 30;
 
 // Candidate line angles: their number and their places.
-#[derive(Drop)]
+#[derive(Clone, Copy)]
 pub struct CandidateSet {
     pub n: usize,
     pub angles: [f32; MAX_CANDIDATES],
@@ -37,7 +37,7 @@ pub enum Closest {
 }
 
 // A pair that is kept whatever its score, or none.
-#[derive(Drop)]
+#[derive(Clone, Copy)]
 pub enum Forced {
     Pair(usize, usize),
     Nothing,
@@ -50,7 +50,7 @@ pub struct Tops {
     pub top1: usize,
 }
 
-#[derive(Drop)]
+#[derive(Clone, Copy)]
 pub struct PairScore {
     pub i: u16,
     pub j: u16,

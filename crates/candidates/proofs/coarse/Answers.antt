@@ -1,0 +1,23 @@
+-- A push for each of the six angles of the grid. Assumes nothing.
+use mathlib.Core.Path.{◌≡◌}
+use Prim.Native.Nat.{◌-◌}
+use native.Mathlib.Omega.{arith}
+use Rattle.loops.specs.IterLaws.{iter_zero, iter_more}
+use Rattle.candidates.specs.Candidates as C
+use borrow.Author.Rules.{rules}
+use Rattle.candidates.proofs.coarse.Goals as goal
+
+pub loop-k-init : goal.loop-k-init
+loop-k-init c = (search rules, omega arith, search rules, rw iter_zero)
+
+pub loop-k-preserved : goal.loop-k-preserved
+unfolding C.gridded
+loop-k-preserved c =
+    let e = c.loop-k.invariant.3 in
+    let angle = c.to_radians-angle.ensures in
+    let sep = c.to_radians.ensures in
+    (search rules, omega arith, search rules, iter_more _ _ _ _ _ e (rw (← c.count_f32.ensures, ← angle, ← sep) c.push_unique-candidates.ensures.2))
+
+pub returns : goal.returns
+unfolding C.coarse
+returns c = let h : c.loop-k.k ≡ 6 = omega arith in (omega arith, rw h at c.loop-k.invariant.3)
