@@ -1,6 +1,6 @@
 /* One disk fit: a skewed corner whose axes stand at 25 and 80 degrees, seen in whole grey values. Then the same disk with
  * a NaN, and one without contrast: both are refused.
- * From the top of the repository, after `rt staticlib jengubool`:
+ * From the top of the repository, after `tools/build jengubool`:
  *   cc -I include examples/c/disk.c target/staticlib/libjengubool.a -o disk && ./disk */
 #include <math.h>
 #include <stdio.h>

@@ -1,5 +1,5 @@
 /* One ring fit: a corner whose axes stand at 20 and 110 degrees, in whole grey values, then the same with a NaN.
- * From the top of the repository, after `rt staticlib jengubool`:
+ * From the top of the repository, after `tools/build jengubool`:
  *   cc -I include examples/c/ring.c target/staticlib/libjengubool.a -o ring && ./ring */
 #include <math.h>
 #include <stdio.h>

@@ -1,6 +1,6 @@
 /* One corner seen twice, its axes at 20 and 110 degrees: by a ring of 24 samples and by one of 16, both in whole grey
  * values. Then the ring of 16 is given to the fit for 24, which refuses it.
- * From the top of the repository, after `rt staticlib jengubool`:
+ * From the top of the repository, after `tools/build jengubool`:
  *   cc -I include examples/c/ring24.c target/staticlib/libjengubool.a -o ring24 && ./ring24 */
 #include <stdio.h>
 #include "jengubool.h"

@@ -1,7 +1,7 @@
 /* Corners under a ring that does not move: its table is stored once, and every fit that makes a second start takes its
  * seed from there. Then what a refusal looks like: an angle that is NaN, and a fourth table, for which there is no room.
  * Neither changes the tables, so the fit that follows is answered as before.
- * From the top of the repository, after `rt staticlib jengubool`:
+ * From the top of the repository, after `tools/build jengubool`:
  *   cc -I include examples/c/tables.c target/staticlib/libjengubool.a -o tables && ./tables */
 #include <math.h>
 #include <stdio.h>

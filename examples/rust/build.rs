@@ -1,4 +1,4 @@
-//! Tells cargo where libjengubool.a is: in the folder that JENGUBOOL_LIB_DIR names, else where `rt staticlib jengubool`
+//! Tells cargo where libjengubool.a is: in the folder that JENGUBOOL_LIB_DIR names, else where `tools/build jengubool`
 //! puts it.
 
 use std::{env, path::PathBuf, process};
@@ -12,7 +12,7 @@ fn main() {
     println!("cargo:rerun-if-changed={}", library.display());
     if !library.is_file() {
         // Without this sentence the linker would name only the missing symbols.
-        eprintln!("there is no {}: run rt staticlib jengubool, or set JENGUBOOL_LIB_DIR", library.display());
+        eprintln!("there is no {}: run tools/build jengubool, or set JENGUBOOL_LIB_DIR", library.display());
         process::exit(1);
     }
     println!("cargo:rustc-link-search=native={}", folder.display());
