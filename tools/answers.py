@@ -152,6 +152,31 @@ def substituted(body, table):
     return "".join(out)
 
 
+def wrapped(text):
+    """An invariant with a line that is too long, broken at its outermost ×."""
+    if all(len(line) < 160 for line in text.split("\n")):
+        return text
+    head, _, term = text.partition(" = ")
+    term = " ".join(x.strip() for x in term.split("\n"))
+    parts, depth, start = [], 0, 0
+    for i, ch in enumerate(term):
+        if ch in "([{":
+            depth += 1
+        elif ch in ")]}":
+            depth -= 1
+        elif ch == "×" and depth == 0:
+            parts.append(term[start:i].strip())
+            start = i + 1
+    parts.append(term[start:].strip())
+    lines = ["    " + parts[0]]
+    for part in parts[1:]:
+        if len(lines[-1]) + len(part) + 3 < 140:
+            lines[-1] += " × " + part
+        else:
+            lines.append("    × " + part)
+    return head + " =\n" + "\n".join(lines)
+
+
 class Function:
     def __init__(self, names, params):
         self.params = params
@@ -331,7 +356,7 @@ def turn(crate, name, names, params):
             table = {p: t for p, t in zip(params, terms) if p != "_"}
             if len(params) != len(terms):
                 left.append(f"{kind} {loop}: {len(params)} parameters, {len(terms)} variables")
-            inv.append("\n".join(notes + [f"abbrev pub {kind}-{new} : goal.{kind}-{new}", f"{kind}-{new} {v} = {substituted(term, table)}"]))
+            inv.append("\n".join(notes + [f"abbrev pub {kind}-{new} : goal.{kind}-{new}", wrapped(f"{kind}-{new} {v} = {substituted(term, table).strip()}")]))
             continue
         m = re.match(r"(?:pub )?(" + EDGE + r"+) : tie\.Need-(" + EDGE + r"+)", sig)
         if m:

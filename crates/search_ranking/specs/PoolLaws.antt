@@ -155,7 +155,8 @@ module _ (candidates : CandidateSet) (edge_align : Row) (grad_total : Float) (fo
       let p : Pool = iter row_here no_pairs i in
       let b = fresh_on r r (spot i 0) (spot i (i + 1)) p (omega arith) (omega arith) (rows_fresh i h (omega arith)) in
       let f = row_fresh i r p (n - (i + 1)) (omega arith) b in
-      fresh_on (r + (n - (i + 1))) (rows_before n (suc i)) (spot i (i + 1 + (n - (i + 1)))) (spot (suc i) 0) (row_here i p) (rw e (omega arith)) (omega arith) f
+      fresh_on (r + (n - (i + 1))) (rows_before n (suc i)) (spot i (i + 1 + (n - (i + 1)))) (spot (suc i) 0) (row_here i p)
+      (rw e (omega arith)) (omega arith) f
 
   abbrev pool : Pool
   pool = build_pair_pool candidates edge_align grad_total force_seed force_hist

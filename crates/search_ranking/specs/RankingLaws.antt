@@ -47,7 +47,9 @@ take_insert zero x l = refl
 take_insert (suc k) x [] = refl
 take_insert (suc k) x (y ∷ l) =
     let m = take k l in
-    either_way (λ b. take (suc k) (cond b (x ∷ insert_ranked y l) (y ∷ insert_ranked x l)) ≡ take (suc k) (cond b (x ∷ insert_ranked y m) (y ∷ insert_ranked x m)))
+    either_way
+    (λ b. take (suc k) (cond b (x ∷ insert_ranked y l) (y ∷ insert_ranked x l))
+    ≡ take (suc k) (cond b (x ∷ insert_ranked y m) (y ∷ insert_ranked x m)))
     (ap {B = List PairScore} (λ r. x ∷ r) (take_insert k y l)) (ap {B = List PairScore} (λ r. y ∷ r) (take_insert k x l)) (is_before x y)
 
 pub insert_before : (x y : PairScore) (l : List PairScore) → is_before x y ≡ true → insert_ranked x (y ∷ l) ≡ x ∷ insert_ranked y l
@@ -259,7 +261,9 @@ ranked_same (suc n) pairs h =
     let x = get_or pairs n blank in
     let s : Perm (sorted n pairs) (take n pairs) = ranked_same n pairs (omega arith) in
     let t : Perm (take n pairs ++ (x ∷ [])) (x ∷ take n pairs) = perm_append_singleton x (take n pairs) in
-    rw (take-suc pairs n blank h) (mathlib.Core.List.Perm.trans ∣ insert_perm x (sorted n pairs) ∣₁ (mathlib.Core.List.Perm.trans (mathlib.Core.List.Perm.cons x s) (mathlib.Core.List.Perm.symm t)))
+    rw (take-suc pairs n blank h)
+    (mathlib.Core.List.Perm.trans ∣ insert_perm x (sorted n pairs) ∣₁
+    (mathlib.Core.List.Perm.trans (mathlib.Core.List.Perm.cons x s) (mathlib.Core.List.Perm.symm t)))
 
 -- ---- no other arrangement is sorted
 none_mem : (x : PairScore) (l : List PairScore) → NoneBefore x l → (w : PairScore) → Mem w l → is_before w x ≡ false
@@ -294,7 +298,9 @@ order_only (x ∷ l) (y ∷ m) o p q r =
 
 ranked_only : (n : ℕ) (pairs l : List PairScore) → n ≤ length pairs → Distinct (take n pairs) → Perm l (take n pairs) → Sorted l → l ≡ sorted n pairs
 ranked_only n pairs l h o p q =
-    order_only l (sorted n pairs) (λ u v a b. o u v ((mathlib.Core.List.Perm.mem_iff p).0 a) ((mathlib.Core.List.Perm.mem_iff p).0 b)) (order_from l q) (sorted_order n pairs)
+    order_only l (sorted n pairs)
+    (λ u v a b. o u v ((mathlib.Core.List.Perm.mem_iff p).0 a) ((mathlib.Core.List.Perm.mem_iff p).0 b))
+    (order_from l q) (sorted_order n pairs)
     (mathlib.Core.List.Perm.trans p (mathlib.Core.List.Perm.symm (ranked_same n pairs h)))
 
 -- What the ranking of a pool is: sorted; the pool's own pairs; two pairs of which neither stands before the other are alike; and no other arrangement

@@ -2,7 +2,8 @@
 -- Assumes nothing.
 use Rattle.std.specs.Prelude.{◌≡◌, true, false, List, [], ◌∷◌, ◌++◌, ℕ, suc, ◌+◌, ◌-◌, ◌≤◌, ◌<◌, min, take, drop, get_or, set, replicate}
 use Rattle.std.proofs.Math.Path.{sym, ap}
-use Rattle.std.proofs.Common.{◌∙◌, append_assoc, add-one, arith, length-set, length-take, take-append-drop, take-suc, take-suc-set, take_all, take_at, length-take-le, drop-set-lt, drop-drop, get_or-drop}
+use Rattle.std.proofs.Common.{◌∙◌, append_assoc, add-one, arith, length-set, length-take, take-append-drop, take-suc, take-suc-set, take_all, take_at}
+use Rattle.std.proofs.Common.{length-take-le, drop-set-lt, drop-drop, get_or-drop}
 use Rattle.std.proofs.Math.ListN.{length}
 use Rattle.std.proofs.Math.Seq.{slice, slice-cons, slice_empty}
 use Rattle.candidates.specs.Candidates.{no_pair}

@@ -6,7 +6,9 @@ use Rattle.candidates.specs.Candidates as C
 use Rattle.candidates.proofs.around.Given as goal
 
 abbrev pub invariant-loop-k : goal.invariant-loop-k
-invariant-loop-k l = (l.k ≤ 5) × (l.candidates.n ≤ l.initial.candidates.n + l.k) × (l.initial.candidates.n ≤ 32) × (l.candidates ≡ iter (C.offset l.seed) l.initial.candidates l.k)
+invariant-loop-k l =
+    (l.k ≤ 5) × (l.candidates.n ≤ l.initial.candidates.n + l.k) × (l.initial.candidates.n ≤ 32)
+    × (l.candidates ≡ iter (C.offset l.seed) l.initial.candidates l.k)
 
 abbrev pub decreases-loop-k : goal.decreases-loop-k
 decreases-loop-k l = 5 - l.k

@@ -7,7 +7,9 @@ use Rattle.candidates.specs.CandidatesLaws.{rows_before}
 use Rattle.candidates.proofs.build_pair_pool.Given as goal
 
 abbrev pub invariant-pairs : goal.invariant-pairs
-invariant-pairs l = (l.i < l.n) × (l.i + 1 ≤ l.j) × (l.j ≤ l.n) × (rows_before l.n l.i + (l.n - 1 - l.i) ≤ C.max_pairs) × (l.pool.n ≤ rows_before l.n l.i + (l.j - 1 - l.i))
+invariant-pairs l =
+    (l.i < l.n) × (l.i + 1 ≤ l.j) × (l.j ≤ l.n) × (rows_before l.n l.i + (l.n - 1 - l.i) ≤ C.max_pairs)
+    × (l.pool.n ≤ rows_before l.n l.i + (l.j - 1 - l.i))
     × (l.pool ≡ range (C.pooled_pair l.candidates l.edge_align l.grad_total l.force_seed l.force_hist l.i) l.initial.pool (l.i + 1) l.j)
 
 abbrev pub decreases-pairs : goal.decreases-pairs
