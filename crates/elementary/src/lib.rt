@@ -122,7 +122,7 @@ pub fn exp(x: f32) -> f32
     exp_neg(x)
 }
 
-#[derive(Drop)]
+#[derive(Clone, Copy)]
 pub struct SinCos {
     pub s: f32,
     pub c: f32,

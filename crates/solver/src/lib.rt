@@ -30,7 +30,7 @@ pub struct Sample {
 
 // The sums that a pass leaves: of r and the row; of r times each; of the row's products; and of 1,
 // the number of samples. Four fields that stand together are one sum of vector code.
-#[derive(Drop)]
+#[derive(Clone, Copy)]
 pub struct Sums {
     pub r: f32,
     pub q: f32,

@@ -36,7 +36,7 @@ pub struct Started {
 }
 
 // The four parameters of the model.
-#[derive(Drop)]
+#[derive(Clone, Copy)]
 pub struct Params {
     pub mu: f32,
     pub amp: f32,
