@@ -292,6 +292,8 @@ class Function:
             text = re.sub(r"(?<!" + EDGE + r")(?<!\.)" + re.escape(name) + r"(?!" + EDGE + r")", "c", text)
         for m in re.finditer(r"let (" + EDGE + r"+) = c(?:\.before)*\.args in\b", text):
             text = re.sub(r"(?<!" + EDGE + r")(?<!\.)" + re.escape(m.group(1)) + r"\.t(?=[0-9])", "c.args.t", text)
+            own = r"(?<!" + EDGE + r")(?<!\.)" + re.escape(m.group(1)) + r"\.[a-z0-9]+(?:-[a-z0-9]+)+"
+            text = re.sub(own, lambda x: x.group(0).replace("-", "_"), text)
         text = re.sub(r"(?<!" + EDGE + r")(?<!\.)(c)((?:\." + EDGE + r"+)+)", self.path, text)
         return re.sub(r"(?<!" + EDGE + r")not-(?:true|false) (?:\([^()]*\)|[^\s()]+) (c\.if-not-" + EDGE + r"+\.(?:true|false))", r"\1", text)
 
