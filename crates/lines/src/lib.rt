@@ -8,7 +8,7 @@ ghost use Rattle.std.specs.Prelude.{◌≡◌, ◌+◌, ◌-◌, ◌≤◌, ◌<
 ghost use Rattle.lines.specs.Lines.{Filled, Front, begun, end_from, found_of, is_gone, kept_of, passed, FoundWithin};
 ghost use Rattle.lines.specs.Turns as T;
 
-use libc::{STDIN_FILENO, STDOUT_FILENO};
+use std::io::{Read, Write};
 
 // The sizes of a program's buffers, for its input and its text.
 pub const INPUT: usize = 81920;
@@ -17,7 +17,7 @@ pub const OUTPUT: usize = 65536;
 
 // What is left of the buffer: the bytes from `from` up to `total`; whether the start of the line
 // there is gone; whether the input has ended.
-#[derive(Drop)]
+#[derive(Clone, Copy)]
 pub struct Feed {
     pub from: usize,
     pub total: usize,
@@ -26,7 +26,7 @@ pub struct Feed {
 }
 
 // A line, with its end and where the next one starts; more input is wanted; or the end.
-#[derive(Drop)]
+#[derive(Clone, Copy)]
 pub enum Found {
     Line(usize, usize),
     More,
@@ -130,16 +130,18 @@ fn gone(f: Feed, limit: usize) -> bool
     f.total - f.from > limit
 }
 
-// The next block of standard input, behind what is kept.
-pub fn fill(buf: &mut [u8], f: Feed, limit: usize) -> Feed
+// The next block of the input, behind what is kept. A read that fails is taken for the input's end.
+pub fn fill<R: Read>(reader: &mut R, buf: &mut [u8], f: Feed, limit: usize) -> Feed
     requires { (f.from ≤ f.total) × (f.total ≤ length buf.old) × (limit < length buf.old) }
     ensures { (result.from ≤ result.total) × (result.total ≤ length buf.old) × Filled f limit buf.old buf.new result }
 {
     let skip = gone(f, limit);
     let have = kept(buf, f, limit);
     let part: &mut [u8] = &mut buf[have..];
-    let got = libc::read(STDIN_FILENO, part);
-    let n = io::count(got, part);
+    let n = match reader.read(part) {
+        Ok(n) => n,
+        Err(_) => 0,
+    };
     Feed {
         from: 0,
         total: have + n,
@@ -148,31 +150,33 @@ pub fn fill(buf: &mut [u8], f: Feed, limit: usize) -> Feed
     }
 }
 
-// The first `put` bytes of the text go to standard output. A closed output loses them, and nothing
-// else: the program goes on to the end of its input.
-pub fn flush(text: &[u8], put: usize)
+// The first `put` bytes of the text go to the output. A closed output loses them, and nothing else:
+// the program goes on to the end of its input.
+pub fn flush<W: Write>(writer: &mut W, text: &[u8], put: usize)
     requires { put ≤ length text.now }
 {
-    let from = 0usize;
-    io::write_all(STDOUT_FILENO, &text[from..put]);
+    match writer.write_all(&text[..put]) {
+        Ok(()) => {}
+        Err(_) => {}
+    }
 }
 
 // A place with room for `need` more bytes: this one, or, once all that stands in the text has been
 // written out, its start.
-pub fn room(text: &[u8], put: usize, need: usize) -> usize
+pub fn room<W: Write>(writer: &mut W, text: &[u8], put: usize, need: usize) -> usize
     requires { (put ≤ length text.now) × (need ≤ length text.now) × (length text.now < 1000000) }
     ensures { (result + need ≤ length text.now) × (result ≡ T.room_of put need (length text.now)) }
 {
     if put + need <= text.len() {
         return put;
     }
-    flush(text, put);
+    flush(writer, text, put);
     0
 }
 
 // How far a program is: what is left of its input, up to where its text stands, and whether there is
 // more to do.
-#[derive(Drop)]
+#[derive(Clone, Copy)]
 pub struct State {
     pub feed: Feed,
     pub put: usize,
@@ -206,13 +210,20 @@ pub fn answered(s: State, from: usize, put: usize) -> State
 
 // More input is wanted. What stands in the text is written out before the read, so that whoever waits
 // for an answer has it.
-pub fn read_on(buf: &mut [u8], text: &[u8], s: State, limit: usize) -> State
+pub fn read_on<R: Read, W: Write>(
+    reader: &mut R,
+    writer: &mut W,
+    buf: &mut [u8],
+    text: &[u8],
+    s: State,
+    limit: usize,
+) -> State
     requires { T.StateKept s × (limit < T.input) × (length buf.old ≡ T.input) × (length text.now ≡ T.output) }
     ensures { T.StateKept result × T.Read s limit buf.old buf.new result }
 {
     let f = s.feed;
-    flush(text, s.put);
-    let feed = fill(buf, f, limit);
+    flush(writer, text, s.put);
+    let feed = fill(reader, buf, f, limit);
     State {
         feed,
         put: 0,
@@ -221,12 +232,12 @@ pub fn read_on(buf: &mut [u8], text: &[u8], s: State, limit: usize) -> State
 }
 
 // The input has ended, and what stands in the text is written out.
-pub fn finish(text: &[u8], s: State) -> State
+pub fn finish<W: Write>(writer: &mut W, text: &[u8], s: State) -> State
     requires { T.StateKept s × (length text.now ≡ T.output) }
     ensures { T.StateKept result × (result ≡ T.closed s) }
 {
     let feed = s.feed;
-    flush(text, s.put);
+    flush(writer, text, s.put);
     State {
         feed,
         put: 0,
