@@ -289,7 +289,7 @@ class Function:
                 break
             name = m.group(1)
             text = text[:m.start()] + text[m.end():]
-            text = re.sub(r"(?<!" + EDGE + r")(?<!\.)" + re.escape(name) + r"(?!" + EDGE + r")", "c", text)
+            text = re.sub(r"(?<!" + EDGE + r")(?<!\.)" + re.escape(name) + r"(?!" + EDGE + r"|\s*=\s)", "c", text)
         for m in re.finditer(r"let (" + EDGE + r"+) = c(?:\.before)*\.args in\b", text):
             text = re.sub(r"(?<!" + EDGE + r")(?<!\.)" + re.escape(m.group(1)) + r"\.t(?=[0-9])", "c.args.t", text)
             own = r"(?<!" + EDGE + r")(?<!\.)" + re.escape(m.group(1)) + r"\.[a-z0-9]+(?:-[a-z0-9]+)+"

@@ -1,0 +1,7 @@
+-- The places that `fill` wrote are the samples of the definition's pass, and `add_up` sums them. Assumes nothing.
+use Rattle.solver.specs.SolverLaws.{pass_split}
+use Rattle.solver.proofs.pass.Goals as goal
+
+pub returns : goal.returns
+returns c = let a = c.args in
+    pass_split a.p a.samples.now a.sphi.now a.cphi.now _ _ _ c.sin_cos_two-t.ensures c.fill.ensures c.add_up.ensures
