@@ -252,6 +252,8 @@ class Function:
             return m.group(1)
         if parts[0] == "well-formed":
             parts[0] = "well_formed"
+        if parts[0].endswith("_lem") and plain(parts[0]) not in self.fields:
+            parts[0] = parts[0][:-len("_lem")]
         first = plain(parts[0])
         if parts[0] == "args":
             if len(parts) > 1:
@@ -291,6 +293,8 @@ class Function:
             text = text[:m.start()] + text[m.end():]
             text = re.sub(r"(?<!" + EDGE + r")(?<!\.)" + re.escape(name) + r"(?!" + EDGE + r"|\s*=\s)", "c", text)
         for m in re.finditer(r"let (" + EDGE + r"+) = c(?:\.before)*\.args in\b", text):
+            text = re.sub(r"(?<!" + EDGE + r")(?<!\.)(" + re.escape(m.group(1)) + r"\.)(" + EDGE + r"*-" + EDGE + r"*)",
+                          lambda x: x.group(1) + x.group(2).replace("-", "_"), text)
             text = re.sub(r"(?<!" + EDGE + r")(?<!\.)" + re.escape(m.group(1)) + r"\.t(?=[0-9])", "c.args.t", text)
             own = r"(?<!" + EDGE + r")(?<!\.)" + re.escape(m.group(1)) + r"\.[a-z0-9]+(?:-[a-z0-9]+)+"
             text = re.sub(own, lambda x: x.group(0).replace("-", "_"), text)
