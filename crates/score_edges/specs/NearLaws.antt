@@ -1,6 +1,7 @@
 -- How the code finds a difference of two angles without `%`: within one turn of 0 the remainder by PI is one addition or none. Assumes nothing.
 use Rattle.std.specs.Prelude.{◌≡◌, refl, Bool, true, false, not, ◌&&◌, ◌||◌, cond, ℕ, zero, suc, ◌+◌, ◌-◌, ◌%◌, ◌^◌, ◌≤◌, ◌<◌, T, leb, ltb, eqb, Float}
-use Rattle.std.proofs.Common.{sym, ap, ◌∙◌, subst, inl, inr, le_of_lt, le_of_suc-le-suc, eq-or-lt_of_le, mod-eq_of_lt, add-sub_of_le, arith, le→leb, ltb→lt, nltb→le, lit<, ltb-true, le-ltb, lt-ltb, ne_eqb}
+use Rattle.std.proofs.Common.{sym, ap, ◌∙◌, subst, inl, inr, le_of_lt, le_of_suc-le-suc, eq-or-lt_of_le, mod-eq_of_lt, add-sub_of_le, arith}
+use Rattle.std.proofs.Common.{le→leb, ltb→lt, nltb→le, lit<, ltb-true, le-ltb, lt-ltb, ne_eqb}
 use Rattle.std.specs.Bool.{beq}
 use Rattle.std.proofs.lemmas.Bool.{false≢true}
 use Rattle.std.proofs.Math.Nat.{add-mod_left}
