@@ -11,6 +11,7 @@ ghost use Rattle.explain.specs.Explain as E;
 
 use explain_sorts::{Above, Sort};
 use lines::{Found, State};
+use std::io::{Read, Write};
 
 // More than is said of any line: 24 characters for each of its sentences' own.
 const ROOM: usize = 60000;
@@ -42,7 +43,7 @@ fn line_told(text: &mut [u8], at: usize, number: u64, line: &[u8], sort: Sort, a
 }
 
 // How far the program is, the line above the next one, and how many lines there were.
-#[derive(Drop)]
+#[derive(Clone, Copy)]
 struct Explaining {
     state: State,
     above: Above,
@@ -50,7 +51,14 @@ struct Explaining {
 }
 
 // The line up to `e` explained; the next one starts at `from`.
-fn line_turn(buf: &[u8], text: &mut [u8], x: Explaining, e: usize, from: usize) -> Explaining
+fn line_turn<W: Write>(
+    writer: &mut W,
+    buf: &[u8],
+    text: &mut [u8],
+    x: Explaining,
+    e: usize,
+    from: usize,
+) -> Explaining
     requires { StateKept x.state × Lies x.state e from × (length buf.now ≡ input) × (length text.old ≡ output) }
     ensures { StateKept result.state × E.Explains x buf.now e from text.old text.new result }
 {
@@ -61,7 +69,7 @@ fn line_turn(buf: &[u8], text: &mut [u8], x: Explaining, e: usize, from: usize) 
     let number = std::num::wrapping_add_u64(x.lines, 1);
     let line = &buf[begin..e];
     let sort = explain_sorts::sort_of(line, f.skip, number);
-    let at = lines::room(text, s.put, ROOM);
+    let at = lines::room(writer, text, s.put, ROOM);
     let put = line_told(text, at, number, line, sort, a);
     let state = lines::answered(s, from, put);
     let above = explain_sorts::above_of(sort, number);
@@ -73,16 +81,16 @@ fn line_turn(buf: &[u8], text: &mut [u8], x: Explaining, e: usize, from: usize) 
 }
 
 // A frame at the end of the input has no answer.
-fn last_turn(text: &mut [u8], x: Explaining) -> Explaining
+fn last_turn<W: Write>(writer: &mut W, text: &mut [u8], x: Explaining) -> Explaining
     requires { StateKept x.state × (length text.old ≡ output) }
     ensures { StateKept result.state × E.End x text.old text.new result }
 {
     let s = x.state;
     let f = s.feed;
     let above = x.above;
-    let at = lines::room(text, s.put, ROOM);
+    let at = lines::room(writer, text, s.put, ROOM);
     let put = explain_sentences::alone_told(text, at, true, above);
-    let state = lines::finish(text, lines::answered(s, f.from, put));
+    let state = lines::finish(writer, text, lines::answered(s, f.from, put));
     Explaining {
         state,
         above,
@@ -91,7 +99,13 @@ fn last_turn(text: &mut [u8], x: Explaining) -> Explaining
 }
 
 // One line explained, or one block read, or the end.
-fn turn(buf: &mut [u8], text: &mut [u8], x: Explaining) -> Explaining
+fn turn<R: Read, W: Write>(
+    reader: &mut R,
+    writer: &mut W,
+    buf: &mut [u8],
+    text: &mut [u8],
+    x: Explaining,
+) -> Explaining
     requires { StateKept x.state × (length buf.old ≡ input) × (length text.old ≡ output) }
     ensures { StateKept result.state × E.ExplainTurn x buf.old buf.new text.old text.new result }
 {
@@ -100,20 +114,25 @@ fn turn(buf: &mut [u8], text: &mut [u8], x: Explaining) -> Explaining
     let f = s.feed;
     let found = lines::find(buf, f);
     match found {
-        Found::Line(e, next) => line_turn(buf, text, x, e, next),
+        Found::Line(e, next) => line_turn(writer, buf, text, x, e, next),
         Found::More => {
-            let state = lines::read_on(buf, text, s, shapes::LIMIT);
+            let state = lines::read_on(reader, writer, buf, text, s, shapes::LIMIT);
             Explaining {
                 state,
                 above,
                 lines: x.lines,
             }
         }
-        Found::Done => last_turn(text, x),
+        Found::Done => last_turn(writer, text, x),
     }
 }
 
-fn serve(buf: &mut [u8], text: &mut [u8]) -> Explaining
+fn serve<R: Read, W: Write>(
+    reader: &mut R,
+    writer: &mut W,
+    buf: &mut [u8],
+    text: &mut [u8],
+) -> Explaining
     requires { (length buf.old ≡ input) × (length text.old ≡ output) }
     ensures { E.AllExplained buf.old text.old result buf.new text.new }
 {
@@ -126,7 +145,7 @@ fn serve(buf: &mut [u8], text: &mut [u8]) -> Explaining
     };
     let mut turns = u64::MAX;
     while turns > 0 {
-        x = turn(buf, text, x);
+        x = turn(reader, writer, buf, text, x);
         let s = x.state;
         if !s.more {
             return x;
@@ -136,8 +155,8 @@ fn serve(buf: &mut [u8], text: &mut [u8]) -> Explaining
     x
 }
 
-fn main() {
+fn main(rt: HostRuntime) {
     let mut buf = [0u8; lines::INPUT];
     let mut text = [0u8; lines::OUTPUT];
-    serve(&mut buf, &mut text);
+    serve(&mut rt.stdin(), &mut rt.stdout(), &mut buf, &mut text);
 }
