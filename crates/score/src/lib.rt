@@ -13,7 +13,7 @@ use solver_errors::Estimate;
 pub const WIDTHS_PX: [f32; 4] = [0.35, 0.70, 1.40, 2.80];
 
 // What a pair of axes at one width is worth.
-#[derive(Drop)]
+#[derive(Clone, Copy)]
 pub struct Fit {
     pub theta1: f32,
     pub theta2: f32,
@@ -51,7 +51,7 @@ pub struct Slopes {
 }
 
 // The sums over the pixels that the errors are made of.
-#[derive(Drop)]
+#[derive(Clone, Copy)]
 pub struct Moments {
     pub sq: f64,
     pub sqq: f64,

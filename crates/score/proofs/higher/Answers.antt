@@ -1,0 +1,11 @@
+-- Two tests in the definition's order. Assumes nothing.
+use Rattle.score.proofs.higher.Goals as goal
+
+pub returns-then-a-b : goal.returns-then-a-b
+returns-then-a-b c = rw c.if-a-b.true
+
+pub returns-then-abs : goal.returns-then-abs
+returns-then-abs c = rw (c.if-a-b.false, ← c.abs.ensures, c.if-abs.true)
+
+pub returns : goal.returns
+returns c = rw (c.if-a-b.false, ← c.abs.ensures, c.if-abs.false)
