@@ -29,7 +29,7 @@ pub struct Sums {
     pub num: f32,
 }
 
-#[derive(Drop)]
+#[derive(Clone, Copy)]
 pub struct SeedCandidate {
     pub theta1: f32,
     pub theta2: f32,
@@ -39,7 +39,7 @@ pub struct SeedCandidate {
 }
 
 // A seed, or nothing.
-#[derive(Drop)]
+#[derive(Clone, Copy)]
 pub enum Seed {
     Found(SeedCandidate),
     Nothing,

@@ -1,0 +1,14 @@
+-- A loop of stores makes the list of its elements. Assumes nothing.
+use Prim.Native.Nat.{◌≤◌, ◌-◌}
+use lib.ListN.{get_or}
+use lib.Ieee.{nan}
+use Rattle.loops.specs.TabLaws.{Stores}
+use Rattle.elementary.specs.Elementary.{turn}
+use Rattle.seed.specs.Buffers as B
+use Rattle.seed.proofs.double_each.Given as goal
+
+abbrev pub invariant-loop-i : goal.invariant-loop-i
+invariant-loop-i l = (l.i ≤ l.n) × Stores (λ k. turn (B.twice (get_or l.ring_phi k nan))) l.initial.turned l.turned l.i
+
+abbrev pub decreases-loop-i : goal.decreases-loop-i
+decreases-loop-i l = l.n - l.i

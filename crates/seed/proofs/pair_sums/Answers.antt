@@ -1,0 +1,20 @@
+-- The loop keeps the sums so far. Assumes nothing.
+use mathlib.Core.Path.{◌≡◌, refl}
+use native.Mathlib.Omega.{arith}
+use lib.ListN.{length}
+use Rattle.loops.specs.IterLaws.{iter_zero, iter_more}
+use Rattle.seed.specs.Seed as S
+use borrow.Author.Rules.{rules}
+use Rattle.seed.proofs.pair_sums.Goals as goal
+
+pub loop-i-init : goal.loop-i-init
+unfolding S.pair_sums
+loop-i-init c = (search rules, rw iter_zero)
+
+pub loop-i-preserved : goal.loop-i-preserved
+unfolding S.pair_sums S.summed_by
+loop-i-preserved c =
+    (search rules, iter_more _ _ _ _ _ c.loop-i.invariant.1 refl)
+
+pub returns : goal.returns
+returns c = let h : c.loop-i.i ≡ length c.args.centered.now = omega arith in rw h at c.loop-i.invariant.1
