@@ -95,8 +95,9 @@ narrow_upright (fin s m e) h = round_upright binary32 s (m * up e) (down e) (dow
 abbrev zero0 : Float
 zero0 = fin false 0 (pos 0)
 
-raised : (x : Float) → Upright (max x zero0)
-unfolding max is_nan
+-- `max`, written out at 0
+raised : (x : Float) → Upright (cond (is_nan x) zero0 (cond (is_nan zero0) x (cond (before x zero0) zero0 x)))
+unfolding is_nan
 raised nan = λ t. absurd t
 raised (inf true) = unfold before lt in λ t. absurd t
 raised (inf false) = unfold before lt eq in refl
@@ -128,7 +129,8 @@ raised (fin true (suc m) e) = go (before (fin true (suc m) e) zero0) below
     go false q = absurd (false≢true q)
 
 pub max_upright : (x : Float) → Upright (max x nought)
-max_upright x = subst (λ (z : Float). Upright (max x z)) (sym zero32) (raised x)
+unfolding max
+max_upright x = subst (λ (z : Float). Upright (cond (is_nan x) z (cond (is_nan z) x (cond (before x z) z x)))) (sym zero32) (raised x)
 
 pub max_finite : (x : Float) → T (finite x) → T (finite (max x nought))
 unfolding max
