@@ -2,7 +2,8 @@
 -- nothing; and the greater of any value and 0 is not below zero. Assumes nothing.
 use Rattle.std.specs.Prelude.{◌≡◌, ℕ, zero, suc, ◌+◌, ◌*◌, ◌^◌, ◌<◌, ◌≤◌, Bool, true, false, cond, T, pos, ◌≢◌, nat_lt, Float}
 use Rattle.std.proofs.Math.Path.{refl}
-use Rattle.std.proofs.Common.{sym, subst, ◌∙◌, le_trans, le_of_eq, lt_irrefl, zero-lt-suc, zero-mul, mul-zero, one-mul, mul-pos, mul-le-mul_left, mul-le-mul_right, arith, lt→ltb, pow_pos}
+use Rattle.std.proofs.Common.{sym, subst, ◌∙◌, le_trans, le_of_eq, lt_irrefl, zero-lt-suc, zero-mul, mul-zero, one-mul, mul-pos, mul-le-mul_left}
+use Rattle.std.proofs.Common.{mul-le-mul_right, arith, lt→ltb, pow_pos}
 use Rattle.std.proofs.lemmas.Bool.{false≢true}
 use Rattle.std.proofs.Math.Nat.{eq_of_mul-eq-mul_right}
 use Rattle.std.specs.Float.{nan, inf, fin, Format, binary32}
