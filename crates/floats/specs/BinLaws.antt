@@ -1,9 +1,11 @@
 -- `floor`, and the saturating cast of a float to an unsigned integer of 64 bits after it: the cast alone gives the same number, since it drops the
 -- fraction and takes what is below zero to 0.
 -- And the bin of an angle: ((angle / PI) * HIST_BINS as f32).floor() as usize % HIST_BINS. Assumes nothing.
-use Rattle.std.specs.Prelude.{◌≡◌, ℕ, zero, suc, ◌+◌, ◌-◌, ◌*◌, ◌/◌, ◌%◌, ◌^◌, ◌≤◌, min, Bool, true, false, cond, not, ◌&&◌, T, ltb, ℤ, pos, negsuc, nat_eq, nat_le, nat_lt}
+use Rattle.std.specs.Prelude.{◌≡◌, ℕ, zero, suc, ◌+◌, ◌-◌, ◌*◌, ◌/◌, ◌%◌, ◌^◌, ◌≤◌, min, Bool, true, false, cond, not, ◌&&◌, T, ltb, ℤ, pos, negsuc, nat_eq}
+use Rattle.std.specs.Prelude.{nat_le, nat_lt}
 use Rattle.std.proofs.Math.Path.{refl}
-use Rattle.std.proofs.Common.{sym, ap, ◌∙◌, subst, zero-le, le_trans, le_of_lt, le_of_eq, mul-one, mul-pos, zero-lt-suc, mul-div_cancel, div-le_self, le-div_iff_mul-le, arith, true≢false, ltb→lt, nltb→le, pow_pos, lt-ltb}
+use Rattle.std.proofs.Common.{sym, ap, ◌∙◌, subst, zero-le, le_trans, le_of_lt, le_of_eq, mul-one, mul-pos, zero-lt-suc, mul-div_cancel, div-le_self}
+use Rattle.std.proofs.Common.{le-div_iff_mul-le, arith, true≢false, ltb→lt, nltb→le, pow_pos, lt-ltb}
 use Rattle.std.proofs.lemmas.Bool.{false≢true}
 use lib.Ieee.{Float, nan, inf, fin, Format, binary32, prec, up, down, round, lt, fits, to_unsigned}
 use lib.Ieee.Fits.{down_pos, and_l, and_r, mul-fits}

@@ -1,6 +1,7 @@
 -- What Rust's library does on f32 and f64, for every value: NaN, infinities, both zeros and subnormals. Definitions only.
 -- What Rust leaves open docs/RULES.md, Floats, decides: a NaN counts as 7fc00000, and `max` and `min` take +0 as greater than -0.
-use Rattle.std.specs.Prelude.{ℕ, zero, suc, ◌+◌, ◌-◌, ◌*◌, ◌/◌, ◌%◌, ◌^◌, Bool, true, false, cond, not, ◌&&◌, ◌||◌, pos, negsuc, is_nan, nat_le, nat_lt, to_bits, Float}
+use Rattle.std.specs.Prelude.{ℕ, zero, suc, ◌+◌, ◌-◌, ◌*◌, ◌/◌, ◌%◌, ◌^◌, Bool, true, false, cond, not, ◌&&◌, ◌||◌, pos, negsuc, is_nan, nat_le, nat_lt}
+use Rattle.std.specs.Prelude.{to_bits, Float}
 use Rattle.std.specs.Float.{nan, inf, fin, Format, binary32}
 use Rattle.std.specs.Float.Ieee.{prec, emax, low, up, down, size, units, round, add, rem, neg, lt, eq, to_unsigned}
 use Rattle.floats.specs.Ops.{◌⊗◌, ◌⊘◌, lit, nought, one, pi}

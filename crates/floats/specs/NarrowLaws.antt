@@ -315,7 +315,8 @@ neg_inf = refl
 neg_units : (f : Format) (q k : ℕ) → units f true q k ≡ neg (units f false q k)
 unfolding units
 neg_units f q k =
-    neg_cond (nat_lt (q * 2 ^ k) (2 ^ (low f + suc (emax f)))) (odd (suc (prec f)) true q k (low f)) (inf true) (odd (suc (prec f)) false q k (low f)) (inf false)
+    neg_cond (nat_lt (q * 2 ^ k) (2 ^ (low f + suc (emax f)))) (odd (suc (prec f)) true q k (low f)) (inf true)
+    (odd (suc (prec f)) false q k (low f)) (inf false)
     (neg_odd (suc (prec f)) q k (low f)) neg_inf
 
 pub neg_round : (f : Format) (a c : ℕ) → round f true a c ≡ neg (round f false a c)

@@ -2,7 +2,8 @@
 -- and -0 needs no case of its own after this file. Assumes nothing.
 use Rattle.std.specs.Prelude.{◌≡◌, ℕ, ◌+◌, ◌-◌, ◌^◌, ◌<◌, ◌≤◌, Bool, true, false, cond, not, ◌||◌, T, ◌⊎◌, pos, ◌==◌, nat_le, nat_lt, Float}
 use Rattle.std.proofs.Math.Path.{refl, ap}
-use Rattle.std.proofs.Common.{sym, ◌∙◌, subst, inl, inr, le_of_eq, le_of_lt, zero-mul, eq-or-lt_of_le, arith, leb→le, le→leb, ltb→lt, lt→ltb, nltb→le, eqb→eq, le-ltb, lt-ltb}
+use Rattle.std.proofs.Common.{sym, ◌∙◌, subst, inl, inr, le_of_eq, le_of_lt, zero-mul, eq-or-lt_of_le, arith, leb→le, le→leb, ltb→lt, lt→ltb, nltb→le}
+use Rattle.std.proofs.Common.{eqb→eq, le-ltb, lt-ltb}
 use Rattle.std.specs.Bool.{beq}
 use Rattle.std.specs.Float.{fin, Format}
 use Rattle.std.specs.Float.Ieee.{low, round, sum, add, sub, lt, le, below, level}
@@ -37,7 +38,8 @@ below_nn : (s : Bool) (a : ℕ) (t : Bool) (b : ℕ) → (T s → a ≡ 0) → (
 below_nn false a false b p q = refl
 below_nn false a true b p q = sym (not_so (nat_lt a b) (λ t. not_below_zero a b (q tt) (ltb→lt a b t)))
 below_nn true a false b p q =
-    same_test (nat_lt 0 (a + b)) (nat_lt a b) (λ t. lt→ltb a b (zero_and a b (p tt) (ltb→lt 0 (a + b) t))) (λ t. lt→ltb 0 (a + b) (zero_or a b (p tt) (ltb→lt a b t)))
+    same_test (nat_lt 0 (a + b)) (nat_lt a b) (λ t. lt→ltb a b (zero_and a b (p tt) (ltb→lt 0 (a + b) t)))
+    (λ t. lt→ltb 0 (a + b) (zero_or a b (p tt) (ltb→lt a b t)))
 below_nn true a true b p q =
     not_so (nat_lt b a) (λ t. not_below_zero b a (p tt) (ltb→lt b a t)) ∙ sym (not_so (nat_lt a b) (λ t. not_below_zero a b (q tt) (ltb→lt a b t)))
 

@@ -111,7 +111,8 @@ write_carry f x q k e v =
 -- ---- a pattern up to the infinity's is no NaN's
 pub no_nan32 : (n : ℕ) → n ≤ 0x7f800000 → T (not (nan_bits binary32 n))
 no_nan32 n h =
-    subst (λ (b : Bool). T (not b)) (sym (nan_bits_above binary32 n)) (le→nltb 0x7f800000 (n % 0x80000000) (le_trans (native.Mathlib.Nat.mod-le n 0x80000000) h))
+    subst (λ (b : Bool). T (not b)) (sym (nan_bits_above binary32 n))
+    (le→nltb 0x7f800000 (n % 0x80000000) (le_trans (native.Mathlib.Nat.mod-le n 0x80000000) h))
 
 -- ---- the sign's bit
 fields_neg : (f : Format) (x t : ℕ) → of_fields f true x t ≡ neg (of_fields f false x t)

@@ -3,9 +3,11 @@
 -- and both zeros in the middle. So `lt`, `le` and `eq` are those of the ranks (`rank_lt`, `rank_le`, `rank_eq`), and `omega` proves what follows from
 -- several comparisons.
 -- Assumes nothing.
-use Rattle.std.specs.Prelude.{◌≡◌, ℕ, suc, ◌+◌, ◌-◌, ◌*◌, ◌/◌, ◌^◌, ◌<◌, ◌≤◌, Bool, true, false, cond, not, ◌&&◌, ◌||◌, T, ltb, ◌⊎◌, ◌==◌, nat_eq, nat_le, nat_lt, Float}
+use Rattle.std.specs.Prelude.{◌≡◌, ℕ, suc, ◌+◌, ◌-◌, ◌*◌, ◌/◌, ◌^◌, ◌<◌, ◌≤◌, Bool, true, false, cond, not, ◌&&◌, ◌||◌, T, ltb, ◌⊎◌, ◌==◌, nat_eq, nat_le}
+use Rattle.std.specs.Prelude.{nat_lt, Float}
 use Rattle.std.proofs.Math.Path.{refl, ap}
-use Rattle.std.proofs.Common.{sym, ◌∙◌, subst, inl, inr, le_refl, le_trans, le_of_eq, le_of_lt, lt_irrefl, eq-or-lt_of_le, arith, pow_pos, le-ltb, lt-ltb, ne_eqb}
+use Rattle.std.proofs.Common.{sym, ◌∙◌, subst, inl, inr, le_refl, le_trans, le_of_eq, le_of_lt, lt_irrefl, eq-or-lt_of_le, arith, pow_pos, le-ltb, lt-ltb}
+use Rattle.std.proofs.Common.{ne_eqb}
 use Rattle.std.proofs.Math.Nat.{mul-div_cancel}
 use Rattle.std.specs.Bool.{beq}
 use lib.Dec.{leb→le, le→leb, ltb→lt, lt→ltb, nltb→le, eqb→eq}

@@ -2,7 +2,8 @@
 -- x of n units has a root of √(n * 2 ^ low) units. `sqrt f x` keeps `prec` digits of that, and goes up by one where the root is past the middle; both
 -- are told by comparing squares.
 -- A middle is never met: four times a whole number is no odd square. `root_nearest` says so. Assumes nothing.
-use Rattle.std.specs.Prelude.{◌≡◌, ℕ, zero, suc, ◌+◌, ◌-◌, ◌*◌, ◌/◌, ◌%◌, ◌^◌, ◌<◌, ◌≤◌, Bool, true, false, cond, not, T, ltb, ◌⊎◌, ◌≢◌, from_bits, nat_le, nat_lt, to_bits, refl}
+use Rattle.std.specs.Prelude.{◌≡◌, ℕ, zero, suc, ◌+◌, ◌-◌, ◌*◌, ◌/◌, ◌%◌, ◌^◌, ◌<◌, ◌≤◌, Bool, true, false, cond, not, T, ltb, ◌⊎◌, ◌≢◌, from_bits, nat_le}
+use Rattle.std.specs.Prelude.{nat_lt, to_bits, refl}
 use Rattle.std.proofs.Common.{sym, ◌∙◌, subst, inl, inr, zero-le, leb→le, ltb→lt, lit≤, lit<, pow-add, pow_pos, pow_mono}
 use Rattle.std.proofs.Math.Path.{ap}
 use native.Mathlib.Nat.{le_trans, le_of_eq, le_of_lt, lt_of_lt_of_le, lt_of_le_of_lt, lt_irrefl, lt_of_not-le, not-le_of_lt}
@@ -163,7 +164,8 @@ pub units_pattern : (q h : ℕ) → 2 ^ 23 ≤ q → q ≤ 2 ^ 24 → h < 250 �
 units_pattern q h lo hi l =
     let small : q * 2 ^ h < 2 ^ 277 = lt_of_le_of_lt (mul-le-mul hi (pow_mono (le_of_lt l))) (lit< tt) in
     let v : Val binary32 (units binary32 false q h) false (q * 2 ^ h) = units_val binary32 false q h small in
-    sym (of_bits-to_bits binary32 (units binary32 false q h) (units_fit binary32 q h hi)) ∙ ap (from_bits binary32) (go (native.Mathlib.Nat.eq-or-lt_of_le hi) v)
+    sym (of_bits-to_bits binary32 (units binary32 false q h) (units_fit binary32 q h hi)) ∙
+    ap (from_bits binary32) (go (native.Mathlib.Nat.eq-or-lt_of_le hi) v)
   where
     go : (q ≡ 2 ^ 24) ⊎ (q < 2 ^ 24) → Val binary32 (units binary32 false q h) false (q * 2 ^ h) → to_bits binary32 (units binary32 false q h) ≡ h * 8388608 + q
     go (inl e) v = write_carry binary32 (units binary32 false q h) q h e v

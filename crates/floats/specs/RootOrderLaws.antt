@@ -1,9 +1,12 @@
 -- The square root keeps the order, for every value of either format: of two values the root of the greater is not below the other's. NaN, both zeros,
 -- what is below zero and the infinities are no exception. Two roots drop as many digits, and then the kept digits are in order; or the lesser drops
 -- fewer, and then a power of two lies between the two. Assumes nothing.
-use Rattle.std.specs.Prelude.{◌≡◌, ℕ, zero, suc, ◌+◌, ◌-◌, ◌*◌, ◌/◌, ◌^◌, ◌<◌, ◌≤◌, Bool, true, false, cond, not, ◌&&◌, ◌||◌, T, ◌⊎◌, ℤ, ◌==◌, ◌≢◌, nat_le, nat_lt, Float}
+use Rattle.std.specs.Prelude.{◌≡◌, ℕ, zero, suc, ◌+◌, ◌-◌, ◌*◌, ◌/◌, ◌^◌, ◌<◌, ◌≤◌, Bool, true, false, cond, not, ◌&&◌, ◌||◌, T, ◌⊎◌, ℤ, ◌==◌, ◌≢◌, nat_le}
+use Rattle.std.specs.Prelude.{nat_lt, Float}
 use Rattle.std.proofs.Math.Path.{refl}
-use Rattle.std.proofs.Common.{sym, ap, ◌∙◌, subst, inl, inr, zero-le, le_refl, le_trans, le_of_eq, le_of_lt, lt_of_le_of_lt, lt_irrefl, not-le_of_lt, eq-or-lt_of_le, zero-lt-suc, zero-mul, mul-pos, mul_right_comm, mul-le-mul_right, le_of_mul-le-mul_right, le-div_iff_mul-le, div-mul-le_self, arith, leb→le, le→leb, ltb→lt, lt→ltb, nltb→le, eqb→eq, pow-add, pow_pos, pow_mono, le-ltb}
+use Rattle.std.proofs.Common.{sym, ap, ◌∙◌, subst, inl, inr, zero-le, le_refl, le_trans, le_of_eq, le_of_lt, lt_of_le_of_lt, lt_irrefl, not-le_of_lt}
+use Rattle.std.proofs.Common.{eq-or-lt_of_le, zero-lt-suc, zero-mul, mul-pos, mul_right_comm, mul-le-mul_right, le_of_mul-le-mul_right, le-div_iff_mul-le}
+use Rattle.std.proofs.Common.{div-mul-le_self, arith, leb→le, le→leb, ltb→lt, lt→ltb, nltb→le, eqb→eq, pow-add, pow_pos, pow_mono, le-ltb}
 use Rattle.std.proofs.lemmas.Bool.{false≢true}
 use Rattle.std.proofs.Math.Nat.{le-suc}
 use Rattle.std.specs.Float.Ieee.{nan, prec, emax, low, up, down, size, odd, units, lt, le, eq, below}

@@ -31,7 +31,8 @@ clear_above m e = of_le (0 * 1 * down e) (m * up e * 1) (le_trans (le_of_eq (zer
 
 odd_above : (d q k l : ℕ) → T (le zero0 (odd d false q k l))
 odd_above d zero k l = unfold odd in clear_above 0 (pos 0)
-odd_above d (suc q) k l = unfold odd in clear_above (suc q / 2 ^ lib.Count.count_trailing_zeros d (suc q)) (lib.Ieee.minus (k + lib.Count.count_trailing_zeros d (suc q)) l)
+odd_above d (suc q) k l = unfold odd in
+    clear_above (suc q / 2 ^ lib.Count.count_trailing_zeros d (suc q)) (lib.Ieee.minus (k + lib.Count.count_trailing_zeros d (suc q)) l)
 
 units_above : (f : Format) (q k : ℕ) → T (le zero0 (units f false q k))
 unfolding units

@@ -2,7 +2,8 @@
 -- nothing; and the greater of any value and 0 is not below zero. Assumes nothing.
 use Rattle.std.specs.Prelude.{◌≡◌, ℕ, zero, suc, ◌+◌, ◌*◌, ◌^◌, ◌<◌, ◌≤◌, Bool, true, false, cond, T, pos, ◌≢◌, nat_lt, Float}
 use Rattle.std.proofs.Math.Path.{refl}
-use Rattle.std.proofs.Common.{sym, subst, ◌∙◌, le_trans, le_of_eq, lt_irrefl, zero-lt-suc, zero-mul, mul-zero, one-mul, mul-pos, mul-le-mul_left, mul-le-mul_right, arith, lt→ltb, pow_pos}
+use Rattle.std.proofs.Common.{sym, subst, ◌∙◌, le_trans, le_of_eq, lt_irrefl, zero-lt-suc, zero-mul, mul-zero, one-mul, mul-pos, mul-le-mul_left}
+use Rattle.std.proofs.Common.{mul-le-mul_right, arith, lt→ltb, pow_pos}
 use Rattle.std.proofs.lemmas.Bool.{false≢true}
 use Rattle.std.proofs.Math.Nat.{eq_of_mul-eq-mul_right}
 use Rattle.std.specs.Float.{nan, inf, fin, Format, binary32}
@@ -95,8 +96,9 @@ narrow_upright (fin s m e) h = round_upright binary32 s (m * up e) (down e) (dow
 abbrev zero0 : Float
 zero0 = fin false 0 (pos 0)
 
-raised : (x : Float) → Upright (max x zero0)
-unfolding max is_nan
+-- `max`, written out at 0
+raised : (x : Float) → Upright (cond (is_nan x) zero0 (cond (is_nan zero0) x (cond (before x zero0) zero0 x)))
+unfolding is_nan
 raised nan = λ t. absurd t
 raised (inf true) = unfold before lt in λ t. absurd t
 raised (inf false) = unfold before lt eq in refl
@@ -128,7 +130,8 @@ raised (fin true (suc m) e) = go (before (fin true (suc m) e) zero0) below
     go false q = absurd (false≢true q)
 
 pub max_upright : (x : Float) → Upright (max x nought)
-max_upright x = subst (λ (z : Float). Upright (max x z)) (sym zero32) (raised x)
+unfolding max
+max_upright x = subst (λ (z : Float). Upright (cond (is_nan x) z (cond (is_nan z) x (cond (before x z) z x)))) (sym zero32) (raised x)
 
 pub max_finite : (x : Float) → T (finite x) → T (finite (max x nought))
 unfolding max

@@ -1,7 +1,8 @@
 -- Rounding keeps the order and changes nothing at a held number, so a rounded result is no larger than a held number which the exact one does not
 -- pass. With powers of two for the bounds, those of products, quotients and differences follow from the operands'. Assumes nothing.
 use Rattle.std.specs.Prelude.{◌≡◌, ℕ, suc, ◌+◌, ◌-◌, ◌*◌, ◌^◌, ◌<◌, ◌≤◌, Bool, true, false, cond, not, ◌&&◌, T, nat_lt, refl, Float}
-use Rattle.std.proofs.Common.{sym, ap, ◌∙◌, subst, inl, inr, le_refl, le_trans, le_of_eq, lt_irrefl, lt_of_le_of_lt, lt_of_lt_of_le, one-mul, mul_comm, mul_assoc, mul-pos, mul-le-mul, mul-le-mul_left, mul-le-mul_right, arith, lit≤, pow-add, pow_pos}
+use Rattle.std.proofs.Common.{sym, ap, ◌∙◌, subst, inl, inr, le_refl, le_trans, le_of_eq, lt_irrefl, lt_of_le_of_lt, lt_of_lt_of_le, one-mul, mul_comm}
+use Rattle.std.proofs.Common.{mul_assoc, mul-pos, mul-le-mul, mul-le-mul_left, mul-le-mul_right, arith, lit≤, pow-add, pow_pos}
 use Rattle.std.specs.Bool.{beq}
 use Rattle.std.proofs.Math.Pow.{pow-lt}
 use Rattle.std.specs.Float.{Format, binary32, binary64}

@@ -1,7 +1,8 @@
 -- A loop of stores makes the list of its elements, and a part of a list that was lent comes back in its place. Assumes nothing.
 use Rattle.std.specs.Prelude.{◌≡◌, ◌⊎◌, set}
 use Rattle.std.proofs.Math.Path.{refl, ap, subst}
-use Rattle.std.proofs.Common.{sym, ◌∙◌, eq-or-lt_of_le, le_of_suc-le-suc, mul-le-mul_right, add-one, length-set, length-take, length-drop, take-append-drop, take_at, drop_at, drop-drop, length-take-le, ext_get_or}
+use Rattle.std.proofs.Common.{sym, ◌∙◌, eq-or-lt_of_le, le_of_suc-le-suc, mul-le-mul_right, add-one, length-set, length-take, length-drop, take-append-drop}
+use Rattle.std.proofs.Common.{take_at, drop_at, drop-drop, length-take-le, ext_get_or}
 use Rattle.std.proofs.Math.Logic.{inl, inr}
 use mathlib.Core.List.{List, [], ◌∷◌, ◌++◌, append_assoc}
 use Prim.Native.Nat.{ℕ, zero, suc, ◌+◌, ◌-◌, ◌*◌, ◌≤◌, ◌<◌}

@@ -1,7 +1,10 @@
 -- Remainders from bits. Two values of one format with the same sign and number of units are equal, and a remainder in units is that of the whole numbers:
 -- below the divisor it is the dividend itself, and from the divisor on both are whole numbers of the divisor's own steps. Assumes nothing.
 use Rattle.std.specs.Prelude.{◌≡◌, refl, Bool, true, false, not, ◌&&◌, ℕ, zero, suc, ◌+◌, ◌-◌, ◌*◌, ◌/◌, ◌%◌, ◌^◌, ◌≤◌, ◌<◌, pos, T, ltb, Float}
-use Rattle.std.proofs.Common.{sym, ap, ◌∙◌, subst, zero-le, le_refl, le_trans, le_of_eq, le_of_lt, lt_of_lt_of_le, lt_of_le_of_lt, not-le_of_lt, lt_of_not-le, le_of_suc-le-suc, mod-lt, mod-eq_of_lt, div-add-mod', add-mul, add-zero, zero-mul, mul_assoc, mul_right_comm, mul-pos, mul-le-mul, mul-le-mul_right, mul-lt-mul_of_pos_right, add-sub_of_le, sub-add_cancel, arith, lit<, lit≤, pow-add, pow_pos, pow_mono, ltb-true, ltb-false, le-ltb, lt-ltb}
+use Rattle.std.proofs.Common.{sym, ap, ◌∙◌, subst, zero-le, le_refl, le_trans, le_of_eq, le_of_lt, lt_of_lt_of_le, lt_of_le_of_lt, not-le_of_lt}
+use Rattle.std.proofs.Common.{lt_of_not-le, le_of_suc-le-suc, mod-lt, mod-eq_of_lt, div-add-mod', add-mul, add-zero, zero-mul, mul_assoc, mul_right_comm}
+use Rattle.std.proofs.Common.{mul-pos, mul-le-mul, mul-le-mul_right, mul-lt-mul_of_pos_right, add-sub_of_le, sub-add_cancel, arith, lit<, lit≤, pow-add}
+use Rattle.std.proofs.Common.{pow_pos, pow_mono, ltb-true, ltb-false, le-ltb, lt-ltb}
 use Rattle.std.proofs.lemmas.Bool.{false≢true}
 use Rattle.std.proofs.Math.Nat.{add-mod_left, mul-add-mod_self_right, pow-succ', suc-sub-suc}
 use Rattle.std.specs.Float.{nan, inf, fin, Format, binary32}

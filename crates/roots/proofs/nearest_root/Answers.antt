@@ -1,17 +1,8 @@
--- `roots::nearest_root` meets its contract. The first loop ends since 2 ^ 25 squared is above n; the second keeps n ≤ s * s + s, and each loop's exit
--- is one half of the answer.
--- Assumes nothing.
-use Rattle.std.proofs.Common.{ℕ, ◌+◌, ◌*◌, ◌-◌, ◌≤◌, ◌<◌, ◌≡◌, refl, subst, Bool, true, false, ltb, arith, mul-le-mul, mul-add, add-mul}
+-- `roots::nearest_root` meets its contract. The first loop ends since 2 ^ 25 squared is above n; the second keeps n ≤ s * s + s, since it goes down only
+-- from an s that is not 0, and each loop's exit is one half of the answer. Assumes nothing.
+use Rattle.std.proofs.Common.{ℕ, ◌+◌, ◌*◌, ◌-◌, ◌≤◌, ◌≡◌, refl, subst, Bool, true, false, ltb, arith, mul-le-mul, mul-add, add-mul}
 use borrow.Author.Tests.{ltb-true, ltb-false}
 use Rattle.roots.proofs.nearest_root.Goals as goal
-
--- what has its square below n has at most 25 digits
-below : (n s : ℕ) → n < 281474976710656 → s * s + s < n → s < 33554432
-below n s h e = go (ltb s 33554432) refl
-  where
-    go : (b : Bool) → ltb s 33554432 ≡ b → s < 33554432
-    go true t = ltb-true s 33554432 t
-    go false t = omega (arith, mul-le-mul (ltb-false s 33554432 t) (ltb-false s 33554432 t))
 
 above_zero : (n s : ℕ) → 1 ≤ n → n + s ≤ s * s → 1 ≤ s
 above_zero n s h e = go (ltb 0 s) refl
