@@ -99,7 +99,7 @@ fn ahead(x: f32) -> f32
 }
 
 // What four pairs bring to their scores.
-#[derive(Drop)]
+#[derive(Clone, Copy)]
 pub struct Models {
     pub q_mean: [f32; 4],
     pub denom: [f32; 4],

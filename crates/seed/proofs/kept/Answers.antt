@@ -1,7 +1,8 @@
 -- Three tests, in the definition's order. Assumes nothing.
 use Rattle.seed.specs.Seed as S
 use Rattle.seed.proofs.kept.Goals as goal
-use Rattle.seed.proofs.kept.Goals.{else-is_finite-via-then-is_finite+then-is_finite-2+else-is_finite-3, else-is_finite-via-then-is_finite+else-is_finite-2, else-is_finite-via-else-is_finite}
+use Rattle.seed.proofs.kept.Goals.{else-is_finite-via-then-is_finite+then-is_finite-2+else-is_finite-3}
+use Rattle.seed.proofs.kept.Goals.{else-is_finite-via-then-is_finite+else-is_finite-2, else-is_finite-via-else-is_finite}
 
 pub returns-then-is_finite-3 : goal.returns-then-is_finite-3
 unfolding S.kept
