@@ -74,7 +74,7 @@ fn last_of(a: usize) -> usize
 // four of an angle may run past its last pair; there are 65 such blocks.
 pub const BLOCKS: usize = 65;
 
-#[derive(Drop)]
+#[derive(Clone, Copy)]
 pub struct Pair {
     pub a: usize,
     pub b: usize,
