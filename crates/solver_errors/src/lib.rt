@@ -10,7 +10,7 @@ ghost use Rattle.solver_errors.specs.Parts as P;
 use solver_elimination::Sides;
 
 // The standard errors of the two axes.
-#[derive(Drop)]
+#[derive(Clone, Copy)]
 pub struct Errors {
     pub error1: f32,
     pub error2: f32,
@@ -18,13 +18,13 @@ pub struct Errors {
 
 // What is to be said of a fit's errors beside their numbers: whether they are known. Callers hand it on whole, so that what
 // is to be said besides needs a place here and none of its own in their records.
-#[derive(Drop)]
+#[derive(Clone, Copy)]
 pub struct Standing {
     pub known: bool,
 }
 
 // Errors with their standing.
-#[derive(Drop)]
+#[derive(Clone, Copy)]
 pub struct Estimate {
     pub errors: Errors,
     pub standing: Standing,

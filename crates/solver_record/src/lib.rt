@@ -16,7 +16,7 @@ const MIN_CENTERED_VAR: f32 = 1e-6;
 
 // Result of the parametric two-axis intensity fit: the amplitude, both axes, their standard errors
 // and the residual; and the fitted mean, which the Rust drops.
-#[derive(Drop)]
+#[derive(Clone, Copy)]
 pub struct TwoAxisFit {
     pub amp: f32,
     pub theta1: f32,
@@ -28,7 +28,7 @@ pub struct TwoAxisFit {
 }
 
 // A start's fit, the standing of its errors, and how many updates it made.
-#[derive(Drop)]
+#[derive(Clone, Copy)]
 pub struct Started {
     pub fit: TwoAxisFit,
     pub standing: Standing,
