@@ -7,44 +7,63 @@ ghost use Rattle.lines.specs.Turns.{Answered, StateKept, Lies, input, output};
 ghost use Rattle.fitlines.specs.Fitlines as P;
 
 use lines::{Found, State};
+use std::io::{Read, Write};
 
 // The longest answer, a disk's, and its line feed.
 const ANSWER: usize = 99;
 
 // The line up to `e` answered; the next one starts at `from`.
-fn line_turn(buf: &[u8], text: &mut [u8], s: State, e: usize, from: usize) -> State
+fn line_turn<W: Write>(
+    writer: &mut W,
+    buf: &[u8],
+    text: &mut [u8],
+    s: State,
+    e: usize,
+    from: usize,
+) -> State
     requires { StateKept s × Lies s e from × (length buf.now ≡ input) × (length text.old ≡ output) }
     ensures { StateKept result × Answered 99 s from (P.answer s buf.now e) text.old text.new result }
 {
     let f = s.feed;
     let begin = f.from;
-    let at = lines::room(text, s.put, ANSWER);
+    let at = lines::room(writer, text, s.put, ANSWER);
     let put = frames::append(f.skip, &buf[begin..e], text, at);
     lines::answered(s, from, put)
 }
 
 // One line answered, or one block read, or the end.
-fn turn(buf: &mut [u8], text: &mut [u8], s: State) -> State
+fn turn<R: Read, W: Write>(
+    reader: &mut R,
+    writer: &mut W,
+    buf: &mut [u8],
+    text: &mut [u8],
+    s: State,
+) -> State
     requires { StateKept s × (length buf.old ≡ input) × (length text.old ≡ output) }
     ensures { StateKept result × P.Turn s buf.old buf.new text.old text.new result }
 {
     let f = s.feed;
     let found = lines::find(buf, f);
     match found {
-        Found::Line(e, next) => line_turn(buf, text, s, e, next),
-        Found::More => lines::read_on(buf, text, s, shapes::LIMIT),
-        Found::Done => lines::finish(text, s),
+        Found::Line(e, next) => line_turn(writer, buf, text, s, e, next),
+        Found::More => lines::read_on(reader, writer, buf, text, s, shapes::LIMIT),
+        Found::Done => lines::finish(writer, text, s),
     }
 }
 
-fn serve(buf: &mut [u8], text: &mut [u8]) -> State
+fn serve<R: Read, W: Write>(
+    reader: &mut R,
+    writer: &mut W,
+    buf: &mut [u8],
+    text: &mut [u8],
+) -> State
     requires { (length buf.old ≡ input) × (length text.old ≡ output) }
     ensures { P.Served buf.old text.old result buf.new text.new }
 {
     let mut s = lines::begin();
     let mut turns = u64::MAX;
     while turns > 0 {
-        s = turn(buf, text, s);
+        s = turn(reader, writer, buf, text, s);
         if !s.more {
             return s;
         }
@@ -53,8 +72,8 @@ fn serve(buf: &mut [u8], text: &mut [u8]) -> State
     s
 }
 
-fn main() {
+fn main(rt: HostRuntime) {
     let mut buf = [0u8; lines::INPUT];
     let mut text = [0u8; lines::OUTPUT];
-    serve(&mut buf, &mut text);
+    serve(&mut rt.stdin(), &mut rt.stdout(), &mut buf, &mut text);
 }
