@@ -21,7 +21,7 @@ const SCRATCH: usize = 6 * data::MAX_TANH_PIXELS;
 pub const ROWS: usize = SCRATCH + data::MAX_TANH_PIXELS;
 
 // The angle and the edge sum of each slot's row, and the total of the weights.
-#[derive(Drop)]
+#[derive(Clone, Copy)]
 pub struct Slots {
     pub keys: [f32; 6],
     pub edges: [f32; 6],
