@@ -1,5 +1,5 @@
 -- What is told so far, and what is left to tell, are the whole. Assumes nothing.
-use Rattle.std.proofs.Common.{◌-◌, arith, rules}
+use Rattle.std.proofs.Common.{arith, rules}
 use Rattle.explain_words.specs.TellLaws.{midway_start, midway_next, midway_end}
 use Rattle.explain_words.proofs.tell.Goals as goal
 

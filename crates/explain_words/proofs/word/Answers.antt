@@ -1,7 +1,7 @@
 -- What is said so far are the letters of the word so far. Assumes nothing.
 use Rattle.hexadecimal.specs.HexLaws.{written_none, written_then}
 use Rattle.explain_words.specs.TellLaws.{spelt_none, spelt_next}
-use Rattle.std.proofs.Common.{◌≡◌, ◌-◌, arith, rules}
+use Rattle.std.proofs.Common.{◌≡◌, arith, rules}
 use Rattle.explain_words.proofs.word.Goals as goal
 
 pub loop-j-init : goal.loop-j-init

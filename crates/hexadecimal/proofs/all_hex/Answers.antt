@@ -1,6 +1,5 @@
 -- The loop keeps that every character so far is a digit. Assumes nothing.
 use mathlib.Core.Path.{◌≡◌}
-use Prim.Native.Nat.{◌-◌}
 use native.Mathlib.Omega.{arith}
 use lib.ListN.{length}
 use Rattle.hexadecimal.specs.Hex.{all_hex}

@@ -5,7 +5,6 @@ use native.Mathlib.Omega.{arith}
 use lib.ListN.{length}
 use borrow.Rule.Slice.PartMut.{take_put}
 use Rattle.lines.specs.Lines.{with_block}
-use borrow.Author.Rules.{rules}
 use Rattle.lines.proofs.fill.Goals as goal
 use Rattle.lines.proofs.fill.Goals.{in-Ok, in-Err}
 

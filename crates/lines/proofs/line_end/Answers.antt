@@ -1,6 +1,5 @@
 -- The loop looks forward: from here on the search gives what it gives from the start. Assumes nothing.
 use mathlib.Core.Path.{refl, ◌∙◌}
-use Prim.Native.Nat.{◌-◌}
 use native.Mathlib.Omega.{arith}
 use Rattle.lines.specs.LinesLaws.{end_on, end_here, end_none}
 use borrow.Author.Tests.{eq-eqb, ne_eqb}
