@@ -181,7 +181,8 @@ rows_few rows centered false room = room.few
 
 module _ (rows centered : Row) (centered_ss mean n : Float) (e : n ≡ count (length centered)) where
   pub walk_is : (stored : Bool) → RowsOf stored rows centered
-      → iter (λ j. lanes_tried n centered_ss mean (lanes_of stored rows centered n j) (block_pair j)) Nothing blocks ≡ seed_of stored rows centered centered_ss mean
+      → iter (λ j. lanes_tried n centered_ss mean (lanes_of stored rows centered n j) (block_pair j)) Nothing blocks ≡
+      seed_of stored rows centered centered_ss mean
   unfolding best_of
   walk_is true room = rw (e, room.1) (models_best centered centered_ss mean rows)
   walk_is false room =

@@ -162,7 +162,8 @@ module _ (q : ℕ → ℕ → ℕ → Float) where
           block_models (block_part (table_words angles model) j) (block_pair j) x ≡ block_steps pushes (block_pair j) x
       part j h x = rw (block_of_lem angles model l j h) (block_read (block_pair j) x)
 
-pub models_read : (angles : Row) → length angles ≡ ring_samples → models_in (table_words angles (model_at ring_samples angles)) ≡ seed_models ring_samples angles
+pub models_read : (angles : Row) → length angles ≡ ring_samples →
+    models_in (table_words angles (model_at ring_samples angles)) ≡ seed_models ring_samples angles
 unfolding seed_models model_at
 models_read angles l = table_read _ angles l
 
