@@ -1,7 +1,9 @@
 -- The range of the canonical axes, for every pair of f32 angles and every amplitude, NaN and the infinities included.
 -- In units of 2 ^ -149, PI is 13176795 * 2 ^ 127 and TAU twice that; each step is a sum or a remainder of whole numbers and one rounding. Assumes nothing.
 use Rattle.std.specs.Prelude.{◌≡◌, refl, ℕ, ◌+◌, ◌-◌, ◌*◌, ◌%◌, ◌^◌, ◌≤◌, ◌<◌, true, false, not, ◌||◌, leb}
-use Rattle.std.proofs.Common.{sym, ◌∙◌, subst, inl, inr, zero-le, le_trans, le_of_eq, le_of_lt, lt_of_lt_of_le, lt_of_le_of_lt, not-le_of_lt, sub-le, lt_of_not-le, mod-lt, eq-zero-or-pos, eq-or-lt_of_le, le_of_suc-le-suc, add-le-add, le-add_right, mul_comm, mul-le-mul_right, le_of_mul-le-mul_right, lt_of_mul-lt-mul_right, arith, lit≤, lit<, le-ltb, lt-ltb}
+use Rattle.std.proofs.Common.{sym, ◌∙◌, subst, inl, inr, zero-le, le_trans, le_of_eq, le_of_lt, lt_of_lt_of_le, lt_of_le_of_lt, not-le_of_lt, sub-le}
+use Rattle.std.proofs.Common.{lt_of_not-le, mod-lt, eq-zero-or-pos, eq-or-lt_of_le, le_of_suc-le-suc, add-le-add, le-add_right, mul_comm}
+use Rattle.std.proofs.Common.{mul-le-mul_right, le_of_mul-le-mul_right, lt_of_mul-lt-mul_right, arith, lit≤, lit<, le-ltb, lt-ltb}
 use Rattle.std.proofs.Math.Path.{ap}
 use Rattle.std.proofs.Math.Nat.{zero-mod, mul-sub, sub-le-sub_left, sub_self}
 use Rattle.std.proofs.Math.Bool.{Bool, cond}

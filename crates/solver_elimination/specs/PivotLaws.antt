@@ -2,7 +2,8 @@
 -- not stop the elimination is finite and 2 ^ -67 at least, and any other entry of its column is a NaN or no larger. Assumes nothing.
 use Rattle.std.specs.Prelude.{◌≡◌, ◌⊎◌, Bool, true, false, not, ◌||◌, cond, ℕ, zero, suc, ◌+◌, ◌-◌, ◌*◌, ◌^◌, ◌≤◌, ◌<◌, negsuc, Float}
 use Rattle.std.proofs.Math.Path.{refl, subst}
-use Rattle.std.proofs.Common.{sym, ap, ◌∙◌, inl, inr, true≢false, le_refl, le_trans, le_of_eq, le_of_lt, lt_of_not-le, not-le_of_lt, eq-or-lt_of_le, ltb→lt, nltb→le, lit≤, pow_mono, le-ltb}
+use Rattle.std.proofs.Common.{sym, ap, ◌∙◌, inl, inr, true≢false, le_refl, le_trans, le_of_eq, le_of_lt, lt_of_not-le, not-le_of_lt, eq-or-lt_of_le}
+use Rattle.std.proofs.Common.{ltb→lt, nltb→le, lit≤, pow_mono, le-ltb}
 use native.Mathlib.Omega.{arith}
 use Rattle.std.proofs.Math.Dec.{T}
 use Rattle.std.specs.Float.{nan, inf, fin}

@@ -167,13 +167,15 @@ pub solved_first : (a : Matrix) (b c : Row) → S.solve4x4 a b ≡ S.column_of 4
 unfolding S.solve4x4 S.augmented widened
 solved_first a b c =
     eliminated_carried 4 4 (S.augmented a b) (widened a b c)
-    (four _ (λ k. S.augmented_row (get_or a k []) (at b k)) (λ k. widened_row (get_or a k []) (at b k) (at c k)) (λ k. first_row (get_or a k []) (at b k) (at c k)))
+    (four _ (λ k. S.augmented_row (get_or a k []) (at b k)) (λ k. widened_row (get_or a k []) (at b k) (at c k))
+    (λ k. first_row (get_or a k []) (at b k) (at c k)))
 
 pub solved_second : (a : Matrix) (b c : Row) → S.solve4x4 a c ≡ S.column_of 5 (eliminated (widened a b c))
 unfolding S.solve4x4 S.augmented widened
 solved_second a b c =
     eliminated_carried 4 5 (S.augmented a c) (widened a b c)
-    (four _ (λ k. S.augmented_row (get_or a k []) (at c k)) (λ k. widened_row (get_or a k []) (at b k) (at c k)) (λ k. second_row (get_or a k []) (at b k) (at c k)))
+    (four _ (λ k. S.augmented_row (get_or a k []) (at c k)) (λ k. widened_row (get_or a k []) (at b k) (at c k))
+    (λ k. second_row (get_or a k []) (at b k) (at c k)))
 
 -- whether there is a solution does not depend on the right side
 pub fail_together : (a : Matrix) (b c : Row) → failed (S.solve4x4 a b) ≡ failed (S.solve4x4 a c)

@@ -77,6 +77,7 @@ fn both_errors(jtj: &[[f32; 4]; 4], ssr: f32, v: f32) -> Estimate
     Estimate { errors, standing }
 }
 
+#[tactic(auto, unfolding(crate::specs::StdErrors::axis_std_errors, crate::specs::StdErrors::standing))]
 pub fn axis_std_errors(jtj: &[[f32; 4]; 4], ssr: f32, n: usize) -> Estimate
     requires { n < 2 ^ 32 }
     ensures { result ≡ S.estimate jtj.now ssr n }
