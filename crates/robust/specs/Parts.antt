@@ -59,7 +59,8 @@ no_grid n samples mean centered_var = lt centered_var (lit 0x3586_37bd) || flat 
 abbrev pub CenteredIn : ℕ → Row → Float → Float → Row → Centered → Type 0
 CenteredIn n samples mean centered_var js Flat = no_grid n samples mean centered_var ≡ true
 CenteredIn n samples mean centered_var js (Sum s) =
-    (no_grid n samples mean centered_var ≡ false) × (take (n - 0) (drop 0 js) ≡ R.centered_of n samples mean) × (s ≡ R.squares n (R.centered_of n samples mean))
+    (no_grid n samples mean centered_var ≡ false) × (take (n - 0) (drop 0 js) ≡ R.centered_of n samples mean) ×
+    (s ≡ R.squares n (R.centered_of n samples mean))
 
 -- the best seed of the table in these words
 abbrev pub cached_seed : Row → Float → Row → Float → Seed

@@ -3,7 +3,8 @@
 -- no NaN: what is added is never below zero, so no infinity meets one of the other sign. Assumes nothing.
 use Rattle.std.specs.Prelude.{◌≡◌, Bool, true, cond, ◌&&◌, ◌||◌, List, ℕ, zero, suc, ◌+◌, ◌*◌, ◌/◌, ◌^◌, ◌≤◌, ◌<◌, leb, ltb, eqb}
 use Rattle.std.proofs.Math.Path.{refl, subst}
-use Rattle.std.proofs.Common.{sym, ap, ◌∙◌, true≢false, inl, inr, lt_of_lt_of_le, lt_irrefl, mul-pos, mul-le-mul_right, zero-lt-suc, zero-mul, arith, leb→le, eqb→eq, lt→ltb, lit<, pow_pos}
+use Rattle.std.proofs.Common.{sym, ap, ◌∙◌, true≢false, inl, inr, lt_of_lt_of_le, lt_irrefl, mul-pos, mul-le-mul_right, zero-lt-suc, zero-mul, arith}
+use Rattle.std.proofs.Common.{leb→le, eqb→eq, lt→ltb, lit<, pow_pos}
 use Rattle.std.proofs.Math.Bool.{false, not}
 use Rattle.std.proofs.lemmas.Bool.{false≢true}
 use Rattle.std.proofs.Math.Dec.{T, nleb→lt}

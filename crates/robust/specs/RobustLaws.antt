@@ -149,7 +149,8 @@ module _ (search : Row → Float → Seed) (n : ℕ) (samples ring_phi : Row) (m
 
   pub grid_made : (top : Seed) {r : Second} → no_grid n samples mean centered_var ≡ false
       → top ≡ search (R.centered_of n samples mean) (R.squares n (R.centered_of n samples mean))
-      → r ≡ second_of (R.refine_seed_candidates n samples ring_phi centered_var top) → r ≡ second_of (R.grid_fit_by search n samples ring_phi mean centered_var)
+      → r ≡ second_of (R.refine_seed_candidates n samples ring_phi centered_var top)
+      → r ≡ second_of (R.grid_fit_by search n samples ring_phi mean centered_var)
   unfolding R.grid_fit_by
   grid_made top e et er = rw e (er ∙ ap (λ (x : Seed). second_of (R.refine_seed_candidates n samples ring_phi centered_var x)) et)
 
@@ -159,8 +160,8 @@ module _ (n : ℕ) (samples ring_phi : Row) (mean centered_var : Float) where
   unfolding R.robust_grid_fit R.grid_seed first_table first_from
   direct_is = refl
 
-  pub direct_seed_lem : (sphi cphi h centered : Row) (s : Float) (top : Seed) → length ring_phi ≡ n → Prepared ring_phi sphi cphi → Grid sphi cphi h (length sphi)
-      → centered ≡ R.centered_of n samples mean → s ≡ R.squares n (R.centered_of n samples mean)
+  pub direct_seed_lem : (sphi cphi h centered : Row) (s : Float) (top : Seed) → length ring_phi ≡ n → Prepared ring_phi sphi cphi
+      → Grid sphi cphi h (length sphi) → centered ≡ R.centered_of n samples mean → s ≡ R.squares n (R.centered_of n samples mean)
       → top ≡ best_of (score_at (length centered) h centered s mean)
       → top ≡ direct_seed n ring_phi mean (R.centered_of n samples mean) (R.squares n (R.centered_of n samples mean))
   direct_seed_lem sphi cphi h centered s top el p g ec es eh =
@@ -219,4 +220,7 @@ module _ (tables : List Table) (n : ℕ) (samples ring_phi : Row) (f : First) (r
   ring_chosen t c =
       let due : R.fit_is_suspicious primary.fit ≡ true = ap (λ (x : Started). R.fit_is_suspicious (without_mean x.fit)) (sym first_is) ∙ t in
       let second : First → Second = λ x. second_of (R.robust_grid_fit tables n samples ring_phi x.mean x.centered_var) in
-      rw due (c ∙ ap (λ (x : Started). chosen_of x (second f)) first_is ∙ ap (λ (x : First). chosen_of (started_of primary) (second x)) e ∙ chosen_is primary _)
+      rw due (
+      c ∙ ap (λ (x : Started). chosen_of x (second f)) first_is
+      ∙ ap (λ (x : First). chosen_of (started_of primary) (second x)) e ∙ chosen_is primary _
+      )

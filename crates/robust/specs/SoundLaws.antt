@@ -19,7 +19,8 @@ use Rattle.solver_record.specs.Record.{without_mean}
 use Rattle.solver_record.specs.FitLaws.{ParamsHeld, Sound}
 use Rattle.solver.specs.SoundLaws.{start_sound, start_most}
 use Rattle.solver_record.specs.declared.Params.{Params}
-use Rattle.seed.specs.Seed.{robust_grid_step_deg, flat, kept, seed_from, scored_from, scored, score_seed_pair, pair_sums, insert_seed_candidate, second_harmonic, harmonic}
+use Rattle.seed.specs.Seed.{robust_grid_step_deg, flat, kept, seed_from, scored_from, scored, score_seed_pair, pair_sums, insert_seed_candidate}
+use Rattle.seed.specs.Seed.{second_harmonic, harmonic}
 use Rattle.seed.specs.declared.Sums.{Sums}
 use Rattle.seed.specs.declared.Seed.{Seed}
 use Rattle.seed.specs.declared.Seed.TheVariants.{Found, Nothing}
