@@ -27,7 +27,7 @@ pub struct Fit {
 }
 
 // A scored pair, or nothing.
-#[derive(Drop)]
+#[derive(Clone, Copy)]
 pub enum Scored {
     Found(Fit),
     Nothing,

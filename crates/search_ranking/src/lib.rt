@@ -10,7 +10,7 @@ use candidates::{PairScore, Pool};
 pub const MAX_TOP_PAIRS: usize = 24;
 
 // The first pairs of the ranking, best first: n of the places.
-#[derive(Drop)]
+#[derive(Clone, Copy)]
 pub struct Ranked {
     pub n: usize,
     pub pairs: [PairScore; MAX_TOP_PAIRS],

@@ -1,0 +1,15 @@
+-- Four calls in the definition's order. Assumes nothing.
+use mathlib.Core.Path.{ap}
+use Rattle.search.specs.Search as S
+use Rattle.score.specs.Score.{Alignments}
+use Rattle.search.proofs.pool_of.Goals as goal
+
+pub returns : goal.returns
+unfolding S.pool_of
+returns c = (
+  c.build_pair_pool.ensures.0,
+  λ energy xs ys vals l.
+      let e = c.precompute_edge_alignments-grad_total.ensures energy xs ys vals l in
+      rw (← ap (λ (z : Alignments). z.out) e, ← ap (λ (z : Alignments). z.total) e, ← c.forced_seed_pair-force_seed.ensures, ← c.forced_histogram_pair-force_hist.ensures)
+      c.build_pair_pool.ensures.1,
+)
