@@ -15,27 +15,27 @@ use search_ranking::Ranked;
 // ---- what crosses to C, under the names of tests/funclines.h; `some` is false where there is nothing
 
 #[repr(C)]
-#[derive(Drop)]
+#[derive(Clone, Copy)]
 pub struct Two {
     pub values: [f32; 2],
 }
 
 #[repr(C)]
-#[derive(Drop)]
+#[derive(Clone, Copy)]
 pub struct Set {
     pub n: usize,
     pub angles: [f32; candidates::MAX_CANDIDATES],
 }
 
 #[repr(C)]
-#[derive(Drop)]
+#[derive(Clone, Copy)]
 pub struct Index {
     pub some: bool,
     pub i: usize,
 }
 
 #[repr(C)]
-#[derive(Drop)]
+#[derive(Clone, Copy)]
 pub struct Pair {
     pub some: bool,
     pub i: usize,
@@ -43,7 +43,7 @@ pub struct Pair {
 }
 
 #[repr(C)]
-#[derive(Drop)]
+#[derive(Clone, Copy)]
 pub struct Ranking {
     pub i: u16,
     pub j: u16,
@@ -52,35 +52,35 @@ pub struct Ranking {
 }
 
 #[repr(C)]
-#[derive(Drop)]
+#[derive(Clone, Copy)]
 pub struct Pairs {
     pub n: usize,
     pub pairs: [Ranking; candidates::MAX_PAIRS],
 }
 
 #[repr(C)]
-#[derive(Drop)]
+#[derive(Clone, Copy)]
 pub struct Fit9 {
     pub some: bool,
     pub values: [f32; 9],
 }
 
 #[repr(C)]
-#[derive(Drop)]
+#[derive(Clone, Copy)]
 pub struct Leaders {
     pub first: Fit9,
     pub second: Fit9,
 }
 
 #[repr(C)]
-#[derive(Drop)]
+#[derive(Clone, Copy)]
 pub struct Best {
     pub fit: Fit9,
     pub trials: usize,
 }
 
 #[repr(C)]
-#[derive(Drop)]
+#[derive(Clone, Copy)]
 pub struct Sums {
     pub total: f32,
     pub sums: [f32; candidates::MAX_CANDIDATES],
@@ -88,7 +88,7 @@ pub struct Sums {
 
 // Three rows, 320 places apart, and what else their maker had room for.
 #[repr(C)]
-#[derive(Drop)]
+#[derive(Clone, Copy)]
 pub struct Rows {
     pub sums: [f32; 3],
     pub rows: [f32; 2240],
