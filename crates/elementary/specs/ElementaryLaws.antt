@@ -39,9 +39,12 @@ exp_neg_inside x = pick (lt x exp_least) (raised (capped (exp_wide x) one) nough
     pick true w h = record { low = refl; high = refl }
     pick false w h = h
 
-pub atan2_inside : (y x : Float) → Inside (minus 0x4049_0fdb) pi (atan2 y x)
+atan2_clamped : (y x : Float) → Inside (minus 0x4049_0fdb) pi (atan2 y x)
 unfolding atan2 lt neg of_bits
-atan2_inside y x = clamped_inside (minus 0x4049_0fdb) pi refl refl refl (atan_wide y x)
+atan2_clamped y x = clamped_inside (minus 0x4049_0fdb) pi refl refl refl (atan_wide y x)
+
+pub atan2_inside : (y x : Float) → Inside (minus 0x4049_0fdb) pi (atan2 y x)
+atan2_inside y x = atan2_clamped y x
 
 -- ---- ranges of a number: the results lie between the ends
 pub record Between (bottom top r : Float) : Type 0 where
@@ -62,11 +65,13 @@ unit_between r f n h = between (minus 0x3f80_0000) one tt tt tt tt r f n h
 
 pub sin_between : (x : Float) → T (fits binary32 x) → T (finite x) → Between (minus 0x3f80_0000) one (sin x)
 sin_between x f q =
-    unit_between (sin x) (unfold sin sin_cos sin_cos_near quadrant in unit_fits _ (sub-fits binary32 _ _)) (unfold sin in (sin_cos_numbers x f q).s) (sin_inside x)
+    unit_between (sin x) (unfold sin sin_cos sin_cos_near quadrant in unit_fits _ (sub-fits binary32 _ _))
+    (unfold sin in (sin_cos_numbers x f q).s) (sin_inside x)
 
 pub cos_between : (x : Float) → T (fits binary32 x) → T (finite x) → Between (minus 0x3f80_0000) one (cos x)
 cos_between x f q =
-    unit_between (cos x) (unfold cos sin_cos sin_cos_near quadrant in unit_fits _ (add-fits binary32 _ _)) (unfold cos in (sin_cos_numbers x f q).c) (cos_inside x)
+    unit_between (cos x) (unfold cos sin_cos sin_cos_near quadrant in unit_fits _ (add-fits binary32 _ _))
+    (unfold cos in (sin_cos_numbers x f q).c) (cos_inside x)
 
 pub tanh_between : (x : Float) → T (fits binary32 x) → T (not (is_nan x)) → Between (minus 0x3f80_0000) one (tanh x)
 tanh_between x f n = unit_between (tanh x) (unfold tanh in unit_fits _ (sub-fits binary32 _ _)) (tanh_number x f n) (tanh_inside x)
@@ -91,7 +96,7 @@ exp_between x f q g = rw g (exp_neg_between x f q g)
 pub atan2_between : (y x : Float) → T (fits binary32 y) → T (fits binary32 x) → T (not (is_nan y)) → T (not (is_nan x)) →
     Between (minus 0x4049_0fdb) pi (atan2 y x)
 unfolding is_nan fits of_bits neg
-atan2_between y x f g n m = between (minus 0x4049_0fdb) pi tt tt tt tt (atan2 y x) held number (atan2_inside y x)
+atan2_between y x f g n m = between (minus 0x4049_0fdb) pi tt tt tt tt (atan2 y x) held number (atan2_clamped y x)
   where
     held : T (fits binary32 (atan2 y x))
     held = unfold atan2 in clamped_fits (atan_wide y x) pi (minus 0x4049_0fdb) (wide_fits y x) tt tt

@@ -2,7 +2,8 @@
 -- infinity nor a NaN arises before the last clamp. Assumes nothing.
 use Rattle.std.specs.Prelude.{◌≡◌, ◌⊎◌, Bool, cond, not, ◌||◌, ℕ, zero, suc, ◌+◌, ◌-◌, ◌*◌, ◌%◌, ◌^◌, ◌≤◌, ◌<◌, T, ltb}
 use Rattle.std.proofs.Math.Path.{refl}
-use Rattle.std.proofs.Common.{sym, ap, subst, ◌∙◌, inl, inr, le_trans, le_of_lt, le_of_eq, mod-lt, mul-div_cancel, mul-le-mul_right, le_of_mul-le-mul_right, arith, ltb→lt, nltb→le, pow-add, pow_pos, pow_mono}
+use Rattle.std.proofs.Common.{sym, ap, subst, ◌∙◌, inl, inr, le_trans, le_of_lt, le_of_eq, mod-lt, mul-div_cancel, mul-le-mul_right}
+use Rattle.std.proofs.Common.{le_of_mul-le-mul_right, arith, ltb→lt, nltb→le, pow-add, pow_pos, pow_mono}
 use Rattle.std.proofs.Math.Bool.{true, false}
 use Rattle.std.proofs.Math.Nat.{mul-mod_left}
 use Rattle.std.proofs.Math.Dec.{lit<, lit≤}
@@ -238,7 +239,8 @@ module _ (v : Float) (h : Within binary32 reach v) where
 
   power_of_in : Within binary32 (2 ^ 276) (scale (above (v ⊕ big_m) big_r))
   power_of_in =
-      scale_in (cond-fits binary32 (lt big_r (v ⊕ big_m)) (v ⊕ big_m) big_r (add-fits binary32 v big_m) (unfold fits of_bits in tt)) (either (lt big_r (v ⊕ big_m)))
+      scale_in (cond-fits binary32 (lt big_r (v ⊕ big_m)) (v ⊕ big_m) big_r (add-fits binary32 v big_m) (unfold fits of_bits in tt))
+      (either (lt big_r (v ⊕ big_m)))
     where
       either : (b : Bool) → Near big_m_units reach (cond b (v ⊕ big_m) big_r)
       either true = sum_near

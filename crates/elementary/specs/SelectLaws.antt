@@ -23,7 +23,8 @@ under_number x top n = tested (lt x top) x top (λ e. (lt_no_nan x top (subst T 
 pub cond_number : (b : Bool) (x y : Float) → T (not (is_nan x)) → T (not (is_nan y)) → T (not (is_nan (cond b x y)))
 cond_number b x y n m = tested b x y (λ e. n) m
 
-pub clamped_number : (x top bottom : Float) → T (not (is_nan x)) → T (not (is_nan top)) → T (not (is_nan bottom)) → T (not (is_nan (raised (capped x top) bottom)))
+pub clamped_number : (x top bottom : Float) → T (not (is_nan x)) → T (not (is_nan top)) → T (not (is_nan bottom)) →
+    T (not (is_nan (raised (capped x top) bottom)))
 clamped_number x top bottom n t b = cond_number (lt (capped x top) bottom) bottom (capped x top) b (cond_number (lt top x) top x t n)
 
 pub clamped_fits : (x top bottom : Float) → T (fits binary32 x) → T (fits binary32 top) → T (fits binary32 bottom) →

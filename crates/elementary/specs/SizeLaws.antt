@@ -1,7 +1,8 @@
 -- Sizes: `Within binary32 n x` says that x is a finite f32 of at most n units of 2 ^ -149. A sum, a difference or a product of two such values has a
 -- bound that is computed from theirs, so a chain of steps with crude bounds below the infinity is finite, and no NaN arises in it. Assumes nothing.
 use Rattle.std.specs.Prelude.{◌≡◌, refl, Bool, true, false, cond, not, ◌&&◌, ℕ, ◌+◌, ◌-◌, ◌*◌, ◌/◌, ◌^◌, ◌≤◌, ◌<◌, T, leb, ltb}
-use Rattle.std.proofs.Common.{sym, ap, subst, ◌∙◌, inl, inr, le_trans, le_of_eq, le_of_lt, lt_of_le_of_lt, mul_comm, mul-pos, mul-le-mul, mul-div_cancel, arith, leb→le, ltb→lt, nltb→le, lit<, pow_pos, ltb-false}
+use Rattle.std.proofs.Common.{sym, ap, subst, ◌∙◌, inl, inr, le_trans, le_of_eq, le_of_lt, lt_of_le_of_lt, mul_comm, mul-pos, mul-le-mul, mul-div_cancel}
+use Rattle.std.proofs.Common.{arith, leb→le, ltb→lt, nltb→le, lit<, pow_pos, ltb-false}
 use lib.Ieee.{Float, nan, inf, fin, binary32, up, down, round, add, sub, mul, div, neg, lt, fits, is_nan}
 use Rattle.std.specs.Float.Ieee.Fits.{and_l, and_r, down_pos}
 use Rattle.std.specs.Float.Ieee.Scale.{overflow, finite, round_same}

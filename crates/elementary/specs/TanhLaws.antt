@@ -4,7 +4,8 @@
 -- and the clamp makes it 1 or -1. Assumes nothing.
 use Rattle.std.specs.Prelude.{◌≡◌, Bool, false, cond, not, ◌&&◌, ◌||◌, ℤ, ℕ, zero, suc, ◌+◌, ◌-◌, ◌*◌, ◌%◌, ◌^◌, ◌≤◌, ◌<◌, T, ltb, eqb}
 use Rattle.std.proofs.Math.Path.{refl}
-use Rattle.std.proofs.Common.{sym, ap, subst, ◌∙◌, inl, inr, true≢false, le_trans, le_of_eq, le_of_lt, lt_of_lt_of_le, lt_irrefl, zero-mul, one-mul, mul-pos, mul-le-mul_right, eq-or-lt_of_le, arith, leb→le, ltb→lt, nltb→le, eqb→eq, lit≤, pow_pos}
+use Rattle.std.proofs.Common.{sym, ap, subst, ◌∙◌, inl, inr, true≢false, le_trans, le_of_eq, le_of_lt, lt_of_lt_of_le, lt_irrefl, zero-mul, one-mul}
+use Rattle.std.proofs.Common.{mul-pos, mul-le-mul_right, eq-or-lt_of_le, arith, leb→le, ltb→lt, nltb→le, eqb→eq, lit≤, pow_pos}
 use Rattle.std.proofs.Math.Bool.{true}
 use Rattle.std.proofs.Math.Nat.{eq_of_mul-eq-mul_right}
 use Rattle.std.proofs.Math.Dec.{leb, lit<}

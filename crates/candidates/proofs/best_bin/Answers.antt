@@ -1,6 +1,5 @@
 -- Each of the four ways of a turn is the definition's. Assumes nothing.
 use mathlib.Core.Path.{◌≡◌}
-use Prim.Native.Nat.{◌-◌}
 use native.Mathlib.Omega.{arith}
 use borrow.Author.Tests.{le-leb, lt-leb}
 use Rattle.floats.specs.Library.{hist_bins}

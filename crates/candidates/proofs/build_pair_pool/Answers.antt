@@ -1,6 +1,5 @@
 -- Nested loops, each the definition's own; the invariants also bound the count, so that each pair has its place. Assumes nothing.
 use mathlib.Core.Path.{◌≡◌, ap}
-use Prim.Native.Nat.{◌-◌}
 use native.Mathlib.Omega.{arith}
 use Rattle.loops.specs.IterLaws.{iter_zero, range_start, iter_more, range_more}
 use Rattle.candidates.specs.declared.Pool.{Pool}

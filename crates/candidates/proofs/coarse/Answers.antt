@@ -1,6 +1,5 @@
 -- A push for each of the six angles of the grid. Assumes nothing.
 use mathlib.Core.Path.{◌≡◌}
-use Prim.Native.Nat.{◌-◌}
 use native.Mathlib.Omega.{arith}
 use Rattle.loops.specs.IterLaws.{iter_zero, iter_more}
 use Rattle.candidates.specs.Candidates as C

@@ -1,6 +1,5 @@
 -- The loop keeps the two greatest so far. Assumes nothing.
 use mathlib.Core.Path.{◌≡◌}
-use Prim.Native.Nat.{◌-◌}
 use native.Mathlib.Omega.{arith}
 use borrow.Author.Tests.{lt-ltb, le-ltb}
 use Rattle.loops.specs.IterLaws.{range_start, range_more}

@@ -1,8 +1,6 @@
 -- The loop keeps the greatest so far. Assumes nothing.
 use mathlib.Core.Path.{◌≡◌}
-use Prim.Native.Nat.{◌-◌}
 use native.Mathlib.Omega.{arith}
-use Rattle.floats.specs.Rows.{at}
 use Rattle.floats.specs.Library.{hist_bins}
 use Rattle.loops.specs.IterLaws.{iter_zero, iter_more}
 use Rattle.candidates.specs.Candidates as C

@@ -1,6 +1,5 @@
 -- The loop keeps the nearest so far; 1 over 0 is the infinity. Assumes nothing.
 use mathlib.Core.Path.{◌≡◌}
-use Prim.Native.Nat.{◌-◌}
 use native.Mathlib.Omega.{arith}
 use lib.Ieee.{div, of_bits}
 use Rattle.loops.specs.IterLaws.{iter_zero, iter_more}

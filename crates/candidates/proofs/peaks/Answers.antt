@@ -1,7 +1,5 @@
 -- The loop keeps the picks so far, and a pick that is too low ends it by picks-end. Assumes nothing.
 use mathlib.Core.Path.{◌≡◌, sym, ap, ◌∙◌}
-use mathlib.Core.Bool.{false}
-use Prim.Native.Nat.{◌-◌}
 use native.Mathlib.Omega.{arith}
 use lib.ListN.{length}
 use Rattle.loops.specs.IterLaws.{iter_zero}

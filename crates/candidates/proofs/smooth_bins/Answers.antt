@@ -1,6 +1,5 @@
 -- A loop of stores makes the list of its elements. Assumes nothing.
 use mathlib.Core.Path.{◌≡◌}
-use Prim.Native.Nat.{◌-◌}
 use native.Mathlib.Omega.{arith}
 use lib.Ieee.{nan}
 use Rattle.floats.specs.Library.{hist_bins}

@@ -1,6 +1,5 @@
 -- The loop keeps the moments so far. Assumes nothing.
 use mathlib.Core.Path.{◌≡◌}
-use Prim.Native.Nat.{◌-◌}
 use native.Mathlib.Omega.{arith}
 use lib.ListN.{length}
 use Rattle.loops.specs.IterLaws.{iter_zero, iter_more}

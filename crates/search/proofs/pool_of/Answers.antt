@@ -10,6 +10,7 @@ returns c = (
   c.build_pair_pool.ensures.0,
   λ energy xs ys vals l.
       let e = c.precompute_edge_alignments-grad_total.ensures energy xs ys vals l in
-      rw (← ap (λ (z : Alignments). z.out) e, ← ap (λ (z : Alignments). z.total) e, ← c.forced_seed_pair-force_seed.ensures, ← c.forced_histogram_pair-force_hist.ensures)
-      c.build_pair_pool.ensures.1,
+      let seed = c.forced_seed_pair-force_seed.ensures in
+      let hist = c.forced_histogram_pair-force_hist.ensures in
+      rw (← ap (λ (z : Alignments). z.out) e, ← ap (λ (z : Alignments). z.total) e, ← seed, ← hist) c.build_pair_pool.ensures.1,
 )

@@ -1,6 +1,5 @@
 -- The loop keeps the leaders so far, and the cache holds what its marks say. Assumes nothing.
 use mathlib.Core.Path.{◌≡◌}
-use Prim.Native.Nat.{◌-◌}
 use native.Mathlib.Omega.{arith}
 use lib.Seq.{get_or-take}
 use Rattle.loops.specs.IterLaws.{iter_zero, iter_more}

@@ -1,8 +1,6 @@
 -- The loop keeps the leaders so far; each width adds as many trials as there are pairs. Assumes nothing.
 use mathlib.Core.Path.{◌≡◌}
-use Prim.Native.Nat.{◌-◌}
 use native.Mathlib.Omega.{arith}
-use Rattle.floats.specs.Rows.{at}
 use Rattle.loops.specs.Loops.{iter}
 use Rattle.loops.specs.IterLaws.{iter_zero, iter_more}
 use Rattle.search.specs.Search as S

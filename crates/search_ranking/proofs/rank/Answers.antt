@@ -1,6 +1,5 @@
 -- What is done of a pair's way down and what is left of it make the whole, and the first 24 of the first 24 are the first 24 of all. Assumes nothing.
 use mathlib.Core.Path.{◌≡◌, ◌∙◌, sym}
-use Prim.Native.Nat.{◌-◌}
 use native.Mathlib.Omega.{arith}
 use Rattle.search_ranking.specs.SinkLaws.{sinks_swap, sinks_stay, ranks_none, ranks_more, ranks_full, ranks_all}
 use borrow.Author.Rules.{rules}

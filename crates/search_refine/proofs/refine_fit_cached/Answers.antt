@@ -1,6 +1,5 @@
 -- 24 turns from empty slots, each the definition's; the weights are as many as the pixels. Assumes nothing.
 use mathlib.Core.Path.{◌≡◌, ◌∙◌}
-use Prim.Native.Nat.{◌-◌}
 use native.Mathlib.Omega.{arith}
 use Rattle.loops.specs.IterLaws.{iter_zero, iter_more}
 use Rattle.search_rows.specs.RowsLaws.{kept_none}

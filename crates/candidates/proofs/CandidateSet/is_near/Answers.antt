@@ -1,7 +1,5 @@
 -- A search: nothing near among those passed, and the early return cites near-found. Assumes nothing.
 use mathlib.Core.Path.{◌≡◌}
-use mathlib.Core.Bool.{false}
-use Prim.Native.Nat.{◌-◌}
 use native.Mathlib.Omega.{arith}
 use Rattle.loops.specs.IterLaws.{iter_zero}
 use Rattle.candidates.specs.Candidates as C
