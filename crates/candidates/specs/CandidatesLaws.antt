@@ -11,7 +11,7 @@ use Rattle.floats.specs.Library.{hist_bins}
 use Rattle.data.specs.Data.{DiskData}
 use Rattle.geometry.specs.Geometry.{wrap_pi, line_delta}
 use Rattle.loops.specs.Loops.{iter}
-use Rattle.loops.specs.IterLaws.{iter_zero, iter_next, iter_stuck}
+use Rattle.loops.proofs.IterLaws.{iter_zero, iter_next, iter_stuck}
 use Rattle.candidates.specs.declared.CandidateSet.{CandidateSet}
 use Rattle.candidates.specs.declared.Nearby.{Nearby}
 use Rattle.candidates.specs.Candidates.{max_candidates, max_paired, max_pairs, near_at, is_near, appended, push_unique}

@@ -18,8 +18,8 @@ use Rattle.floats.specs.Rows.{at, count}
 use Rattle.floats.specs.NarrowLaws.{narrow_fits}
 use Rattle.solver_errors.specs.StdErrors.{axis_std_errors}
 use Rattle.solver_errors.specs.Known.{KnownErrors, residual_var, Estimated}
-use Rattle.solver_errors.specs.StdErrorsLaws.{known_only, known_if}
-use Rattle.solver_errors.specs.CappedLaws.{known_estimated}
+use Rattle.solver_errors.proofs.StdErrorsLaws.{known_only, known_if}
+use Rattle.solver_errors.proofs.CappedLaws.{known_estimated}
 use Rattle.solver_errors.specs.declared.Standing.{Standing}
 use Rattle.solver_record.specs.Fit.{axes_of}
 use Rattle.solver_record.specs.Record.{without_mean}
@@ -30,11 +30,11 @@ use Rattle.seed_models.specs.HeldLaws.{TablesHeld}
 use Rattle.robust_choice.specs.Choice.{Source, of_pass, of_seed}
 use Rattle.robust.specs.Robust.{mean_of, variance_of, ring, fit_ring, ring_sum}
 use Rattle.robust.specs.Record.{record_ring}
-use Rattle.robust.specs.RecordLaws.{ring_rust, ring_dropped, OwnPass, ring_own}
-use Rattle.robust.specs.KnownLaws.{StandsOn, ring_stands}
-use Rattle.robust.specs.SoundLaws.{SoundRing, ring_sound}
+use Rattle.robust.proofs.RecordLaws.{ring_rust, ring_dropped, OwnPass, ring_own}
+use Rattle.robust.proofs.KnownLaws.{StandsOn, ring_stands}
+use Rattle.robust.proofs.SoundLaws.{SoundRing, ring_sound}
 use Rattle.robust.specs.Residual.{MadeOf, half, Share}
-use Rattle.robust.specs.ResidualLaws.{ring_made, ring_tiny, finite_mean, ring_sum_upright, share_16, share_24}
+use Rattle.robust.proofs.ResidualLaws.{ring_made, ring_tiny, finite_mean, ring_sum_upright, share_16, share_24}
 use Rattle.robust_choice.specs.declared.RingFit.{RingFit}
 use Rattle.score.specs.Score.{fit_std_errors, error_matrix, error_sum, fit_standing, widths_px}
 use Rattle.score.specs.ScoreLaws.{SoundFit, errors_sound, error_sum_upright}

@@ -1,7 +1,7 @@
 -- A row that was lent out of a buffer comes back in its place, and the other rows are as they were. Assumes nothing.
 use Rattle.std.specs.Prelude.{◌≡◌, Bool, true, false, not, ◌++◌, ℕ, ◌+◌, ◌*◌, ◌<◌, ◌≤◌, T, ltb, length, take, drop}
 use Rattle.std.proofs.Common.{arith, ltb→lt, nltb→le}
-use Rattle.loops.specs.TabLaws.{part_kept, part_same, part_after}
+use Rattle.loops.proofs.TabLaws.{part_kept, part_same, part_after}
 use Rattle.floats.specs.Rows.{Row}
 use Rattle.data.specs.Data.{max_tanh_pixels, row_of}
 

@@ -152,10 +152,10 @@ power_in (suc x) h =
     room x h = omega arith
 
 -- from R to R + 255 the format holds whole numbers only, and the low byte of the pattern is what lies above R
-pub byte_of : (lo hi : ℕ) (u : Float) (c : ℕ) → T (fits binary32 u) → Val binary32 u false c → 12582912 ≤ lo → hi ≤ 12583167 → lo * 2 ^ 149 ≤ c →
+pub byte_of_lem : (lo hi : ℕ) (u : Float) (c : ℕ) → T (fits binary32 u) → Val binary32 u false c → 12582912 ≤ lo → hi ≤ 12583167 → lo * 2 ^ 149 ≤ c →
     c ≤ hi * 2 ^ 149
     → (lo - 12582912 ≤ to_bits binary32 u % 256) × (to_bits binary32 u % 256 ≤ hi - 12582912)
-byte_of lo hi u c p v a b g h =
+byte_of_lem lo hi u c p v a b g h =
     let r = rep_step binary32 149 c (rep_of binary32 u false c p v) (le_trans (mul-le-mul_right (2 ^ 149) (big lo a)) g) in
     let m = r.0 in
     let l : lo ≤ m = le_of_mul-le-mul_right (le_trans g (le_of_eq r.1)) (pow_pos 149) in
@@ -192,7 +192,7 @@ big_m_val = (refl, refl)
 
 scale_in : {u : Float} → T (fits binary32 u) → Near big_m_units reach u → Within binary32 (2 ^ 276) (scale u)
 unfolding scale
-scale_in {u} p h = power_in (to_bits binary32 u % 256) (byte_of 12582912 12583166 u h.count p h.val (lit≤ tt) (lit≤ tt) h.low h.high).1
+scale_in {u} p h = power_in (to_bits binary32 u % 256) (byte_of_lem 12582912 12583166 u h.count p h.val (lit≤ tt) (lit≤ tt) h.low h.high).1
 
 exp_rest_in : {h l : Float} → Within binary32 (2 ^ 157) h → Within binary32 (2 ^ 156) l → Within binary32 (2 ^ 210) (exp_rest h l)
 unfolding exp_rest lib.Ieee.size of_bits fits

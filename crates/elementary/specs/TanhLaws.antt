@@ -25,7 +25,7 @@ use Rattle.elementary.specs.SelectLaws.{clamped_inside, clamped_number, clamped_
 use Rattle.floats.specs.SquareSumLaws.{round_number}
 use Rattle.floats.specs.WithinLaws.{Within, within_finite, sum_rounded}
 use Rattle.elementary.specs.SizeLaws.{L, add_in, sub_in, mul_in, constant, units_of, Near, off, tests_in}
-use Rattle.elementary.specs.NumberLaws.{unit_number, byte_of, big_m_units, big_m_val}
+use Rattle.elementary.specs.NumberLaws.{unit_number, byte_of_lem, big_m_units, big_m_val}
 
 -- ---- steps that may have an infinity in them
 sum_number : (s : Bool) (a : ℕ) (t : Bool) (b c : ℕ) → T (not (is_nan (sum binary32 s a t b c)))
@@ -389,7 +389,7 @@ module _ (x : Float) (p : T (fits binary32 x)) (n : T (not (is_nan x))) where
   l_good : T (good l)
   unfolding scale
   l_good =
-      let b = byte_of 12583016 12583062 v hv.count v_fits hv.val (lit≤ tt) (lit≤ tt) hv.low hv.high in
+      let b = byte_of_lem 12583016 12583062 v hv.count v_fits hv.val (lit≤ tt) (lit≤ tt) hv.low hv.high in
       good_at (to_bits binary32 v % 256) b.0 b.1
 
   pub tanh_number : T (not (is_nan (tanh x)))

@@ -1,7 +1,7 @@
 -- A disk's values, read in one run, are its five runs: a part of a list of elements is the list of those elements. Assumes nothing.
 use Rattle.std.specs.Prelude.{◌≡◌, List, ℕ, ◌+◌, ◌-◌, ◌*◌, ◌≤◌, length, take, drop, Float}
 use Rattle.std.proofs.Common.{ap, ◌∙◌, arith}
-use Rattle.loops.specs.TabLaws.{tab_length, tab_same, drop_tab, take_tab}
+use Rattle.loops.proofs.TabLaws.{tab_length, tab_same, drop_tab, take_tab}
 use Rattle.hexadecimal.specs.Hex.{value_of, values_of}
 use Rattle.data.specs.Data.{DiskData, disk_of}
 use Rattle.frames.specs.Frames.{disk_of_line}

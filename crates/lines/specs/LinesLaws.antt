@@ -4,7 +4,7 @@ use Rattle.std.proofs.Common.{◌∙◌, length-drop, get_or-set_other, get_or-d
 use Prim.Native.Nat.{ℕ, zero, suc, ◌+◌, ◌-◌, ◌≤◌, ◌<◌}
 use native.Mathlib.Omega.{arith}
 use Rattle.loops.specs.Loops.{iter, tab}
-use Rattle.loops.specs.TabLaws.{tab_length, stored}
+use Rattle.loops.proofs.TabLaws.{tab_length, stored}
 use Rattle.lines.specs.Lines.{end_from}
 
 module _ (l : List ℕ) (n i : ℕ) (h : i < n) where

@@ -1,3 +1,1 @@
 pub mod Loops
-pub mod IterLaws
-pub mod TabLaws

@@ -1,9 +1,4 @@
 pub mod Robust
 pub mod Record
 pub mod Parts
-pub mod RobustLaws
-pub mod SoundLaws
-pub mod RecordLaws
 pub mod Residual
-pub mod ResidualLaws
-pub mod KnownLaws

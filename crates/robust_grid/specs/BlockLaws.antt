@@ -11,7 +11,7 @@ use Rattle.std.proofs.Math.Dec.{leb, eqb-suc-zero}
 use Rattle.std.specs.Float.Ieee.{le}
 use Rattle.floats.specs.Rows.{Row, at, count}
 use Rattle.loops.specs.Loops.{iter}
-use Rattle.loops.specs.IterLaws.{iter_same, iter_idle}
+use Rattle.loops.proofs.IterLaws.{iter_same, iter_idle}
 use Rattle.seed.specs.Seed.{scored}
 use Rattle.seed.specs.declared.Seed.{Seed}
 use Rattle.robust_lanes.specs.declared.Models.{Models}

@@ -9,8 +9,8 @@ use Rattle.std.specs.Float.Ieee.{nan}
 use Rattle.floats.specs.Rows.{Row, at}
 use Rattle.elementary.specs.Elementary.{sin_cos}
 use Rattle.elementary.specs.declared.SinCos.{SinCos}
-use Rattle.loops.specs.IterLaws.{iter_same, range_same}
-use Rattle.loops.specs.TabLaws.{tab_length, tab_at, tab_same, part_kept, part_same}
+use Rattle.loops.proofs.IterLaws.{iter_same, range_same}
+use Rattle.loops.proofs.TabLaws.{tab_length, tab_at, tab_same, part_kept, part_same}
 use Rattle.seed.specs.Seed.{zeros, pair_sums, score_seed_pair}
 use Rattle.seed.specs.declared.Seed.{Seed}
 use Rattle.seed.specs.declared.Seed.TheVariants.{Nothing}

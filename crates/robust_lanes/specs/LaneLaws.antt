@@ -5,7 +5,7 @@ use native.Mathlib.Omega.{arith}
 use Rattle.std.specs.Float.Ieee.{of_int, of_bits, round}
 use Rattle.floats.specs.Ops.{lit, nought}
 use Rattle.floats.specs.Rows.{Row, at, count}
-use Rattle.loops.specs.IterLaws.{iter_zero, iter_next}
+use Rattle.loops.proofs.IterLaws.{iter_zero, iter_next}
 use Rattle.seed.specs.Seed.{summed_by}
 use Rattle.robust_lanes.specs.declared.Lanes.{Lanes}
 use Rattle.robust_lanes.specs.Lanes.{grid_places, sums_at, four, lane_sums, lanes_added}

@@ -12,13 +12,13 @@ use Rattle.floats.specs.SquareSumLaws.{Upright}
 use Rattle.floats.specs.UprightLaws.{narrow_upright, max_upright}
 use Rattle.geometry.specs.Geometry.{valid_pair}
 use Rattle.solver_axes.specs.Canonical.{CanonicalRange}
-use Rattle.solver_axes.specs.CanonicalLaws.{canonical_range}
-use Rattle.solver_errors.specs.StdErrorsLaws.{Bounded, errors_bounded}
+use Rattle.solver_axes.proofs.CanonicalLaws.{canonical_range}
+use Rattle.solver_errors.proofs.StdErrorsLaws.{Bounded, errors_bounded}
 use Rattle.floats.specs.Rows.{Row, at, count}
 use Rattle.data.specs.Data.{DiskData}
 use Rattle.candidates.specs.declared.CandidateSet.{CandidateSet}
 use Rattle.score_edges.specs.Edges.{edge_weight_total, ranked_sum}
-use Rattle.loops.specs.TabLaws.{Stores}
+use Rattle.loops.proofs.TabLaws.{Stores}
 use Rattle.score.specs.declared.Fit.{Fit}
 use Rattle.score.specs.declared.Scored.{Scored}
 use Rattle.score.specs.declared.Scored.TheVariants.{Found, Nothing}

@@ -10,8 +10,8 @@ use Rattle.floats.specs.RankLaws.{Sized}
 use Rattle.floats.specs.NarrowOrderLaws.{G, fraction_sized}
 use Rattle.elementary.specs.Elementary.{exp, exp_neg}
 use Rattle.loops.specs.Loops.{iter, tab}
-use Rattle.loops.specs.IterLaws.{iter_same, pick_false}
-use Rattle.loops.specs.TabLaws.{tab_length, tab_at, tab_same}
+use Rattle.loops.proofs.IterLaws.{iter_same, pick_false}
+use Rattle.loops.proofs.TabLaws.{tab_length, tab_at, tab_same}
 use Rattle.floats.specs.Rows.{Row, at}
 use Rattle.score_edges.specs.Edges.{sigma, inv2_sigma2, ordered_sum}
 use Rattle.score_edges.specs.NearLaws.{AllNear, near_term, far_term, near_terms, near_delta_lem}

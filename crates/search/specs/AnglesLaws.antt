@@ -9,7 +9,7 @@ use Rattle.floats.specs.Ops.{◌⊕◌, lit, nought, pi}
 use Rattle.floats.specs.Rows.{Row, at, count}
 use Rattle.floats.specs.Library.{rem_euclid, to_radians, hist_bins}
 use Rattle.geometry.specs.Geometry.{wrap_pi}
-use Rattle.loops.specs.IterLaws.{iter_keeps}
+use Rattle.loops.proofs.IterLaws.{iter_keeps}
 use Rattle.data.specs.Data.{DiskData}
 use Rattle.candidates.specs.Candidates.{max_candidates, new_set, is_near, appended, push_unique, Picking, best_bin, bin_angle, too_low, degrees4, degree1}
 use Rattle.candidates.specs.Candidates.{picked, picking_over, pick, unpicked, max_picks, peaks, greatest, histogram_peaks}

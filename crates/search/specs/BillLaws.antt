@@ -10,7 +10,7 @@ use native.Mathlib.Omega.{arith}
 use Rattle.floats.specs.Rows.{Row, at}
 use Rattle.geometry.specs.Geometry.{valid_pair}
 use Rattle.loops.specs.Loops.{iter, range}
-use Rattle.loops.specs.IterLaws.{range_start, iter_through}
+use Rattle.loops.proofs.IterLaws.{range_start, iter_through}
 use Rattle.data.specs.Data.{DiskData}
 use Rattle.candidates.specs.Candidates.{no_pairs, pooled_pair, pooled_from, pooled, pair_score, build_pair_pool}
 use Rattle.candidates.specs.declared.CandidateSet.{CandidateSet}

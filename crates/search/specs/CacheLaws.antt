@@ -5,7 +5,7 @@ use Rattle.std.proofs.Math.Bool.{true}
 use Rattle.std.proofs.Math.ListN.{length, length-set}
 use Rattle.std.specs.Float.Ieee.Fits.{eq→eqb}
 use Rattle.floats.specs.Rows.{Row, at}
-use Rattle.loops.specs.TabLaws.{tab_length, part_length}
+use Rattle.loops.proofs.TabLaws.{tab_length, part_length}
 use Rattle.data.specs.Data.{DiskData, disk_of, max_tanh_pixels, row_of}
 use Rattle.data.specs.RowLaws.{lent, wrote}
 use Rattle.candidates.specs.Candidates.{max_paired}

@@ -9,7 +9,7 @@ use Rattle.std.specs.Float.{binary32}
 use Rattle.std.specs.Float.Ieee.{fits}
 use Rattle.std.specs.Float.Ieee.Fits.{add-fits}
 use Rattle.floats.specs.Rows.{Row, at}
-use Rattle.loops.specs.IterLaws.{iter_keeps, iter_keeps_below}
+use Rattle.loops.proofs.IterLaws.{iter_keeps, iter_keeps_below}
 use Rattle.data.specs.Data.{DiskData}
 use Rattle.search_ranking.specs.Ranking.{blank}
 use Rattle.score.specs.Score.{widths_px, score_pair_cached, fit_is_better}

@@ -17,7 +17,7 @@ use Rattle.candidates.specs.declared.Forced.{Forced}
 use Rattle.candidates.specs.declared.PairScore.{PairScore}
 use Rattle.candidates.specs.declared.Pool.{Pool}
 use Rattle.loops.specs.Loops.{iter}
-use Rattle.loops.specs.IterLaws.{iter_next}
+use Rattle.loops.proofs.IterLaws.{iter_next}
 use Rattle.search_ranking.specs.Ranking.{keys_before, is_before, insert_ranked, blank, sorted}
 use Rattle.search_ranking.specs.PoolLaws.{Distinct, pool_few, pool_distinct}
 

@@ -9,7 +9,7 @@ use Rattle.std.proofs.Math.Seq.{slice, slice-cons, slice_empty}
 use Rattle.candidates.specs.Candidates.{no_pair}
 use Rattle.candidates.specs.declared.PairScore.{PairScore}
 use Rattle.candidates.specs.declared.Pool.{Pool}
-use Rattle.loops.specs.IterLaws.{iter_zero}
+use Rattle.loops.proofs.IterLaws.{iter_zero}
 use Rattle.search_ranking.specs.declared.Ranked.{Ranked}
 use Rattle.search_ranking.specs.Ranking.{max_top_pairs, is_before, insert_ranked, blank, sorted, ranked, rank}
 use Rattle.search_ranking.specs.RankingLaws.{insert_before, insert_after, take_insert, sorted_next, sorted_length}

@@ -4,7 +4,7 @@ use Rattle.std.proofs.Math.Bool.{true, false}
 use mathlib.Core.List.{List, [], ◌∷◌}
 use Rattle.floats.specs.Rows.{Row, at}
 use Rattle.geometry.specs.Geometry.{valid_pair}
-use Rattle.loops.specs.IterLaws.{iter_keeps, iter_keeps_below, range_keeps_below}
+use Rattle.loops.proofs.IterLaws.{iter_keeps, iter_keeps_below, range_keeps_below}
 use Rattle.candidates.specs.Candidates.{max_pairs, no_pair, no_pairs, pair_score, pooled, pooled_pair, pooled_from, build_pair_pool}
 use Rattle.candidates.specs.declared.CandidateSet.{CandidateSet}
 use Rattle.candidates.specs.declared.Forced.{Forced}

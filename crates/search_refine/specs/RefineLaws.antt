@@ -9,8 +9,8 @@ use Rattle.std.specs.Float.Ieee.Bits.{is_true}
 use Rattle.floats.specs.Ops.{◌⊕◌, lit, nought}
 use Rattle.floats.specs.Library.{to_radians}
 use Rattle.loops.specs.Loops.{iter, tab}
-use Rattle.loops.specs.IterLaws.{pick_true}
-use Rattle.loops.specs.TabLaws.{tab_at, tab_length}
+use Rattle.loops.proofs.IterLaws.{pick_true}
+use Rattle.loops.proofs.TabLaws.{tab_at, tab_length}
 use Rattle.floats.specs.Rows.{Row, at}
 use Rattle.data.specs.Data.{DiskData, disk_of, max_tanh_pixels}
 use Rattle.score_edges.specs.Edges.{edge_weight_total}

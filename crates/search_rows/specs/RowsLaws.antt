@@ -14,7 +14,7 @@ use Rattle.floats.specs.RoundingLaws.{counted}
 use Rattle.floats.specs.FiniteLaws.{of_true}
 use Rattle.floats.specs.RemLaws.{nought_val}
 use Rattle.remainders.specs.RemainderLaws.{same_val}
-use Rattle.loops.specs.TabLaws.{Stores, tab_length, tab_at, tab_same, part_length, stores_all}
+use Rattle.loops.proofs.TabLaws.{Stores, tab_length, tab_at, tab_same, part_length, stores_all}
 use Rattle.floats.specs.Rows.{Row, at}
 use Rattle.data.specs.Data.{disk_of, max_tanh_pixels, row_of}
 use Rattle.data.specs.RowLaws.{lent, Wrote, wrote}

@@ -8,8 +8,8 @@ use Rattle.floats.specs.Rows.{Row, at}
 use Rattle.elementary.specs.Elementary.{sin_cos, sin_cos_near, turn}
 use Rattle.elementary.specs.declared.SinCos.{SinCos}
 use Rattle.loops.specs.Loops.{tab}
-use Rattle.loops.specs.IterLaws.{iter_same}
-use Rattle.loops.specs.TabLaws.{tab_at, tab_length, tab_same}
+use Rattle.loops.proofs.IterLaws.{iter_same}
+use Rattle.loops.proofs.TabLaws.{tab_at, tab_length, tab_same}
 use Rattle.seed.specs.declared.Waves.{Waves}
 use Rattle.seed.specs.Seed.{waved_by, waves}
 use Rattle.solver.specs.Buffers.{RingNear, Sines}

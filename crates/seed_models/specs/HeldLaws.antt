@@ -9,7 +9,7 @@ use Rattle.std.specs.Float.Ieee.Fits.{mul-fits}
 use Rattle.floats.specs.Rows.{Row, count}
 use Rattle.floats.specs.Library.{to_radians}
 use Rattle.loops.specs.Loops.{tab}
-use Rattle.loops.specs.IterLaws.{iter_keeps}
+use Rattle.loops.proofs.IterLaws.{iter_keeps}
 use Rattle.seed.specs.Seed.{flat, robust_grid_step_deg}
 use Rattle.robust_grid.specs.Places.{last_of, block_pair, blocks}
 use Rattle.robust_grid.specs.declared.Pair.{Pair}

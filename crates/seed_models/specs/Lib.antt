@@ -1,6 +1,5 @@
 pub mod Models
 pub mod Words
 pub mod Parts
-pub mod ModelLaws
 pub mod WordLaws
 pub mod HeldLaws

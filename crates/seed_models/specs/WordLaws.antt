@@ -16,8 +16,8 @@ use Rattle.std.proofs.lemmas.List.{take-append-le}
 use Rattle.floats.specs.Ops.{◌⊖◌, ◌⊘◌, nought}
 use Rattle.floats.specs.Rows.{Row, at, count}
 use Rattle.loops.specs.Loops.{iter, tab}
-use Rattle.loops.specs.IterLaws.{iter_zero, iter_same, iter_keeps}
-use Rattle.loops.specs.TabLaws.{tab_length, tab_at, tab_same, tab_self, part_kept, part_same, part_length, parts_length, part_of, parts_more}
+use Rattle.loops.proofs.IterLaws.{iter_zero, iter_same, iter_keeps}
+use Rattle.loops.proofs.TabLaws.{tab_length, tab_at, tab_same, tab_self, part_kept, part_same, part_length, parts_length, part_of, parts_more}
 use Rattle.solver.specs.Solver.{sines, cosines}
 use Rattle.solver.specs.Buffers.{Prepared}
 use Rattle.robust_lanes.specs.Lanes.{grid_places}

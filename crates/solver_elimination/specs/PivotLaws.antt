@@ -19,7 +19,7 @@ use Rattle.floats.specs.RankLaws.{rank_of, rank_lt, not_lt→rank, lt_no_nan}
 use Rattle.floats.specs.RootOrderLaws.{nan_none}
 use Rattle.floats.specs.WithinLaws.{Within}
 use Rattle.loops.specs.Loops.{range}
-use Rattle.loops.specs.IterLaws.{range_start, range_next}
+use Rattle.loops.proofs.IterLaws.{range_start, range_next}
 use Rattle.solver_elimination.specs.Solve as S
 use Rattle.solver_elimination.specs.Solve.{Matrix, entry}
 

@@ -6,9 +6,9 @@ use Rattle.std.specs.Float.Ieee.{eq}
 use mathlib.Core.List.{zip_with}
 use Rattle.floats.specs.Ops.{◌⊖◌, ◌⊗◌, nought}
 use Rattle.floats.specs.Rows.{Row, at}
-use Rattle.loops.specs.TabLaws.{tab_self}
+use Rattle.loops.proofs.TabLaws.{tab_self}
 use Rattle.loops.specs.Loops.{iter, tab}
-use Rattle.loops.specs.IterLaws.{iter_next, iter_stuck}
+use Rattle.loops.proofs.IterLaws.{iter_next, iter_stuck}
 use Rattle.solver_elimination.specs.Solve.{Matrix, Elim, gone, going, column, stopped, columned, reduced}
 
 pub reduced_by :

@@ -6,10 +6,10 @@ use Rattle.std.specs.Float.{binary32}
 use Rattle.floats.specs.Ops.{nought, pi, tau}
 use Rattle.solver_elimination.specs.Solve.{Matrix}
 use Rattle.solver_errors.specs.StdErrors.{axis_std_errors}
-use Rattle.solver_errors.specs.StdErrorsLaws.{Bounded, errors_bounded}
+use Rattle.solver_errors.proofs.StdErrorsLaws.{Bounded, errors_bounded}
 use Rattle.solver_errors.specs.declared.Errors.{Errors}
 use Rattle.solver_axes.specs.Canonical.{canonicalize_tracking_swap, CanonicalRange}
-use Rattle.solver_axes.specs.CanonicalLaws.{canonical_range}
+use Rattle.solver_axes.proofs.CanonicalLaws.{canonical_range}
 use Rattle.solver_axes.specs.declared.Axes.{Axes}
 use Rattle.solver_record.specs.declared.Params.{Params}
 use Rattle.solver_record.specs.Fit.{RustFit, degenerate_fit, assembled, finished, axes_of}

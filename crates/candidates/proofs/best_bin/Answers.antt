@@ -3,7 +3,7 @@ use mathlib.Core.Path.{◌≡◌}
 use native.Mathlib.Omega.{arith}
 use borrow.Author.Tests.{le-leb, lt-leb}
 use Rattle.floats.specs.Library.{hist_bins}
-use Rattle.loops.specs.IterLaws.{iter_zero, iter_more}
+use Rattle.loops.proofs.IterLaws.{iter_zero, iter_more}
 use Rattle.candidates.specs.Candidates as C
 use borrow.Author.Rules.{rules}
 use Rattle.candidates.proofs.best_bin.Goals as goal

@@ -1,7 +1,7 @@
 -- Nested loops, each the definition's own; the invariants also bound the count, so that each pair has its place. Assumes nothing.
 use mathlib.Core.Path.{◌≡◌, ap}
 use native.Mathlib.Omega.{arith}
-use Rattle.loops.specs.IterLaws.{iter_zero, range_start, iter_more, range_more}
+use Rattle.loops.proofs.IterLaws.{iter_zero, range_start, iter_more, range_more}
 use Rattle.candidates.specs.declared.Pool.{Pool}
 use Rattle.candidates.specs.Candidates as C
 use Rattle.candidates.specs.CandidatesLaws.{rows_zero, rows_next, row_room}

@@ -2,7 +2,7 @@
 use mathlib.Core.Path.{◌≡◌}
 use native.Mathlib.Omega.{arith}
 use borrow.Author.Tests.{lt-ltb, le-ltb}
-use Rattle.loops.specs.IterLaws.{range_start, range_more}
+use Rattle.loops.proofs.IterLaws.{range_start, range_more}
 use Rattle.candidates.specs.Candidates as C
 use borrow.Author.Rules.{rules}
 use Rattle.candidates.proofs.forced_histogram_pair.Goals as goal

@@ -2,7 +2,7 @@
 use mathlib.Core.Path.{◌≡◌}
 use native.Mathlib.Omega.{arith}
 use Rattle.floats.specs.Library.{hist_bins}
-use Rattle.loops.specs.IterLaws.{iter_zero, iter_more}
+use Rattle.loops.proofs.IterLaws.{iter_zero, iter_more}
 use Rattle.candidates.specs.Candidates as C
 use borrow.Author.Rules.{rules}
 use Rattle.candidates.proofs.greatest.Goals as goal

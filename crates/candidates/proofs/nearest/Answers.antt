@@ -2,7 +2,7 @@
 use mathlib.Core.Path.{◌≡◌}
 use native.Mathlib.Omega.{arith}
 use lib.Ieee.{div, of_bits}
-use Rattle.loops.specs.IterLaws.{iter_zero, iter_more}
+use Rattle.loops.proofs.IterLaws.{iter_zero, iter_more}
 use Rattle.candidates.specs.Candidates as C
 use Rattle.candidates.specs.CandidatesLaws.{nearer_place}
 use borrow.Author.Rules.{rules}

@@ -2,7 +2,7 @@
 use mathlib.Core.Path.{◌≡◌, sym, ap, ◌∙◌}
 use native.Mathlib.Omega.{arith}
 use lib.ListN.{length}
-use Rattle.loops.specs.IterLaws.{iter_zero}
+use Rattle.loops.proofs.IterLaws.{iter_zero}
 use Rattle.candidates.specs.Candidates as C
 use Rattle.candidates.specs.CandidatesLaws.{high_bin, picks_next, picks_end}
 use borrow.Author.Rules.{rules}

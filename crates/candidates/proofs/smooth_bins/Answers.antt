@@ -3,7 +3,7 @@ use mathlib.Core.Path.{◌≡◌}
 use native.Mathlib.Omega.{arith}
 use lib.Ieee.{nan}
 use Rattle.floats.specs.Library.{hist_bins}
-use Rattle.loops.specs.TabLaws.{stores_none, stores_next, stores_all}
+use Rattle.loops.proofs.TabLaws.{stores_none, stores_next, stores_all}
 use Rattle.candidates.specs.Candidates as C
 use borrow.Author.Rules.{rules}
 use Rattle.candidates.proofs.smooth_bins.Goals as goal

@@ -1,7 +1,7 @@
 -- A loop of stores makes the list of its elements. Assumes nothing.
 use Prim.Native.Nat.{◌≤◌, ◌-◌}
 use Rattle.floats.specs.Library.{hist_bins}
-use Rattle.loops.specs.TabLaws.{Stores}
+use Rattle.loops.proofs.TabLaws.{Stores}
 use Rattle.candidates.specs.Candidates as C
 use Rattle.candidates.proofs.smooth_bins.Given as goal
 

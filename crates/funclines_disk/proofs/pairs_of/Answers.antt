@@ -1,5 +1,4 @@
 -- Every pair has its place; a store keeps the number of places. Assumes nothing.
-use Prim.Native.Nat.{◌-◌}
 use lib.ListN.{length-set}
 use borrow.Author.Rules.{rules}
 use Rattle.funclines_disk.proofs.pairs_of.Goals as goal

@@ -3,7 +3,7 @@ use mathlib.Core.Path.{◌≡◌}
 use native.Mathlib.Omega.{arith}
 use lib.ListN.{length}
 use Rattle.hexadecimal.specs.Hex.{all_hex}
-use Rattle.loops.specs.IterLaws.{iter_zero, iter_next}
+use Rattle.loops.proofs.IterLaws.{iter_zero, iter_next}
 use borrow.Author.Rules.{rules}
 use Rattle.hexadecimal.proofs.all_hex.Goals as goal
 

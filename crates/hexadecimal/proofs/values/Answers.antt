@@ -4,8 +4,8 @@ use native.Mathlib.Omega.{arith}
 use lib.Ieee.{nan}
 use lib.ListN.{length, length-set}
 use Rattle.hexadecimal.specs.Hex.{values_of}
-use Rattle.loops.specs.TabLaws.{stored_all}
-use Rattle.loops.specs.IterLaws.{iter_zero, iter_next}
+use Rattle.loops.proofs.TabLaws.{stored_all}
+use Rattle.loops.proofs.IterLaws.{iter_zero, iter_next}
 use borrow.Author.Rules.{rules}
 use Rattle.hexadecimal.proofs.values.Goals as goal
 

@@ -3,8 +3,8 @@ use mathlib.Core.Path.{◌≡◌, ◌∙◌}
 use native.Mathlib.Omega.{arith}
 use lib.ListN.{length, length-set}
 use Rattle.hexadecimal.specs.Hex.{word_list_of}
-use Rattle.loops.specs.TabLaws.{stored_all}
-use Rattle.loops.specs.IterLaws.{iter_zero, iter_next}
+use Rattle.loops.proofs.TabLaws.{stored_all}
+use Rattle.loops.proofs.IterLaws.{iter_zero, iter_next}
 use borrow.Author.Rules.{rules}
 use Rattle.hexadecimal.proofs.words.Goals as goal
 

@@ -4,7 +4,7 @@ use Prim.Native.Nat.{◌+◌, ◌-◌}
 use native.Mathlib.Omega.{arith}
 use lib.ListN.{take, get_or, length-set}
 use Rattle.lines.specs.LinesLaws.{untouched, moved_front}
-use Rattle.loops.specs.IterLaws.{iter_zero, iter_next}
+use Rattle.loops.proofs.IterLaws.{iter_zero, iter_next}
 use borrow.Author.Rules.{rules}
 use Rattle.lines.proofs.keep.Goals as goal
 

@@ -2,12 +2,12 @@
 use mathlib.Core.Path.{ap, ◌∙◌}
 use Prim.Native.Nat.{ℕ}
 use lib.ListN.{length}
-use Rattle.loops.specs.TabLaws.{tab_length}
+use Rattle.loops.proofs.TabLaws.{tab_length}
 use Rattle.robust_choice.specs.Parts.{second_of}
 use Rattle.robust_choice.specs.declared.Second.{Second}
 use Rattle.robust.specs.Robust as R
 use Rattle.robust.specs.Parts as P
-use Rattle.robust.specs.RobustLaws.{none_centered, sum_centered, grid_missing, grid_made}
+use Rattle.robust.proofs.RobustLaws.{none_centered, sum_centered, grid_missing, grid_made}
 use borrow.Author.Rules.{rules}
 use Rattle.robust.proofs.cached_fit.Goals as goal
 

@@ -3,7 +3,7 @@ use Prim.Native.Nat.{◌≤◌, ◌-◌}
 use lib.ListN.{get_or}
 use lib.Ieee.{nan}
 use Rattle.floats.specs.Ops.{◌⊖◌}
-use Rattle.loops.specs.TabLaws.{Stores}
+use Rattle.loops.proofs.TabLaws.{Stores}
 use Rattle.robust.proofs.center.Given as goal
 
 abbrev pub invariant-loop-i : goal.invariant-loop-i

@@ -1,7 +1,7 @@
 -- Two tests leave the grid; behind them the centred samples and their sum are there. Assumes nothing.
 use Prim.Native.Nat.{◌-◌}
 use lib.ListN.{length, drop}
-use Rattle.robust.specs.RobustLaws.{centered_part, low_none, flat_none, some_grid, sum_is}
+use Rattle.robust.proofs.RobustLaws.{centered_part, low_none, flat_none, some_grid, sum_is}
 use Rattle.robust.proofs.centered_sum.Goals as goal
 
 pub returns-then-centered_var : goal.returns-then-centered_var

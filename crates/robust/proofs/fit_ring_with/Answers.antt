@@ -1,7 +1,7 @@
 -- The first start is answered alone, or with the second behind it where it is suspicious. Assumes nothing.
 use mathlib.Core.Path.{◌∙◌, sym}
 use native.Mathlib.Omega.{arith}
-use Rattle.robust.specs.RobustLaws.{ring_alone, ring_chosen}
+use Rattle.robust.proofs.RobustLaws.{ring_alone, ring_chosen}
 use borrow.Author.Rules.{rules}
 use Rattle.robust.proofs.fit_ring_with.Goals as goal
 

@@ -1,6 +1,6 @@
 -- Without a sum there is no grid; with one the best seed's start is made. Assumes nothing.
 use lib.ListN.{length}
-use Rattle.robust.specs.RobustLaws.{ready_rows, none_centered, sum_centered, grid_missing, grid_made, direct_is, direct_seed_lem}
+use Rattle.robust.proofs.RobustLaws.{ready_rows, none_centered, sum_centered, grid_missing, grid_made, direct_is, direct_seed_lem}
 use borrow.Author.Rules.{rules}
 use Rattle.robust.proofs.grid_fit.Goals as goal
 

@@ -1,6 +1,6 @@
 -- Both ends of the range. Assumes nothing.
 use Rattle.robust.specs.Robust as R
-use Rattle.robust.specs.RobustLaws.{min_rad_is, max_rad_is}
+use Rattle.robust.proofs.RobustLaws.{min_rad_is, max_rad_is}
 use Rattle.robust.proofs.is_outside.Goals as goal
 use Rattle.robust.proofs.is_outside.Goals.{then-sep, else-sep}
 

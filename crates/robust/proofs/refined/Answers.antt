@@ -1,5 +1,5 @@
 -- Nothing without a seed, and with one the start from it. Assumes nothing.
-use Rattle.robust.specs.RobustLaws.{refined_missing, refined_made}
+use Rattle.robust.proofs.RobustLaws.{refined_missing, refined_made}
 use Rattle.robust.proofs.refined.Goals as goal
 
 pub returns-in_default : goal.returns-in_default

@@ -1,5 +1,5 @@
 -- A start that is refused is told by its test, and is never suspicious; every other is prepared and made. Assumes nothing.
-use Rattle.robust.specs.RobustLaws.{refused_calm, start_refused, start_made}
+use Rattle.robust.proofs.RobustLaws.{refused_calm, start_refused, start_made}
 use Rattle.robust.proofs.start.Goals as goal
 
 pub returns-then-is_degenerate : goal.returns-then-is_degenerate

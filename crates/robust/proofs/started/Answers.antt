@@ -1,5 +1,5 @@
 -- A start that is refused is told by its test, and every other is made with the sines and cosines at hand. Assumes nothing.
-use Rattle.robust.specs.RobustLaws.{ready_room, start_refused, start_made}
+use Rattle.robust.proofs.RobustLaws.{ready_room, start_refused, start_made}
 use Rattle.robust.proofs.started.Goals as goal
 
 pub returns-then-is_degenerate : goal.returns-then-is_degenerate

@@ -2,7 +2,7 @@
 use native.Mathlib.Omega.{arith}
 use Rattle.floats.specs.Rows.{at}
 use Rattle.seed_models.specs.HeldLaws.{held_most}
-use Rattle.robust.specs.RobustLaws.{none_near, one_near}
+use Rattle.robust.proofs.RobustLaws.{none_near, one_near}
 use Rattle.robust.proofs.with_tables.Goals as goal
 
 pub with_grid_16-requires : goal.with_grid_16-requires

@@ -3,7 +3,7 @@ use mathlib.Core.Path.{◌≡◌, ◌∙◌, sym}
 use Prim.Native.Nat.{◌≤◌, ◌+◌, ◌-◌, ◌*◌}
 use native.Mathlib.Omega.{arith}
 use lib.ListN.{length, take, drop, length-take, length-drop}
-use Rattle.loops.specs.TabLaws.{part_length}
+use Rattle.loops.proofs.TabLaws.{part_length}
 use Rattle.robust_grid.specs.PlaceLaws.{row_is, grid_none, grid_more}
 use borrow.Author.Rules.{rules}
 use Rattle.robust_grid.proofs.fill_grid.Goals as goal

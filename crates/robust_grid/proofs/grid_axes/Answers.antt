@@ -2,7 +2,7 @@
 use mathlib.Core.Path.{◌≡◌, ap, ◌∙◌}
 use native.Mathlib.Omega.{arith}
 use lib.Ieee.{nan}
-use Rattle.loops.specs.TabLaws.{stores_none, stores_next, stores_all}
+use Rattle.loops.proofs.TabLaws.{stores_none, stores_next, stores_all}
 use Rattle.elementary.specs.Elementary.{sin_cos_near}
 use Rattle.elementary.specs.declared.SinCos.{SinCos}
 use Rattle.robust_grid.specs.PairLaws.{grid_near}

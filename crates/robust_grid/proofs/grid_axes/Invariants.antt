@@ -1,6 +1,6 @@
 -- Two lists of stores, both made of one call: no angle of the grid is reduced. Assumes nothing.
 use Prim.Native.Nat.{◌≤◌, ◌-◌}
-use Rattle.loops.specs.TabLaws.{Stores}
+use Rattle.loops.proofs.TabLaws.{Stores}
 use Rattle.elementary.specs.Elementary.{sin_cos}
 use Rattle.robust_grid.specs.Grid.{grid_angle}
 use Rattle.robust_grid.proofs.grid_axes.Given as goal

@@ -2,7 +2,7 @@
 use mathlib.Core.Path.{◌≡◌}
 use native.Mathlib.Omega.{arith}
 use lib.Ieee.{nan}
-use Rattle.loops.specs.TabLaws.{stores_none, stores_next, stores_all}
+use Rattle.loops.proofs.TabLaws.{stores_none, stores_next, stores_all}
 use Rattle.robust_grid.specs.Grid.{factor}
 use Rattle.robust_grid.specs.Places as P
 use borrow.Author.Rules.{rules}

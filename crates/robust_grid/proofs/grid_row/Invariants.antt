@@ -2,7 +2,7 @@
 use Prim.Native.Nat.{◌≤◌, ◌-◌}
 use lib.ListN.{get_or}
 use lib.Ieee.{nan}
-use Rattle.loops.specs.TabLaws.{Stores}
+use Rattle.loops.proofs.TabLaws.{Stores}
 use Rattle.robust_grid.specs.Grid.{factor}
 use Rattle.robust_grid.proofs.grid_row.Given as goal
 

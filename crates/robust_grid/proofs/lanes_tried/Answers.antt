@@ -3,7 +3,7 @@ use mathlib.Core.Path.{◌≡◌, sym, subst, ◌∙◌}
 use Prim.Native.Nat.{◌+◌}
 use native.Mathlib.Omega.{arith}
 use borrow.Author.Tests.{leb-true}
-use Rattle.loops.specs.IterLaws.{iter_zero, iter_more}
+use Rattle.loops.proofs.IterLaws.{iter_zero, iter_more}
 use Rattle.robust_lanes.specs.Lanes as L
 use Rattle.robust_grid.specs.Places as P
 use Rattle.robust_grid.specs.BlockLaws.{last_most, lanes_end, lane_squared, lane_skipped, lane_tried}

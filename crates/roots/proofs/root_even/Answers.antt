@@ -3,7 +3,7 @@ use Rattle.std.proofs.Common.{ℕ, suc, ◌+◌, ◌*◌, ◌-◌, ◌^◌, ◌�
 use Rattle.std.proofs.Common.{lt_of_lt_of_le, le_of_eq, mul-add, add-mul, mul-le-mul}
 use Rattle.std.specs.Float.Ieee.{binary32, units}
 use borrow.Author.Tests.{ltb-true, ltb-false}
-use Rattle.floats.specs.RootLaws.{root_above, root_below, root_up, root_stay, suc_square}
+use Rattle.floats.specs.RootLaws.{root_up, root_stay, suc_square}
 use Rattle.floats.specs.Library.{root_units}
 use Rattle.roots.proofs.root_even.Goals as goal
 
@@ -32,20 +32,6 @@ above_zero m s h = go (ltb 0 s) refl
     go false t = omega (arith, mul-le-mul (ltb-false 0 s t) (ltb-false 0 s t))
 
 module _ (m s : ℕ) (a : 2 ^ 46 ≤ m) (b : m < 2 ^ 48) (u : m ≤ s * s + s) (l : s * s < m + s) where
-  size : (8388608 ≤ s) × (s ≤ 16777216)
-  size = go (ltb m (s * s)) refl
-    where
-      go : (t : Bool) → ltb m (s * s) ≡ t → (8388608 ≤ s) × (s ≤ 16777216)
-      go false t =
-          let f : s * s ≤ m = ltb-false m (s * s) t in
-          (root_above m s a (next m s (omega arith)), omega (arith, root_below m s f b))
-      go true t =
-          let f : m < s * s = ltb-true m (s * s) t in
-          let w = lower m s (s - 1) (above_zero m s f) f l in
-          let q = root_above m (s - 1) a (next m (s - 1) w.2) in
-          let r = root_below m (s - 1) w.0 b in
-          (omega (arith, q), omega (arith, r))
-
   near : (h : ℕ) → h < 200 → units binary32 false s h ≡ root_units binary32 (m * (2 ^ h * 2 ^ h))
   near h k = go (ltb m (s * s)) refl
     where

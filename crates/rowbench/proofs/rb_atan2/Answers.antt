@@ -1,6 +1,5 @@
 -- `rb_atan2` is safe and ends: p is at most n, the store keeps the length, and n less p falls. Assumes nothing.
 use lib.ListN.{length-set}
-use Prim.Native.Nat.{◌-◌}
 use borrow.Author.Rules.{rules}
 use Rattle.rowbench.proofs.rb_atan2.Goals as goal
 

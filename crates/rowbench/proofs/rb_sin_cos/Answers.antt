@@ -1,6 +1,5 @@
 -- `rb_sin_cos` is safe and ends: p is at most n, the stores keep the lengths, and n less p falls. Assumes nothing.
 use lib.ListN.{length-set}
-use Prim.Native.Nat.{◌-◌}
 use borrow.Author.Rules.{rules}
 use Rattle.rowbench.proofs.rb_sin_cos.Goals as goal
 

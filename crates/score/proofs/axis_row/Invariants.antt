@@ -1,7 +1,7 @@
 -- A loop of stores makes the list of its elements. Assumes nothing.
 use Prim.Native.Nat.{◌≤◌, ◌-◌}
 use Rattle.elementary.specs.Elementary.{sin_cos}
-use Rattle.loops.specs.TabLaws.{Stores}
+use Rattle.loops.proofs.TabLaws.{Stores}
 use Rattle.score.specs.Score as S
 use Rattle.score.proofs.axis_row.Given as goal
 

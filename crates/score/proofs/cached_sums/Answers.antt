@@ -2,7 +2,7 @@
 use mathlib.Core.Path.{◌≡◌}
 use native.Mathlib.Omega.{arith}
 use lib.ListN.{length}
-use Rattle.loops.specs.IterLaws.{iter_zero, iter_next}
+use Rattle.loops.proofs.IterLaws.{iter_zero, iter_next}
 use Rattle.score.specs.Score as S
 use borrow.Author.Rules.{rules}
 use Rattle.score.proofs.cached_sums.Goals as goal

@@ -1,7 +1,7 @@
 -- A disk without weight is left as it is; otherwise the loop stores a sum a turn. Assumes nothing.
 use mathlib.Core.Path.{◌≡◌}
 use native.Mathlib.Omega.{arith}
-use Rattle.loops.specs.TabLaws.{stores_none, stores_next}
+use Rattle.loops.proofs.TabLaws.{stores_none, stores_next}
 use Rattle.score.specs.ScoreLaws.{aligned_none, aligned_all}
 use borrow.Author.Rules.{rules}
 use Rattle.score.proofs.precompute_edge_alignments.Goals as goal

@@ -2,7 +2,7 @@
 use mathlib.Core.Path.{◌≡◌}
 use Prim.Native.Nat.{◌≤◌, ◌-◌}
 use lib.ListN.{length}
-use Rattle.loops.specs.TabLaws.{Stores}
+use Rattle.loops.proofs.TabLaws.{Stores}
 use Rattle.floats.specs.Rows.{at}
 use Rattle.score_edges.specs.Edges.{ranked_sum}
 use Rattle.score.proofs.precompute_edge_alignments.Given as goal

@@ -2,7 +2,7 @@
 use mathlib.Core.Path.{◌≡◌}
 use native.Mathlib.Omega.{arith}
 use lib.ListN.{length}
-use Rattle.loops.specs.IterLaws.{iter_zero, iter_next}
+use Rattle.loops.proofs.IterLaws.{iter_zero, iter_next}
 use Rattle.score_edges.specs.Edges as E
 use borrow.Author.Rules.{rules}
 use Rattle.score_edges.proofs.ordered_sum.Goals as goal

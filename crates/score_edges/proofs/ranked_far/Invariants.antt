@@ -1,6 +1,6 @@
 -- A loop of stores makes the list of its elements. Assumes nothing.
 use Prim.Native.Nat.{◌≤◌, ◌-◌}
-use Rattle.loops.specs.TabLaws.{Stores}
+use Rattle.loops.proofs.TabLaws.{Stores}
 use Rattle.score_edges.specs.Edges as E
 use Rattle.score_edges.specs.NearLaws as N
 use Rattle.score_edges.proofs.ranked_far.Given as goal

@@ -2,7 +2,7 @@
 use mathlib.Core.Path.{◌≡◌}
 use native.Mathlib.Omega.{arith}
 use lib.Seq.{get_or-take}
-use Rattle.loops.specs.IterLaws.{iter_zero, iter_more}
+use Rattle.loops.proofs.IterLaws.{iter_zero, iter_more}
 use Rattle.search_ranking.specs.Ranking.{blank}
 use Rattle.search.specs.Search as S
 use Rattle.search.specs.CacheLaws.{cached_none}

@@ -1,6 +1,6 @@
 -- Each of the four ways of the two flags has its own return. Assumes nothing.
 use mathlib.Core.Path.{◌∙◌, sym}
-use Rattle.loops.specs.IterLaws.{pick_true, pick_false}
+use Rattle.loops.proofs.IterLaws.{pick_true, pick_false}
 use Rattle.search_ranking.specs.Ranking.{is_before}
 use Rattle.search_ranking.proofs.is_before.Goals as goal
 

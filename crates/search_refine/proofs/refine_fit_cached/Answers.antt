@@ -1,7 +1,7 @@
 -- 24 turns from empty slots, each the definition's; the weights are as many as the pixels. Assumes nothing.
 use mathlib.Core.Path.{◌≡◌, ◌∙◌}
 use native.Mathlib.Omega.{arith}
-use Rattle.loops.specs.IterLaws.{iter_zero, iter_more}
+use Rattle.loops.proofs.IterLaws.{iter_zero, iter_more}
 use Rattle.search_rows.specs.RowsLaws.{kept_none}
 use Rattle.search_refine.specs.Refine.{neighbours}
 use Rattle.search_refine.specs.RefineLaws.{refined_is}

@@ -1,7 +1,7 @@
 -- Each turn fills one row more and leaves the others as they are. Assumes nothing.
 use mathlib.Core.Path.{◌≡◌, refl}
 use native.Mathlib.Omega.{arith}
-use Rattle.loops.specs.TabLaws.{stores_none, stores_next}
+use Rattle.loops.proofs.TabLaws.{stores_none, stores_next}
 use Rattle.search_rows.specs.RowsLaws.{built_none, built_more, built_all}
 use borrow.Author.Rules.{rules}
 use Rattle.search_rows.proofs.build_axis_rows.Goals as goal

@@ -2,7 +2,7 @@
 use Prim.Native.Nat.{◌≤◌, ◌-◌}
 use lib.ListN.{length}
 use Rattle.floats.specs.Ops.{◌⊕◌}
-use Rattle.loops.specs.TabLaws.{Stores}
+use Rattle.loops.proofs.TabLaws.{Stores}
 use Rattle.floats.specs.Rows.{at}
 use Rattle.score_edges.specs.Edges.{refined_sum}
 use Rattle.search_rows.specs.RowsLaws.{Built}

@@ -2,7 +2,7 @@
 use Prim.Native.Nat.{◌≤◌, ◌-◌}
 use lib.ListN.{get_or}
 use lib.Ieee.{nan}
-use Rattle.loops.specs.TabLaws.{Stores}
+use Rattle.loops.proofs.TabLaws.{Stores}
 use Rattle.elementary.specs.Elementary.{turn}
 use Rattle.seed.specs.Buffers as B
 use Rattle.seed.proofs.double_each.Given as goal

@@ -3,7 +3,7 @@ use mathlib.Core.Path.{◌≡◌, refl}
 use native.Mathlib.Omega.{arith}
 use lib.ListN.{length}
 use lib.Ieee.{nan}
-use Rattle.loops.specs.TabLaws.{stores_none, stores_next, stores_all}
+use Rattle.loops.proofs.TabLaws.{stores_none, stores_next, stores_all}
 use Rattle.seed.specs.Buffers as B
 use borrow.Author.Rules.{rules}
 use Rattle.seed.proofs.double_near.Goals as goal

@@ -1,10 +1,10 @@
 -- A turn is a block of four pairs or models, and the blocks hold all of them in their order. Assumes nothing.
 use mathlib.Core.Path.{◌≡◌, ◌∙◌}
 use native.Mathlib.Omega.{arith}
-use Rattle.loops.specs.IterLaws.{iter_zero, iter_more}
+use Rattle.loops.proofs.IterLaws.{iter_zero, iter_more}
 use Rattle.robust_grid.specs.Places as G
 use Rattle.robust_grid.specs.PairLaws.{block_inside}
-use Rattle.seed_models.specs.ModelLaws.{rows_few, walk_is}
+use Rattle.seed_models.proofs.ModelLaws.{rows_few, walk_is}
 use borrow.Author.Rules.{rules}
 use Rattle.seed_models.proofs.best_seed.Goals as goal
 

@@ -3,7 +3,7 @@ use mathlib.Core.Path.{◌≡◌}
 use Prim.Native.Nat.{◌+◌, ◌*◌}
 use native.Mathlib.Omega.{arith}
 use Rattle.robust_lanes.specs.LaneLaws.{lane_places}
-use Rattle.seed_models.specs.ModelLaws.{sums_none, sums_next}
+use Rattle.seed_models.proofs.ModelLaws.{sums_none, sums_next}
 use borrow.Author.Rules.{rules}
 use Rattle.seed_models.proofs.block_lanes.Goals as goal
 

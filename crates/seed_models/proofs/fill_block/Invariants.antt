@@ -1,6 +1,6 @@
 -- A loop of stores makes the list of its elements. Assumes nothing.
 use Prim.Native.Nat.{◌≤◌, ◌-◌}
-use Rattle.loops.specs.TabLaws.{Stores}
+use Rattle.loops.proofs.TabLaws.{Stores}
 use Rattle.seed_models.specs.Words as W
 use Rattle.seed_models.specs.Parts as P
 use Rattle.seed_models.proofs.fill_block.Given as goal

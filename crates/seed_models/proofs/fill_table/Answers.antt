@@ -3,8 +3,8 @@ use mathlib.Core.Path.{◌≡◌, ◌∙◌, sym}
 use Prim.Native.Nat.{◌≤◌, ◌-◌, ◌+◌, ◌*◌}
 use native.Mathlib.Omega.{arith}
 use lib.ListN.{length, take, drop, length-take, length-drop}
-use Rattle.loops.specs.IterLaws.{iter_zero, iter_more}
-use Rattle.loops.specs.TabLaws.{part_length}
+use Rattle.loops.proofs.IterLaws.{iter_zero, iter_more}
+use Rattle.loops.proofs.TabLaws.{part_length}
 use Rattle.robust_grid.specs.Places as G
 use Rattle.robust_grid.specs.PairLaws.{block_inside}
 use Rattle.seed_models.specs.WordLaws.{fill_none, fill_more, fill_all}

@@ -2,7 +2,7 @@
 use mathlib.Core.Path.{◌≡◌, ◌∙◌, sym}
 use Prim.Native.Nat.{◌-◌}
 use native.Mathlib.Omega.{arith}
-use Rattle.seed_models.specs.ModelLaws.{first_skip, first_here, first_none, first_is, near_is}
+use Rattle.seed_models.proofs.ModelLaws.{first_skip, first_here, first_none, first_is, near_is}
 use borrow.Author.Rules.{rules}
 use Rattle.seed_models.proofs.first_table.Goals as goal
 

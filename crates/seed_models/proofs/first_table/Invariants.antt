@@ -3,7 +3,7 @@ use mathlib.Core.Path.{◌≡◌}
 use Prim.Native.Nat.{◌≤◌, ◌-◌}
 use Rattle.seed_models.specs.Models as M
 use Rattle.seed_models.specs.Words as W
-use Rattle.seed_models.specs.ModelLaws.{is_at}
+use Rattle.seed_models.proofs.ModelLaws.{is_at}
 use Rattle.seed_models.proofs.first_table.Given as goal
 
 abbrev pub invariant-loop-t : goal.invariant-loop-t

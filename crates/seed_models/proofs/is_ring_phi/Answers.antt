@@ -2,7 +2,7 @@
 use mathlib.Core.Path.{◌≡◌}
 use native.Mathlib.Omega.{arith}
 use lib.ListN.{length}
-use Rattle.loops.specs.IterLaws.{iter_zero, iter_more}
+use Rattle.loops.proofs.IterLaws.{iter_zero, iter_more}
 use Rattle.seed_models.specs.Models as M
 use borrow.Author.Rules.{rules}
 use Rattle.seed_models.proofs.is_ring_phi.Goals as goal

@@ -1,5 +1,5 @@
 -- Three kinds of word. Assumes nothing.
-use Rattle.seed_models.specs.ModelLaws.{word_mean, word_denom, word_centered}
+use Rattle.seed_models.proofs.ModelLaws.{word_mean, word_denom, word_centered}
 use Rattle.seed_models.proofs.lane_word.Goals as goal
 
 pub returns-then-r-eq0 : goal.returns-then-r-eq0

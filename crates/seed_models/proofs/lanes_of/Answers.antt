@@ -4,7 +4,7 @@ use Prim.Native.Nat.{◌+◌, ◌-◌, ◌*◌}
 use native.Mathlib.Omega.{arith}
 use lib.ListN.{length-take, length-drop}
 use Rattle.robust_grid.specs.PairLaws.{block_inside}
-use Rattle.seed_models.specs.ModelLaws.{rows_are}
+use Rattle.seed_models.proofs.ModelLaws.{rows_are}
 use Rattle.seed_models.proofs.lanes_of.Goals as goal
 
 pub slice_bounds-block_lanes-end : goal.slice_bounds-block_lanes-end

@@ -6,7 +6,7 @@ use native.Mathlib.Omega.{arith}
 use lib.ListN.{length, get_or, drop}
 use lib.Ieee.{nan}
 use Rattle.floats.specs.Rows.{Row}
-use Rattle.loops.specs.TabLaws.{stores_none, stores_next, stored, tab_self}
+use Rattle.loops.proofs.TabLaws.{stores_none, stores_next, stored, tab_self}
 use borrow.Author.Rules.{rules}
 use Rattle.seed_models.proofs.put_angles.Goals as goal
 

@@ -1,7 +1,7 @@
 -- The loop keeps the sums so far. Assumes nothing.
 use mathlib.Core.Path.{◌≡◌}
 use native.Mathlib.Omega.{arith}
-use Rattle.loops.specs.IterLaws.{iter_zero, iter_more}
+use Rattle.loops.proofs.IterLaws.{iter_zero, iter_more}
 use Rattle.seed_models.specs.Parts as P
 use borrow.Author.Rules.{rules}
 use Rattle.seed_models.proofs.q_sums.Goals as goal

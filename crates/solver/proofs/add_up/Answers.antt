@@ -1,9 +1,8 @@
 -- The loop packs a sample a turn, and the sums say what the definition adds up. Assumes nothing.
 use mathlib.Core.Path.{◌≡◌}
-use Prim.Native.Nat.{◌-◌}
 use native.Mathlib.Omega.{arith}
-use Rattle.loops.specs.IterLaws.{iter_zero, iter_next}
-use Rattle.solver.specs.SolverLaws.{packed_all}
+use Rattle.loops.proofs.IterLaws.{iter_zero, iter_next}
+use Rattle.solver.proofs.SolverLaws.{packed_all}
 use borrow.Author.Rules.{rules}
 use Rattle.solver.proofs.add_up.Goals as goal
 

@@ -1,9 +1,8 @@
 -- While no angle was far, all so far are near. Assumes nothing.
 use mathlib.Core.Path.{◌≡◌}
-use Prim.Native.Nat.{◌-◌}
 use native.Mathlib.Omega.{arith}
 use lib.ListN.{length}
-use Rattle.solver.specs.SolverLaws.{near_none, near_next}
+use Rattle.solver.proofs.SolverLaws.{near_none, near_next}
 use borrow.Author.Rules.{rules}
 use Rattle.solver.proofs.all_near.Goals as goal
 

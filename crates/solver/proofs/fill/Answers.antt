@@ -1,8 +1,8 @@
 -- Four stores a turn put the sample into its places. Assumes nothing.
-use Prim.Native.Nat.{ℕ, ◌+◌, ◌*◌, ◌≤◌, ◌<◌, ◌-◌}
+use Prim.Native.Nat.{ℕ, ◌+◌, ◌*◌, ◌≤◌, ◌<◌}
 use native.Mathlib.Omega.{arith}
 use lib.ListN.{length, length-set}
-use Rattle.solver.specs.SolverLaws.{filled_next}
+use Rattle.solver.proofs.SolverLaws.{filled_next}
 use borrow.Author.Rules.{rules}
 use Rattle.solver.proofs.fill.Goals as goal
 

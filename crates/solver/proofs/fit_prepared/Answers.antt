@@ -1,5 +1,5 @@
 -- The fit is finished from where the updates stopped. Assumes nothing.
-use Rattle.solver.specs.SolverLaws.{whole_stopped}
+use Rattle.solver.proofs.SolverLaws.{whole_stopped}
 use Rattle.solver.proofs.fit_prepared.Goals as goal
 
 pub returns : goal.returns

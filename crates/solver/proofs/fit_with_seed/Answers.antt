@@ -1,7 +1,7 @@
 -- A degenerate start is told by its test, and every other is prepared and made. Assumes nothing.
 use mathlib.Core.Path.{◌∙◌}
 use Rattle.solver.specs.Record.{record_with_seed}
-use Rattle.solver.specs.SolverLaws.{whole_prepared}
+use Rattle.solver.proofs.SolverLaws.{whole_prepared}
 use Rattle.solver.proofs.fit_with_seed.Goals as goal
 
 pub returns-then-is_degenerate : goal.returns-then-is_degenerate

@@ -3,7 +3,7 @@ use mathlib.Core.Path.{◌∙◌, sym, ap}
 use mathlib.Core.Bool.{false≢true}
 use lib.Ieee.{lt}
 use Rattle.floats.specs.Ops.{lit}
-use Rattle.solver.specs.SolverLaws.{near_turn}
+use Rattle.solver.proofs.SolverLaws.{near_turn}
 use Rattle.solver.proofs.near_too.Goals as goal
 
 pub returns-then-abs : goal.returns-then-abs

@@ -1,5 +1,5 @@
 -- The places that `fill` wrote are the samples of the definition's pass, and `add_up` sums them. Assumes nothing.
-use Rattle.solver.specs.SolverLaws.{pass_split}
+use Rattle.solver.proofs.SolverLaws.{pass_split}
 use Rattle.solver.proofs.pass.Goals as goal
 
 pub returns : goal.returns

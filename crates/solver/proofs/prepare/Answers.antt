@@ -1,5 +1,5 @@
 -- Near angles are their own turned angles, and the others are turned first. Assumes nothing.
-use Rattle.solver.specs.SolverLaws.{prepared_near, prepared_turned}
+use Rattle.solver.proofs.SolverLaws.{prepared_near, prepared_turned}
 use Rattle.solver.proofs.prepare.Goals as goal
 
 pub returns-then-all_near : goal.returns-then-all_near

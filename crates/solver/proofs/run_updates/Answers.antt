@@ -1,10 +1,9 @@
 -- What is left to do is what was to do; each way out of the loop is one law. Assumes nothing.
 use mathlib.Core.Path.{refl, ◌∙◌, sym, ap}
-use Prim.Native.Nat.{◌-◌}
 use native.Mathlib.Omega.{arith}
 use Rattle.solver.specs.Solver.{step_of, updates}
 use Rattle.solver.specs.Buffers.{spread}
-use Rattle.solver.specs.SolverLaws.{run_full, run_stay, run_to, step_stay, step_to, solved_by, stopped_at}
+use Rattle.solver.proofs.SolverLaws.{run_full, run_stay, run_to, step_stay, step_to, solved_by, stopped_at}
 use borrow.Author.Rules.{rules}
 use Rattle.solver.proofs.run_updates.Goals as goal
 

@@ -1,10 +1,9 @@
 -- Two lists of stores, both made of one call. Assumes nothing.
 use mathlib.Core.Path.{◌≡◌, ap}
-use Prim.Native.Nat.{◌-◌}
 use native.Mathlib.Omega.{arith}
 use lib.ListN.{length}
 use lib.Ieee.{nan}
-use Rattle.loops.specs.TabLaws.{stores_none, stores_next, stores_all}
+use Rattle.loops.proofs.TabLaws.{stores_none, stores_next, stores_all}
 use Rattle.elementary.specs.declared.SinCos.{SinCos}
 use borrow.Author.Rules.{rules}
 use Rattle.solver.proofs.sin_cos_all.Goals as goal

@@ -2,7 +2,7 @@
 use Prim.Native.Nat.{◌≤◌, ◌-◌}
 use lib.ListN.{get_or}
 use lib.Ieee.{nan}
-use Rattle.loops.specs.TabLaws.{Stores}
+use Rattle.loops.proofs.TabLaws.{Stores}
 use Rattle.elementary.specs.Elementary.{sin_cos_near}
 use Rattle.solver.proofs.sin_cos_all.Given as goal
 

@@ -1,11 +1,9 @@
 -- A loop of stores makes the list of its elements. Assumes nothing.
 use mathlib.Core.Path.{◌≡◌}
-use Prim.Native.Nat.{◌-◌}
 use native.Mathlib.Omega.{arith}
 use lib.ListN.{length}
 use lib.Ieee.{nan}
-use Rattle.loops.specs.TabLaws.{stores_none, stores_next, stores_all}
-use Rattle.elementary.specs.Elementary.{turn}
+use Rattle.loops.proofs.TabLaws.{stores_none, stores_next, stores_all}
 use borrow.Author.Rules.{rules}
 use Rattle.solver.proofs.turn_all.Goals as goal
 

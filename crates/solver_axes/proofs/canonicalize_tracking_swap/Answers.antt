@@ -4,7 +4,7 @@ use lib.Dec.{T}
 use lib.Ieee.{Float, binary32, fits}
 use Rattle.solver_axes.specs.declared.Axes.{Axes}
 use Rattle.solver_axes.specs.Canonical as C
-use Rattle.solver_axes.specs.CanonicalLaws.{canonical_range}
+use Rattle.solver_axes.proofs.CanonicalLaws.{canonical_range}
 use borrow.Author.Rules.{rules}
 use Rattle.solver_axes.proofs.canonicalize_tracking_swap.Goals as goal
 

@@ -3,7 +3,7 @@ use mathlib.Core.Path.{◌≡◌}
 use lib.Dec.{T}
 use lib.Ieee.{Float, binary32, fits}
 use Rattle.solver_axes.specs.Canonical as C
-use Rattle.solver_axes.specs.CanonicalLaws.{wrap_to_tau_range}
+use Rattle.solver_axes.proofs.CanonicalLaws.{wrap_to_tau_range}
 use borrow.Author.Rules.{rules}
 use Rattle.solver_axes.proofs.wrap_to_tau.Goals as goal
 

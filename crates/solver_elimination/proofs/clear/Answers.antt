@@ -1,8 +1,7 @@
 -- The loop clears a row a turn. Assumes nothing.
 use mathlib.Core.Path.{◌≡◌}
-use Prim.Native.Nat.{◌-◌}
 use native.Mathlib.Omega.{arith}
-use Rattle.loops.specs.IterLaws.{iter_zero, iter_next}
+use Rattle.loops.proofs.IterLaws.{iter_zero, iter_next}
 use Rattle.solver_elimination.specs.Solve.{clear}
 use borrow.Author.Rules.{rules}
 use Rattle.solver_elimination.proofs.clear.Goals as goal

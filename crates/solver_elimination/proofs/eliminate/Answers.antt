@@ -1,12 +1,11 @@
 -- The loop's state is the matrix on its way; the early return is a law, and what the columns of both right sides are is one. Assumes nothing.
 use mathlib.Core.Path.{◌≡◌, ap, ◌∙◌}
-use Prim.Native.Nat.{◌-◌}
 use native.Mathlib.Omega.{arith}
-use Rattle.loops.specs.IterLaws.{iter_zero}
+use Rattle.loops.proofs.IterLaws.{iter_zero}
 use Rattle.solver_elimination.specs.Solve.{Elim, column_of}
 use Rattle.solver_elimination.specs.SolveLaws.{goes_on, stops_at}
 use Rattle.solver_elimination.specs.Wide.{widened, sides}
-use Rattle.solver_elimination.specs.WideLaws.{sides_by}
+use Rattle.solver_elimination.proofs.WideLaws.{sides_by}
 use borrow.Author.Rules.{rules}
 use Rattle.solver_elimination.proofs.eliminate.Goals as goal
 

@@ -1,8 +1,8 @@
 -- The loop keeps the largest so far. Assumes nothing.
 use mathlib.Core.Path.{◌≡◌}
-use Prim.Native.Nat.{◌≤◌, ◌+◌, ◌-◌}
+use Prim.Native.Nat.{◌≤◌, ◌+◌}
 use native.Mathlib.Omega.{arith}
-use Rattle.loops.specs.IterLaws.{range_start, range_next}
+use Rattle.loops.proofs.IterLaws.{range_start, range_next}
 use Rattle.solver_elimination.specs.Solve.{pivot_row}
 use borrow.Author.Rules.{rules}
 use Rattle.solver_elimination.proofs.pivot_row.Goals as goal

@@ -4,7 +4,7 @@ use lib.Ieee.{nan, binary32}
 use borrow.Kind.Array.{e_float, good_length}
 use Rattle.floats.specs.Rows.{Row}
 use Rattle.loops.specs.Loops.{tab}
-use Rattle.loops.specs.TabLaws.{tab_self}
+use Rattle.loops.proofs.TabLaws.{tab_self}
 use Rattle.solver_elimination.specs.Solve.{scaled}
 use Rattle.solver_elimination.proofs.scaled.Goals as goal
 

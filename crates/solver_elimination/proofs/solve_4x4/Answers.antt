@@ -1,7 +1,7 @@
 -- The first of two right sides has its own solution, whatever the second is. Assumes nothing.
 use mathlib.Core.Path.{sym, ap, ◌∙◌}
 use Rattle.solver_elimination.specs.Wide.{first_side}
-use Rattle.solver_elimination.specs.WideLaws.{first_by, right_listed}
+use Rattle.solver_elimination.proofs.WideLaws.{first_by, right_listed}
 use Rattle.solver_elimination.proofs.solve_4x4.Goals as goal
 
 pub returns-in_default : goal.returns-in_default

@@ -1,7 +1,7 @@
 -- A failure answers PI, and two solutions answer both errors, with what their entries say of them. Assumes nothing.
 use mathlib.Core.Path.{sym, ap, ◌∙◌}
 use Rattle.solver_errors.specs.Parts.{estimate_by}
-use Rattle.solver_errors.specs.StdErrorsLaws.{estimate_by_lem}
+use Rattle.solver_errors.proofs.StdErrorsLaws.{estimate_by_lem}
 use Rattle.solver_errors.proofs.both_errors.Goals as goal
 
 pub returns-in_default : goal.returns-in_default

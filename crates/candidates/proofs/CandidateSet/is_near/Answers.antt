@@ -1,7 +1,7 @@
 -- A search: nothing near among those passed, and the early return cites near-found. Assumes nothing.
 use mathlib.Core.Path.{◌≡◌}
 use native.Mathlib.Omega.{arith}
-use Rattle.loops.specs.IterLaws.{iter_zero}
+use Rattle.loops.proofs.IterLaws.{iter_zero}
 use Rattle.candidates.specs.Candidates as C
 use Rattle.candidates.specs.CandidatesLaws.{near_not, near_found}
 use borrow.Author.Rules.{rules}

@@ -26,7 +26,7 @@ use Rattle.solver_elimination.specs.declared.Solved.TheVariants.{Values, Failed}
 use Rattle.solver_elimination.specs.Solve as S
 use Rattle.solver_elimination.specs.Solve.{Matrix, Elim, gone, going, entry}
 use Rattle.solver_elimination.specs.Wide.{failed}
-use Rattle.solver_elimination.specs.WideLaws.{at_scaled, at_reduced}
+use Rattle.solver_elimination.proofs.WideLaws.{at_scaled, at_reduced}
 use Rattle.solver_elimination.specs.PivotLaws.{Best, best, Pivot, usable, no_larger}
 
 -- ---- what a column makes of a right side of at most 2 ^ b units

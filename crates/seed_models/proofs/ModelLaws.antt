@@ -12,8 +12,8 @@ use Rattle.std.specs.Float.Ieee.{nan}
 use Rattle.floats.specs.Ops.{◌⊕◌, ◌⊖◌, ◌⊗◌, ◌⊘◌, lit, nought}
 use Rattle.floats.specs.Rows.{Row, at, count}
 use Rattle.loops.specs.Loops.{iter, tab}
-use Rattle.loops.specs.IterLaws.{iter_zero, iter_next, iter_same, iter_through, iter_related}
-use Rattle.loops.specs.TabLaws.{tab_at, tab_length}
+use Rattle.loops.proofs.IterLaws.{iter_zero, iter_next, iter_same, iter_through, iter_related}
+use Rattle.loops.proofs.TabLaws.{tab_at, tab_length}
 use Rattle.seed.specs.Seed.{flat, scored_from}
 use Rattle.seed.specs.declared.Seed.{Seed}
 use Rattle.seed.specs.declared.Seed.TheVariants.{Nothing}

@@ -14,7 +14,7 @@ use Rattle.floats.specs.Library.{abs}
 use Rattle.loops.specs.Loops.{iter, range}
 use Rattle.floats.specs.Rows.{Row, at}
 use Rattle.floats.specs.NanLaws.{add_nan, mul_nan}
-use Rattle.loops.specs.IterLaws.{iter_related, range_same}
+use Rattle.loops.proofs.IterLaws.{iter_related, range_same}
 use Rattle.solver_elimination.specs.declared.Solved.{Solved}
 use Rattle.solver_elimination.specs.declared.Solved.TheVariants.{Values, Failed}
 use Rattle.solver_elimination.specs.Solve as S

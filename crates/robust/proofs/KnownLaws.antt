@@ -18,7 +18,7 @@ use Rattle.seed_models.specs.HeldLaws.{TablesHeld}
 use Rattle.robust_choice.specs.Choice.{Source, of_pass, of_seed, Start}
 use Rattle.robust.specs.Robust.{start, mean_of, variance_of, ring}
 use Rattle.robust.specs.Record.{record_ring}
-use Rattle.robust.specs.SoundLaws.{ring_each}
+use Rattle.robust.proofs.SoundLaws.{ring_each}
 
 abbrev pub StandsOn : ℕ → Source → RustFit → Standing → Type 0
 StandsOn n (of_seed seed) f s = (f.fit_std_error_theta1 ≡ pi) × (f.fit_std_error_theta2 ≡ pi) × (s ≡ unfounded)

@@ -10,8 +10,8 @@ use Rattle.solver_record.specs.Fit.{degenerate}
 use Rattle.solver_record.specs.Record.{with_mean, without_mean}
 use Rattle.solver.specs.Solver.{Final, updates, sines, cosines, fit_with_seed}
 use Rattle.solver.specs.Record.{record_with_seed}
-use Rattle.solver.specs.RecordLaws.{start_kept}
-use Rattle.solver.specs.SoundLaws.{Own, updates_own}
+use Rattle.solver.proofs.RecordLaws.{start_kept}
+use Rattle.solver.proofs.SoundLaws.{Own, updates_own}
 use Rattle.solver_record.specs.declared.Params.{Params}
 use Rattle.solver_record.specs.declared.Started.{Started}
 use Rattle.solver_record.specs.declared.TwoAxisFit.{TwoAxisFit}
@@ -22,7 +22,7 @@ use Rattle.robust_choice.specs.Record.{mean_from}
 use Rattle.robust_choice.specs.Parts.{started_of}
 use Rattle.robust.specs.Robust.{start, mean_of, variance_of, ring, fit_ring}
 use Rattle.robust.specs.Record.{record_ring}
-use Rattle.robust.specs.SoundLaws.{ring_each}
+use Rattle.robust.proofs.SoundLaws.{ring_each}
 
 -- ---- for every number of samples and all values
 module _ (tables : List Table) (n : ℕ) (samples ring_phi : Row) where

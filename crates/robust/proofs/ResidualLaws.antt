@@ -29,8 +29,8 @@ use Rattle.floats.specs.NearestRootLaws.{root_nearest}
 use Rattle.floats.specs.FiniteLaws.{of_true, finite_number}
 use Rattle.floats.specs.PartsLaws.{add_parts, sub_parts, mul_parts, div_part, sqrt_part}
 use Rattle.loops.specs.Loops.{iter}
-use Rattle.loops.specs.IterLaws.{iter_keeps}
-use Rattle.solver.specs.SoundLaws.{updates_own}
+use Rattle.loops.proofs.IterLaws.{iter_keeps}
+use Rattle.solver.proofs.SoundLaws.{updates_own}
 use Rattle.solver.specs.Solver.{sample_at, Normal, empty, added, pass, Final, updates, sines, cosines, finished_at}
 use Rattle.solver.specs.Solver.{fit_with_seed}
 use Rattle.solver_record.specs.Fit.{degenerate, degenerate_fit, finished, assembled}
@@ -41,8 +41,8 @@ use Rattle.robust_choice.specs.Choice.{Source, of_pass, of_seed}
 use Rattle.robust.specs.Robust.{negative_zero, total, deviations, mean_of, variance_of, start, ring, sum_of, ring_sum}
 use Rattle.robust.specs.Record.{record_ring}
 use Rattle.robust_choice.specs.Record.{mean_from}
-use Rattle.robust.specs.SoundLaws.{MeanHeld, ring_each}
-use Rattle.robust.specs.RecordLaws.{OwnPass, ring_own, ring_dropped}
+use Rattle.robust.proofs.SoundLaws.{MeanHeld, ring_each}
+use Rattle.robust.proofs.RecordLaws.{OwnPass, ring_own, ring_dropped}
 use Rattle.robust.specs.Residual.{MadeOf, half, Tiny, one_unit, Share}
 
 -- ---- a root is 0 only of a zero

@@ -14,8 +14,8 @@ use Rattle.elementary.specs.Elementary.{sin_cos, sin_cos_two, sin_cos_near, turn
 use Rattle.elementary.specs.declared.SinCos.{SinCos}
 use Rattle.elementary.specs.declared.TwoSinCos.{TwoSinCos}
 use Rattle.loops.specs.Loops.{iter, tab}
-use Rattle.loops.specs.IterLaws.{iter_same, iter_through}
-use Rattle.loops.specs.TabLaws.{tab_at, tab_length, tab_same}
+use Rattle.loops.proofs.IterLaws.{iter_same, iter_through}
+use Rattle.loops.proofs.TabLaws.{tab_at, tab_length, tab_same}
 use Rattle.solver_elimination.specs.Solve.{Matrix, solve4x4}
 use Rattle.floats.specs.Rows.{Row, at}
 use Rattle.solver_elimination.specs.declared.Solved.{Solved}

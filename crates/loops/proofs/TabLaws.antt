@@ -12,7 +12,7 @@ use Rattle.std.proofs.Math.ListN.{get_or-append, length, get_or, take, drop, len
 use Rattle.std.proofs.Math.Seq.{drop-cons, set_at, take-length, drop-length, drop-append-add}
 use Rattle.std.proofs.lemmas.List.{take-append-le, drop-append-le, get_or_at}
 use Rattle.loops.specs.Loops.{iter, tab}
-use Rattle.loops.specs.IterLaws.{iter_zero, iter_next}
+use Rattle.loops.proofs.IterLaws.{iter_zero, iter_next}
 
 module _ {A : Type 0} where
   pub tab_length : (f : ℕ → A) (n : ℕ) → length (tab f n) ≡ n

@@ -11,14 +11,14 @@ use Rattle.std.specs.Float.Ieee.Scale.{finite}
 use Rattle.floats.specs.Ops.{lit}
 use Rattle.floats.specs.Rows.{Row}
 use Rattle.floats.specs.Library.{to_radians}
-use Rattle.loops.specs.TabLaws.{tab_length, tab_at, part_same}
+use Rattle.loops.proofs.TabLaws.{tab_length, tab_at, part_same}
 use Rattle.solver_record.specs.Fit.{degenerate, degenerate_fit}
 use Rattle.solver_record.specs.Record.{without_mean, degenerate_record, refused}
 use Rattle.solver.specs.Solver.{sines, cosines, updates}
 use Rattle.solver.specs.Record.{start_from, record_with_seed}
 use Rattle.solver.specs.Buffers.{Prepared, PassRoom, max_samples}
 use Rattle.robust_lanes.specs.Lanes.{grid_places}
-use Rattle.solver.specs.SolverLaws.{prepared_length, whole_prepared}
+use Rattle.solver.proofs.SolverLaws.{prepared_length, whole_prepared}
 use Rattle.solver_record.specs.declared.Params.{Params}
 use Rattle.solver_record.specs.declared.Started.{Started}
 use Rattle.seed.specs.Seed.{flat, second_harmonic}
@@ -40,7 +40,7 @@ use Rattle.robust_choice.specs.declared.Second.TheVariants.{Made, Missing}
 use Rattle.robust_choice.specs.declared.RingFit.{RingFit}
 use Rattle.robust.specs.Robust as R
 use Rattle.robust.specs.Record.{record_ring}
-use Rattle.robust.specs.RecordLaws.{start_is}
+use Rattle.robust.proofs.RecordLaws.{start_is}
 use Rattle.robust_choice.specs.Choice.{Start}
 use Rattle.robust_choice.specs.Parts.{started_of, second_of, alone_of, chosen_of}
 use Rattle.robust_choice.specs.ChoiceLaws.{alone_is, chosen_is}

@@ -12,12 +12,12 @@ use Rattle.floats.specs.Ops.{◌⊖◌, ◌⊗◌, ◌⊘◌, lit, quarter_pi}
 use Rattle.floats.specs.Rows.{Row, count}
 use Rattle.floats.specs.FiniteLaws.{of_true}
 use Rattle.floats.specs.Library.{to_radians}
-use Rattle.loops.specs.IterLaws.{iter_keeps, range_keeps}
+use Rattle.loops.proofs.IterLaws.{iter_keeps, range_keeps}
 use Rattle.geometry.specs.Geometry.{valid_pair}
 use Rattle.solver.specs.Solver.{sines, cosines}
 use Rattle.solver_record.specs.Record.{without_mean}
 use Rattle.solver_record.specs.FitLaws.{ParamsHeld, Sound}
-use Rattle.solver.specs.SoundLaws.{start_sound, start_most}
+use Rattle.solver.proofs.SoundLaws.{start_sound, start_most}
 use Rattle.solver_record.specs.declared.Params.{Params}
 use Rattle.seed.specs.Seed.{robust_grid_step_deg, flat, kept, seed_from, scored_from, scored, score_seed_pair, pair_sums, insert_seed_candidate}
 use Rattle.seed.specs.Seed.{second_harmonic, harmonic}

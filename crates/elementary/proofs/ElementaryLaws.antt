@@ -39,12 +39,9 @@ exp_neg_inside x = pick (lt x exp_least) (raised (capped (exp_wide x) one) nough
     pick true w h = record { low = refl; high = refl }
     pick false w h = h
 
-atan2_clamped : (y x : Float) → Inside (minus 0x4049_0fdb) pi (atan2 y x)
-unfolding atan2 lt neg of_bits
-atan2_clamped y x = clamped_inside (minus 0x4049_0fdb) pi refl refl refl (atan_wide y x)
-
 pub atan2_inside : (y x : Float) → Inside (minus 0x4049_0fdb) pi (atan2 y x)
-atan2_inside y x = atan2_clamped y x
+unfolding atan2 lt neg of_bits
+atan2_inside y x = clamped_inside (minus 0x4049_0fdb) pi refl refl refl (atan_wide y x)
 
 -- ---- ranges of a number: the results lie between the ends
 pub record Between (bottom top r : Float) : Type 0 where
@@ -96,7 +93,7 @@ exp_between x f q g = rw g (exp_neg_between x f q g)
 pub atan2_between : (y x : Float) → T (fits binary32 y) → T (fits binary32 x) → T (not (is_nan y)) → T (not (is_nan x)) →
     Between (minus 0x4049_0fdb) pi (atan2 y x)
 unfolding is_nan fits of_bits neg
-atan2_between y x f g n m = between (minus 0x4049_0fdb) pi tt tt tt tt (atan2 y x) held number (atan2_clamped y x)
+atan2_between y x f g n m = between (minus 0x4049_0fdb) pi tt tt tt tt (atan2 y x) held number (atan2_inside y x)
   where
     held : T (fits binary32 (atan2 y x))
     held = unfold atan2 in clamped_fits (atan_wide y x) pi (minus 0x4049_0fdb) (wide_fits y x) tt tt

@@ -1,0 +1,2 @@
+pub mod IterLaws
+pub mod TabLaws

@@ -1,0 +1,5 @@
+pub mod SoundLaws
+pub mod KnownLaws
+pub mod RecordLaws
+pub mod RobustLaws
+pub mod ResidualLaws

@@ -1,0 +1,3 @@
+pub mod SolverLaws
+pub mod SoundLaws
+pub mod RecordLaws

@@ -1,0 +1,2 @@
+pub mod StdErrorsLaws
+pub mod CappedLaws
