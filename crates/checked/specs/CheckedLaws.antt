@@ -139,7 +139,8 @@ moved_cons off x l = moved_append off (x ∷ []) l ∙ rw (alone x) (go (finite 
     go true = refl
     go false = let z : off + 0 ≡ off = omega arith in ap At z
 
-moved_step : (from to : ℕ) (a b : List Float) → from + length a ≡ to → moved from (first_wild (a ++ b)) ≡ shifted_by (first_wild a) from (moved to (first_wild b))
+moved_step : (from to : ℕ) (a b : List Float) → from + length a ≡ to →
+    moved from (first_wild (a ++ b)) ≡ shifted_by (first_wild a) from (moved to (first_wild b))
 moved_step from to a b e = rw e at (moved_append from a b)
 
 -- a ring's two lists, the first of n

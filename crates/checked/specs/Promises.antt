@@ -33,7 +33,7 @@ use Rattle.robust.specs.Record.{record_ring}
 use Rattle.robust.proofs.RecordLaws.{ring_rust, ring_dropped, OwnPass, ring_own}
 use Rattle.robust.proofs.KnownLaws.{StandsOn, ring_stands}
 use Rattle.robust.proofs.SoundLaws.{SoundRing, ring_sound}
-use Rattle.robust.specs.Residual.{MadeOf, half, Share}
+use Rattle.robust.specs.Residual.{MadeOf, half, Share, Tiny}
 use Rattle.robust.proofs.ResidualLaws.{ring_made, ring_tiny, finite_mean, ring_sum_upright, share_16, share_24}
 use Rattle.robust_choice.specs.declared.RingFit.{RingFit}
 use Rattle.score.specs.Score.{fit_std_errors, error_matrix, error_sum, fit_standing, widths_px}
@@ -260,6 +260,15 @@ module _ (tables : List Table) (held : TablesHeld tables) (n : ℕ) (samples ang
         of : (s : Source) → source ≡ s → StandsOn n s (without_mean the_fit.fit) the_fit.standing
         of s p = subst (λ (x : Source). StandsOn n x (without_mean the_fit.fit) the_fit.standing) p (ring_stands tables held n samples angles)
 
+    -- of a start that was not degenerate, whatever the order of the values in front of them
+    errors_are : (end : Final) → source ≡ of_pass end →
+        let a = axes_of end.p in
+        let e = axis_std_errors end.last.m end.last.ssr n in
+        (value 3 ≡ cond a.swapped e.error2 e.error1) × (value 4 ≡ cond a.swapped e.error1 e.error2)
+    errors_are end p =
+        let o = (subst (λ (x : Source). StandsOn n x (without_mean the_fit.fit) the_fit.standing) p (ring_stands tables held n samples angles)).0 in
+        rw values_are (o.first, o.second)
+
     -- Where they are known, each is an estimate, of the variance and of its own entry, capped at PI: one that is PI was PI or more.
     pub ring_estimated : n ≤ 2 ^ 24 → (k : RingKnown) →
         let v = residual_var k.end.last.ssr n in
@@ -270,9 +279,9 @@ module _ (tables : List Table) (held : TablesHeld tables) (n : ℕ) (samples ang
     ring_estimated few k =
         let end = k.end in
         let sum = ring_sum_upright tables held n samples angles end k.fitted k.errors.sum in
-        let words = ring_error_words.1 end k.fitted in
+        let words = errors_are end k.fitted in
         let e = ordered (axes_of end.p).swapped (known_estimated end.last.m end.last.ssr n sum.0 sum.1 few k.errors) in
-        (rw words.2 e.0, rw words.3 e.1)
+        (rw words.0 e.0, rw words.1 e.1)
       where
         ordered : {v c d x y : Float} (w : Bool) → Estimated v c x × Estimated v d y →
             Estimated v (cond w d c) (cond w y x) × Estimated v (cond w c d) (cond w x y)
@@ -307,23 +316,25 @@ module _ (tables : List Table) (held : TablesHeld tables) (n : ℕ) (samples ang
     ring_mean_finite share t =
         rw answered_is_the_fit.answer (finite_mean n share tables held samples angles samples_finite (rw values_are at t))
 
+    -- the sum of a residual of 0, as the law of robust has it
+    sum_tiny : Share n → eq (value 5) nought ≡ true → Tiny n (ring_sum tables n samples angles)
+    sum_tiny share z = ring_tiny n share tables held samples angles samples_finite (rw values_are at z)
+
     -- A residual of 0 is never a non-number in disguise: the sum of squares that the rms was made of is a number, not below 0, and at most half of n
     -- units of 2 ^ -149, the largest whose n-th part rounds to 0 (`Share n`). `ring_sum` is the sum of the answered start, and `ring_made` of robust's
     -- ResidualLaws says of every ring that the rms is the root of its n-th part, or, for a start that is refused, of the greater of that and 0.
     pub ring_zero : Share n → eq (value 5) nought ≡ true → SumTiny
-    ring_zero share z =
-        let t = ring_tiny n share tables held samples angles samples_finite (rw values_are at z) in
-        (t.number, t.above, t.small)
+    ring_zero share z = let t = sum_tiny share z in (t.number, t.above, t.small)
 
 -- of the two rings: the sum is at most 8 units of 16 samples, and 12 of 24
 module _ (tables : List Table) (held : TablesHeld tables) (samples angles : List Float) where
   pub ring_16_zero : (z : ring_number (checked_ring tables 16 samples angles) ≡ 0) → eq (value tables held 16 samples angles z 5) nought ≡ true
       → SumTiny tables held 16 samples angles
-  ring_16_zero z = ring_zero tables held 16 samples angles z share_16
+  ring_16_zero z e = let t = sum_tiny tables held 16 samples angles z share_16 e in (t.number, t.above, t.small)
 
   pub ring_24_zero : (z : ring_number (checked_ring tables 24 samples angles) ≡ 0) → eq (value tables held 24 samples angles z 5) nought ≡ true
       → SumTiny tables held 24 samples angles
-  ring_24_zero z = ring_zero tables held 24 samples angles z share_24
+  ring_24_zero z e = let t = sum_tiny tables held 24 samples angles z share_24 e in (t.number, t.above, t.small)
 
 -- ---- the disk
 module _ (D : DiskData) (base0 base1 : Float) where
@@ -349,7 +360,8 @@ module _ (D : DiskData) (base0 base1 : Float) where
     wrong_disk_value : (p : ℕ) → p < 3 + 5 * D.n → DiskSound → IsFirstWild disk_inputs_lem p → a ≡ Disks.Refused 3 p → DiskCase a
     no_fit : (t : ℕ) → DiskSound → AllFinite disk_inputs_lem → best_disk_fit D base0 base1 ≡ Missing t → a ≡ Disks.Refused 4 t → DiskCase a
     disk_answered_lem :
-        (f : Fit) (t : ℕ) → DiskSound → AllFinite disk_inputs_lem → best_disk_fit D base0 base1 ≡ Best f t → a ≡ Disks.Fitted (C.measured_of D f t) → DiskCase a
+        (f : Fit) (t : ℕ) → DiskSound → AllFinite disk_inputs_lem → best_disk_fit D base0 base1 ≡ Best f t →
+        a ≡ Disks.Fitted (C.measured_of D f t) → DiskCase a
 
   -- lengths that do not differ are the number of pixels, and the values are 3 + 5 n
   same : (x a b c d : Bool) → (x && (a && (b && (c && d)))) ≡ true → T x × T a × T b × T c × T d
@@ -401,7 +413,8 @@ module _ (D : DiskData) (base0 base1 : Float) where
       go (disk_answered_lem f u l c g e) = rw e (omega arith)
 
   -- number 3: the value at the place is not finite, all before it are, and the place is one of the 3 + 5 n
-  pub disk_wrong_value : disk_number disk_answer_lem ≡ 3 → IsFirstWild disk_inputs_lem (disk_place disk_answer_lem) × (disk_place disk_answer_lem < 3 + 5 * D.n)
+  pub disk_wrong_value : disk_number disk_answer_lem ≡ 3 →
+      IsFirstWild disk_inputs_lem (disk_place disk_answer_lem) × (disk_place disk_answer_lem < 3 + 5 * D.n)
   unfolding disk_number disk_place
   disk_wrong_value n = go disk_cases
     where

@@ -159,7 +159,7 @@ pub fn fit_ring_with(
 }
 
 // A disk's fit with the errors of its axes and their standing, and the number of trials.
-#[derive(Drop)]
+#[derive(Clone, Copy)]
 pub struct Measured {
     pub fit: Fit,
     pub estimate: Estimate,

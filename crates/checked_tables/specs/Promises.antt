@@ -42,16 +42,23 @@ module _ (words angles : Row) where
     no_room : length angles ≡ ring_samples → AllFinite angles → most_tables ≤ held_in words → r ≡ By 6 0 → TableCase r
     stored : length angles ≡ ring_samples → AllFinite angles → held_in words < most_tables → r ≡ Nothing → TableCase r
 
-  pub table_cases : TableCase refusal
-  unfolding table_refusal table_looked
-  table_cases = go (eqb (length angles) ring_samples) refl (first_wild angles) refl (ltb (held_in words) most_tables) refl
+  -- by a look at the angles that gives number 3 for a place and else asks for room
+  cases_of :
+      (look : Wild → Refusal) → ((i : ℕ) → look (Wilds.At i) ≡ By 3 i) →
+      look Wilds.Clean ≡ cond (ltb (held_in words) most_tables) Nothing (By 6 0) →
+      TableCase (cond (eqb (length angles) ring_samples) (look (first_wild angles)) (By 1 0))
+  cases_of look at clean = go (eqb (length angles) ring_samples) refl (first_wild angles) refl (ltb (held_in words) most_tables) refl
     where
       go : (x : Bool) → eqb (length angles) ring_samples ≡ x → (w : Wild) → first_wild angles ≡ w → (y : Bool) → ltb (held_in words) most_tables ≡ y
-          → TableCase (cond x (table_looked words w) (By 1 0))
+          → TableCase (cond x (look w) (By 1 0))
       go false p w e y q = wrong_angles (eqb-false _ _ p) refl
-      go true p (Wilds.At i) e y q = wild_angle i (eqb-true _ _ p) (wild_first angles i e) refl
-      go true p Wilds.Clean e true q = stored (eqb-true _ _ p) (clean_finite angles e) (ltb-true _ _ q) (rw q refl)
-      go true p Wilds.Clean e false q = no_room (eqb-true _ _ p) (clean_finite angles e) (ltb-false _ _ q) (rw q refl)
+      go true p (Wilds.At i) e y q = wild_angle i (eqb-true _ _ p) (wild_first angles i e) (at i)
+      go true p Wilds.Clean e true q = stored (eqb-true _ _ p) (clean_finite angles e) (ltb-true _ _ q) (rw (clean, q) refl)
+      go true p Wilds.Clean e false q = no_room (eqb-true _ _ p) (clean_finite angles e) (ltb-false _ _ q) (rw (clean, q) refl)
+
+  pub table_cases : TableCase refusal
+  unfolding table_refusal table_looked
+  table_cases = cases_of (table_looked words) (λ i. refl) refl
 
   -- a refused table changes no word
   pub refused_changes_nothing : (refusal_code refusal ≡ 0 → ⊥) → words_with words angles ≡ words
@@ -64,8 +71,8 @@ module _ (words angles : Row) where
   module _ (sized : length words ≡ state_size) where
     -- tables that are held stay word for word, refused or not
     pub tables_kept : (i : ℕ) → i < held_in words → table_part (words_with words angles) i ≡ table_part words i
-    unfolding words_after
-    tables_kept i h = go table_cases
+    unfolding words_after table_refusal table_looked
+    tables_kept i h = go (cases_of (table_looked words) (λ j. refl) refl)
       where
         go : TableCase refusal → table_part (words_with words angles) i ≡ table_part words i
         go (wrong_angles l e) = rw e refl
@@ -75,8 +82,8 @@ module _ (words angles : Row) where
 
     -- a table that is not refused stands behind those that are held
     pub table_stored : refusal_code refusal ≡ 0 → tables_in (words_with words angles) ≡ tables_in words ++ (table_of ring_samples angles ∷ [])
-    unfolding words_after
-    table_stored z = go table_cases
+    unfolding words_after table_refusal table_looked
+    table_stored z = go (cases_of (table_looked words) (λ i. refl) refl)
       where
         no : {A : Type 0} (m : ℕ) → refusal_code refusal ≡ suc m → A
         no m e = absurd (never (sym e ∙ z))
@@ -99,7 +106,8 @@ all_near zero ring_phi expected e i h = absurd (none h)
     none : i < 0 → ⊥
     none h = omega arith
 all_near (suc n) ring_phi expected e i h =
-    go (is_ring_phi n ring_phi expected) (angle_near (at ring_phi n) (at expected n)) refl refl e (all_near n ring_phi expected) (eq-or-lt_of_le (le_of_suc-le-suc h))
+    go (is_ring_phi n ring_phi expected) (angle_near (at ring_phi n) (at expected n)) refl refl e
+    (all_near n ring_phi expected) (eq-or-lt_of_le (le_of_suc-le-suc h))
   where
     go : (a b : Bool) → is_ring_phi n ring_phi expected ≡ a → angle_near (at ring_phi n) (at expected n) ≡ b → a && b ≡ true
         → (is_ring_phi n ring_phi expected ≡ true → (i : ℕ) → i < n → angle_near (at ring_phi i) (at expected i) ≡ true) → (i ≡ n) ⊎ (i < n)

@@ -102,14 +102,13 @@ pub rows_to_prove : (
     ∷ bytes "830000000000000000003fc90fdb40490fdb40490fdb0000000001000000"
     ∷ []
     )
-unfolding combine_edge_pair canonicalize_tracking_swap axes_settled placed wrap_to_tau arc rem_euclid valid_pair line_separation line_delta signed_line_delta abs
-    negative before max min sqrt root_units whole_root degenerate_fit iter range solve4x4 augmented larger pivot_row unusable reduced cleared clear top_row
-    columned stopped axis_error both_errors axis_std_errors standing_by both_standing standing
-    floor bin tab whole sin_rest cos_rest quadrant sin_cos_near turn sin_cos degenerate fit_with_seed record_with_seed degenerate_record
-    waved_by waves harmonic second_harmonic total deviations fit_is_suspicious record_ring wild_from first_wild checked_ring is_hex all_hex
-    byte_of word_of values_of byte_text count_text word_text words_text answer_of shape_of typed_shape ring_shape ring_text to_unsigned of_bits to_bits of_int add sub
-    mul div rem neg lt le eq is_nan round size to_radians ring_looked bytes codes zip_with
-    start ring
+unfolding combine_edge_pair canonicalize_tracking_swap axes_settled placed wrap_to_tau arc rem_euclid valid_pair line_separation line_delta
+    signed_line_delta abs negative before max min sqrt root_units whole_root degenerate_fit iter range solve4x4 augmented larger pivot_row unusable
+    reduced cleared clear top_row columned stopped axis_error both_errors axis_std_errors standing_by both_standing standing floor bin tab whole
+    sin_rest cos_rest quadrant sin_cos_near turn sin_cos degenerate fit_with_seed record_with_seed degenerate_record waved_by waves harmonic
+    second_harmonic total deviations fit_is_suspicious record_ring wild_from first_wild checked_ring is_hex all_hex byte_of word_of values_of
+    byte_text count_text word_text words_text answer_of shape_of typed_shape ring_shape ring_text to_unsigned of_bits to_bits of_int add sub mul div
+    rem neg lt le eq is_nan round size to_radians ring_looked bytes codes zip_with start ring
 rows_to_prove = refl
 
 -- the two pairs of the grid that stand at 12 degrees: both are allowed

@@ -14,7 +14,7 @@ use robust_choice::RingFit;
 use shapes::Shape;
 
 // What a line is answered: a ring's fit, with its type, or a disk's, or a refusal with its type, its number and its place.
-#[derive(Drop)]
+#[derive(Clone, Copy)]
 pub enum Answer {
     Ring(u8, RingFit),
     Sector(Measured),

@@ -15,7 +15,7 @@ pub enum Second {
 }
 
 // The fit that is answered with the standing of its errors, the number of starts, and the updates of each.
-#[derive(Drop)]
+#[derive(Clone, Copy)]
 pub struct RingFit {
     pub fit: TwoAxisFit,
     pub standing: Standing,
