@@ -43,7 +43,7 @@ fn line_told(text: &mut [u8], at: usize, number: u64, line: &[u8], sort: Sort, a
 }
 
 // How far the program is, the line above the next one, and how many lines there were.
-#[derive(Clone, Copy)]
+#[derive(Drop)]
 struct Explaining {
     state: State,
     above: Above,

@@ -11,6 +11,7 @@ use Rattle.checked.specs.Checked.{disk_place, disk_values, disk_counts, flag, fi
 use Rattle.seed_models.specs.Models.{Table}
 use Rattle.seed_models.specs.HeldLaws.{TablesHeld}
 use Rattle.robust.specs.Record.{record_ring}
+use Rattle.robust_choice.specs.declared.RingFit.{RingFit}
 use Rattle.score.specs.Score.{fit_standing}
 use Rattle.checked.specs.Promises.{answered_is_the_fit, answered_values, ring_bill, disk_answered_is_the_fit, disk_answered_values, disk_trials}
 use Rattle.checked.specs.declared.DiskAnswer.{DiskAnswer}
@@ -24,11 +25,13 @@ module _ (fit : List Float) (counts : List ℕ) where
   abbrev refusal : ℕ → Stored
   refusal c = record { code = c; fit = fit; counts = counts }
 
-  stored_keeps : (w : Form) (a : RingAnswer) → ((ring_stored w a fit counts).code ≡ 0 → ⊥)
-      → ring_stored w a fit counts ≡ refusal (ring_stored w a fit counts).code
-  unfolding ring_stored
-  stored_keeps w (Fitted r) h = absurd (h refl)
-  stored_keeps w (Refused number place) h = refl
+  -- of any way to store that gives 0 with a fit, and of a refusal its number and place with both buffers
+  stored_keeps :
+      (store : RingAnswer → Stored) → ((r : RingFit) → (store (Fitted r)).code ≡ 0) →
+      ((number place : ℕ) → store (Refused number place) ≡ refusal (number * 65536 + place)) →
+      (a : RingAnswer) → ((store a).code ≡ 0 → ⊥) → store a ≡ refusal (store a).code
+  stored_keeps store none kept (Fitted r) h = absurd (h (none r))
+  stored_keeps store none kept (Refused number place) h = rw (kept number place) refl
 
   short_keeps : (a b : Bool) (r : Stored) → ((r.code ≡ 0 → ⊥) → r ≡ refusal r.code) →
       let s = cond a (refusal 65536) (cond b (refusal 65536) r) in (s.code ≡ 0 → ⊥) → s ≡ refusal s.code
@@ -39,9 +42,10 @@ module _ (fit : List Float) (counts : List ℕ) where
   -- a call that returns anything but 0 leaves every byte of the fit and of the counts
   pub refused_keeps : (w : Form) (tables : List Table) (n : ℕ) (samples angles : List Float) →
       let s = ring_call w tables n samples angles fit counts in (s.code ≡ 0 → ⊥) → s ≡ refusal s.code
-  unfolding ring_call
+  unfolding ring_call ring_stored
   refused_keeps w tables n samples angles =
-      short_keeps (ltb (length fit) w.room) (ltb (length counts) 4) _ (stored_keeps w (checked_ring tables n samples angles))
+      short_keeps (ltb (length fit) w.room) (ltb (length counts) 4) (ring_stored w (checked_ring tables n samples angles) fit counts)
+      (stored_keeps (λ (a : RingAnswer). ring_stored w a fit counts) (λ r. refl) (λ number place. refl) (checked_ring tables n samples angles))
 
   disk_stored_keeps : (a : DiskAnswer) → ((disk_stored a fit counts).code ≡ 0 → ⊥) → disk_stored a fit counts ≡ refusal (disk_stored a fit counts).code
   unfolding disk_stored
@@ -147,7 +151,11 @@ module _ (fit : List Float) (counts : List ℕ) where
     -- the same of a disk: eleven values, the trials and known
     pub disk_written : 11 ≤ length fit → 2 ≤ length counts →
         disk_call D base0 base1 fit counts ≡
-        record { code = 0; fit = put_from (disk_values (checked_disk D base0 base1)) 0 fit; counts = put_from (disk_counts (checked_disk D base0 base1)) 0 counts }
+        record {
+          code = 0;
+          fit = put_from (disk_values (checked_disk D base0 base1)) 0 fit;
+          counts = put_from (disk_counts (checked_disk D base0 base1)) 0 counts;
+        }
     unfolding disk_call disk_stored
     disk_written f c =
         let a = disk_answered_is_the_fit D base0 base1 zero_number in

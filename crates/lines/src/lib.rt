@@ -26,7 +26,7 @@ pub struct Feed {
 }
 
 // A line, with its end and where the next one starts; more input is wanted; or the end.
-#[derive(Clone, Copy)]
+#[derive(Drop)]
 pub enum Found {
     Line(usize, usize),
     More,

@@ -1,0 +1,17 @@
+-- Both buffers are long enough, or nothing is touched. Assumes nothing.
+use Rattle.std.proofs.Common.{lt-ltb, le-ltb}
+use Rattle.jengubool.specs.Calls as J
+use Rattle.jengubool.proofs.jb_fit_ring24.Goals as goal
+
+pub returns-then-fit-lt6 : goal.returns-then-fit-lt6
+unfolding J.ring_call
+returns-then-fit-lt6 c = rw (lt-ltb _ _ c.if-fit-lt6.true)
+
+pub returns-then-counts-lt4 : goal.returns-then-counts-lt4
+unfolding J.ring_call
+returns-then-counts-lt4 c = rw (le-ltb _ _ c.if-fit-lt6.false, lt-ltb _ _ c.if-counts-lt4.true)
+
+pub returns : goal.returns
+unfolding J.ring_call
+returns c =
+    rw (le-ltb _ _ c.if-fit-lt6.false, le-ltb _ _ c.if-counts-lt4.false, ← c.fit_ring24.ensures) c.ring_stored.ensures
