@@ -2,6 +2,5 @@ pub mod Search
 pub mod Cache
 pub mod CacheLaws
 pub mod Bill
-pub mod BillLaws
 pub mod AnglesLaws
 pub mod SoundLaws

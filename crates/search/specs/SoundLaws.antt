@@ -18,7 +18,7 @@ use Rattle.score.specs.declared.Fit.{Fit}
 use Rattle.score.specs.declared.Scored.{Scored}
 use Rattle.score.specs.declared.Scored.TheVariants.{Found, Nothing}
 use Rattle.search_refine.specs.Refine.{offsets, neighbour, tried, best_after, refine_fit_cached}
-use Rattle.search_refine.specs.RefineLaws.{better_keeps}
+use Rattle.search_refine.proofs.RefineLaws.{better_keeps}
 use Rattle.search_refine.specs.declared.Offset.{Offset}
 use Rattle.search_refine.specs.declared.Refined.{Refined}
 use Rattle.search.specs.declared.Top.{Top}
@@ -28,7 +28,7 @@ use Rattle.search.specs.declared.DiskFit.TheVariants.{Best, Missing}
 use Rattle.search.specs.Search.{behind, insert_at, insert_top, entered, no_leaders, pair_scored, tried_at, tried_all}
 use Rattle.search.specs.Search.{lead, second_led, first_led, led, best_disk_fit}
 use Rattle.search.specs.Bill.{pairs_tried, trial, leaders_of}
-use Rattle.search.specs.BillLaws.{best_is_led}
+use Rattle.search.proofs.BillLaws.{best_is_led}
 use Rattle.search.specs.AnglesLaws.{candidates_fit}
 
 -- ---- what every answer has

@@ -1,7 +1,7 @@
 -- The search, and its errors or its trials; these are at most 96 where nothing is answered. Assumes nothing.
 use Rattle.std.proofs.Common.{sym, ap, ◌∙◌}
 use Rattle.checked.specs.CheckedLaws.{refused_place}
-use Rattle.search.specs.BillLaws.{missing_trials}
+use Rattle.search.proofs.BillLaws.{missing_trials}
 use Rattle.checked.specs.Checked as C
 use Rattle.checked.specs.declared.DiskAnswer.TheVariants.{Fitted}
 use Rattle.checked.proofs.disk_fitted.Goals as goal
