@@ -43,7 +43,7 @@ use Rattle.data.specs.Data.{DiskData, max_tanh_pixels}
 use Rattle.search.specs.Search.{best_disk_fit}
 use Rattle.search.specs.Bill.{trials_of, pairs_kept, leaders_kept, answered_trials}
 use Rattle.search.proofs.BillLaws.{disk_bill, disk_bill_most, leaders_are, missing_bill, missing_leaders}
-use Rattle.search.specs.SoundLaws.{search_sound, width_known}
+use Rattle.search.proofs.SoundLaws.{search_sound, width_known}
 use Rattle.search.specs.declared.DiskFit.{DiskFit}
 use Rattle.search.specs.declared.DiskFit.TheVariants.{Best, Missing}
 use Rattle.checked.specs.declared.Wild.{Wild}

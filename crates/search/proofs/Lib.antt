@@ -1,1 +1,2 @@
 pub mod BillLaws
+pub mod SoundLaws

@@ -3,4 +3,3 @@ pub mod Cache
 pub mod CacheLaws
 pub mod Bill
 pub mod AnglesLaws
-pub mod SoundLaws
