@@ -7,7 +7,7 @@ ghost use Rattle.std.specs.Prelude.{◌≡◌, ◌+◌, ◌<◌, length, get_or}
 ghost use Rattle.data.specs.Data.{lent_disk, DiskSized};
 ghost use Rattle.search_rows.specs.Rows.{SlotsKept, rows_room};
 ghost use Rattle.search_refine.specs.Refine as R;
-ghost use Rattle.search_refine.proofs.RefineLaws as L;
+ghost use Rattle.search_refine.specs.RefineLaws as L;
 
 use score::{Fit, Scored};
 use search_rows::Slots;

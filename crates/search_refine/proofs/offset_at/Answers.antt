@@ -1,5 +1,5 @@
 -- Two elements of the three offsets, by the place of t in the square: the law lists them all. Assumes nothing.
-use Rattle.search_refine.proofs.RefineLaws.{offset_at}
+use Rattle.search_refine.specs.RefineLaws.{offset_at}
 use Rattle.search_refine.proofs.offset_at.Goals as goal
 
 pub returns : goal.returns

@@ -84,16 +84,21 @@ better_keeps P (Found f) best h p = go (fit_is_better f best)
     go false = p
 
 -- so the best keeps its width
+better_width : (D : DiskData) (total : Float) (o : Offset) (best : Fit) → (better_of (neighbour D total o best) best).width ≡ best.width
+unfolding neighbour
+better_width D total o best = better_keeps (λ f. f.width ≡ best.width) _ best (λ f e. scored_width D _ _ _ _ _ _ f e) refl
+
 pub tried_width : (D : DiskData) (total : Float) (o : Offset) (best : Fit) → (tried D total o best).width ≡ best.width
-unfolding tried neighbour
-tried_width D total o best = better_keeps (λ f. f.width ≡ best.width) _ best (λ f e. scored_width D _ _ _ _ _ _ f e) refl
+unfolding tried
+tried_width D total o best = better_width D total o best
 
 -- and what is kept for the best's width stays so
 pub kept_on :
     {xs ys angles weights rows : Row} {slots : Slots} (D : DiskData) (total : Float) (o : Offset) (best next : Fit) →
     next ≡ tried D total o best → SlotsKept xs ys angles weights best.width slots rows → SlotsKept xs ys angles weights next.width slots rows
+unfolding tried
 kept_on {xs} {ys} {angles} {weights} {rows} {slots} D total o best next e h =
-    subst (λ (w : Float). SlotsKept xs ys angles weights w slots rows) (sym (ap (λ (f : Fit). f.width) e ∙ tried_width D total o best)) h
+    subst (λ (w : Float). SlotsKept xs ys angles weights w slots rows) (sym (ap (λ (f : Fit). f.width) e ∙ better_width D total o best)) h
 
 -- ---- the whole refinement
 -- 24 turns of the code, with the total of all weights
@@ -112,14 +117,6 @@ module _ (D : DiskData) (seed : Fit) where
   fold : ℕ → Fit
   fold k = iter (λ t. better_of (get_or (answers D seed) t Nothing)) seed k
 
-  fold_is : (k : ℕ) → k ≤ length offsets → best_after D seed k ≡ fold k
-  unfolding fold best_after answers tried iter
-  fold_is zero h = refl
-  fold_is (suc k) h =
-      let total = edge_weight_total D.n D.grad_weights in
-      let answer : ℕ → Scored = λ t. neighbour D total (get_or offsets t nowhere) (best_after D seed t) in
-      rw (tab_at answer Nothing (length offsets) k (omega arith)) (ap (better_of (answer k)) (fold_is k (omega arith)))
-
   answers_are : length (answers D seed) ≡ length offsets
   unfolding answers
   answers_are = tab_length _ (length offsets)
@@ -129,10 +126,22 @@ module _ (D : DiskData) (seed : Fit) where
       ≡ record { best = iter (λ t. better_of (get_or (answers D seed) t Nothing)) seed (length (answers D seed)); trials = length (answers D seed) }
   unfolding refine_fit_cached fold
   refine_is_fold = rw (answers_are) (rw (fold_is (length offsets) (omega arith)))
+    where
+      answer : ℕ → Scored
+      answer t = neighbour D (edge_weight_total D.n D.grad_weights) (get_or offsets t nowhere) (best_after D seed t)
+
+      next : (k : ℕ) → k < length offsets → best_after D seed k ≡ fold k → best_after D seed (suc k) ≡ fold (suc k)
+      next k h e =
+          unfold fold best_after answers tried iter in rw (tab_at answer Nothing (length offsets) k h) (ap (better_of (answer k)) e)
+
+      fold_is : (k : ℕ) → k ≤ length offsets → best_after D seed k ≡ fold k
+      fold_is zero h = unfold fold best_after iter in refl
+      fold_is (suc k) h = next k (omega arith) (fold_is k (omega arith))
 
   -- which are 24
   pub refine_trials : (refine_fit_cached D seed).trials ≡ 24
-  refine_trials = ap (λ (r : Refined). r.trials) refine_is_fold ∙ answers_are ∙ offsets_are
+  unfolding refine_fit_cached
+  refine_trials = offsets_are
 
 -- up to 320 pixels the Rust takes the cached path
 pub refine_fit_is :
