@@ -23,7 +23,7 @@ use Rattle.score.specs.Score.{widths_px, fit_is_better}
 use Rattle.score.specs.declared.Fit.{Fit}
 use Rattle.score.specs.declared.Scored.{Scored}
 use Rattle.score.specs.declared.Scored.TheVariants.{Found, Nothing}
-use Rattle.search_refine.specs.RefineLaws.{refine_trials}
+use Rattle.search_refine.proofs.TurnLaws.{refine_trials}
 use Rattle.search_refine.specs.declared.Refined.{Refined}
 use Rattle.search.specs.declared.Top.{Top}
 use Rattle.search.specs.declared.Leaders.{Leaders}

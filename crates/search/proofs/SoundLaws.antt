@@ -18,7 +18,7 @@ use Rattle.score.specs.declared.Fit.{Fit}
 use Rattle.score.specs.declared.Scored.{Scored}
 use Rattle.score.specs.declared.Scored.TheVariants.{Found, Nothing}
 use Rattle.search_refine.specs.Refine.{offsets, neighbour, tried, best_after, refine_fit_cached}
-use Rattle.search_refine.specs.RefineLaws.{better_keeps}
+use Rattle.search_refine.proofs.TurnLaws.{better_keeps}
 use Rattle.search_refine.specs.declared.Offset.{Offset}
 use Rattle.search_refine.specs.declared.Refined.{Refined}
 use Rattle.search.specs.declared.Top.{Top}

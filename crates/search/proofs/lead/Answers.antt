@@ -1,7 +1,7 @@
 -- A call and a test; a refinement makes 24 trials. Assumes nothing.
 use mathlib.Core.Path.{◌∙◌, ap}
 use native.Mathlib.Omega.{arith}
-use Rattle.search_refine.specs.RefineLaws.{refine_trials}
+use Rattle.search_refine.proofs.TurnLaws.{refine_trials}
 use Rattle.search_refine.specs.declared.Refined.{Refined}
 use Rattle.search.specs.Search as S
 use Rattle.search.proofs.lead.Goals as goal

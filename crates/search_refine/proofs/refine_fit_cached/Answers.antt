@@ -4,7 +4,7 @@ use native.Mathlib.Omega.{arith}
 use Rattle.loops.proofs.IterLaws.{iter_zero, iter_more}
 use Rattle.search_rows.specs.RowsLaws.{kept_none}
 use Rattle.search_refine.specs.Refine.{neighbours}
-use Rattle.search_refine.specs.RefineLaws.{refined_is}
+use Rattle.search_refine.proofs.TurnLaws.{refined_is}
 use borrow.Author.Rules.{rules}
 use Rattle.search_refine.proofs.refine_fit_cached.Goals as goal
 

@@ -3,7 +3,7 @@
 use mathlib.Core.Path.{◌∙◌, sym}
 use native.Mathlib.Omega.{arith}
 use Rattle.data.specs.Data.{disk_of}
-use Rattle.search_refine.specs.RefineLaws.{tried_held, kept_on}
+use Rattle.search_refine.proofs.TurnLaws.{tried_held, kept_on}
 use Rattle.search_refine.proofs.try_neighbour.Goals as goal
 
 pub hold-slots-requires : goal.hold-slots-requires
