@@ -1,1 +1,1 @@
-pub mod ElementaryLaws
+pub mod AtanLaws

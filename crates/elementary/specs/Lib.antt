@@ -3,4 +3,5 @@ pub mod SelectLaws
 pub mod SizeLaws
 pub mod NumberLaws
 pub mod TanhLaws
+pub mod ElementaryLaws
 pub mod PointLaws

@@ -12,7 +12,7 @@ use Rattle.elementary.specs.Elementary.{sin_cos_near, turn, sin_cos, sin, cos}
 use Rattle.elementary.specs.Elementary.{ratio, atan_rest, size, signed, octant, atan2}
 use Rattle.elementary.specs.SelectLaws.{Inside, clamped_inside, cond_number, clamped_number, clamped_fits}
 use Rattle.elementary.specs.TanhLaws.{tanh_number}
-use Rattle.elementary.specs.NumberLaws.{sin_cos_numbers, exp_wide, exp_number, atan_wide, atan2_number, wide_fits}
+use Rattle.elementary.specs.NumberLaws.{sin_cos_numbers, exp_wide, exp_number, atan_wide}
 
 -- ---- ranges that hold of a NaN too: the tests past the ends fail
 unit_inside : (y : Float) → Inside (minus 0x3f80_0000) one (unit y)
@@ -49,7 +49,7 @@ pub record Between (bottom top r : Float) : Type 0 where
   pub high : T (le r top)
 
 module _ (bottom top : Float) (p : T (fits binary32 bottom)) (q : T (fits binary32 top)) (n : T (not (is_nan bottom))) (m : T (not (is_nan top))) where
-  between : (r : Float) → T (fits binary32 r) → T (not (is_nan r)) → Inside bottom top r → Between bottom top r
+  pub between : (r : Float) → T (fits binary32 r) → T (not (is_nan r)) → Inside bottom top r → Between bottom top r
   between r f k h = record { low = le_of_not_lt binary32 r bottom f p k n h.low; high = le_of_not_lt binary32 top r q f m k h.high }
 
 unit_fits : (y : Float) → T (fits binary32 y) → T (fits binary32 (unit y))
@@ -89,17 +89,6 @@ exp_neg_between x f q g = between nought one tt tt tt tt (exp_neg x) held number
 pub exp_between : (x : Float) → T (fits binary32 x) → T (finite x) → lt nought x ≡ false → Between nought one (exp x)
 unfolding exp
 exp_between x f q g = rw g (exp_neg_between x f q g)
-
-pub atan2_between : (y x : Float) → T (fits binary32 y) → T (fits binary32 x) → T (not (is_nan y)) → T (not (is_nan x)) →
-    Between (minus 0x4049_0fdb) pi (atan2 y x)
-unfolding is_nan fits of_bits neg
-atan2_between y x f g n m = between (minus 0x4049_0fdb) pi tt tt tt tt (atan2 y x) held number (atan2_inside y x)
-  where
-    held : T (fits binary32 (atan2 y x))
-    held = unfold atan2 in clamped_fits (atan_wide y x) pi (minus 0x4049_0fdb) (wide_fits y x) tt tt
-
-    number : T (not (is_nan (atan2 y x)))
-    number = unfold atan2 in clamped_number (atan_wide y x) pi (minus 0x4049_0fdb) (atan2_number y x f g n m) tt tt
 
 -- ---- a NaN for a NaN
 pub sin_nan : sin nan ≡ nan
