@@ -5,7 +5,7 @@
 host_cc=(cc) host_cxx=(c++) host_run=()
 if [ "$(uname -m)" != x86_64 ]; then
     host_cc=(x86_64-linux-gnu-gcc) host_cxx=(x86_64-linux-gnu-g++ -static-libstdc++ -static-libgcc)
-    host_tools=$(dirname "$(dirname "$(readlink -f "$(command -v rt)")")")/on/$(uname -m)/toolchain
+    host_tools=$(dirname "$(dirname "$(readlink -f "$(command -v rt)")")")/toolchain
     host_run=("$host_tools/bin/qemu-x86_64" "$host_tools/lib/ld-linux-x86-64.so.2" --library-path "$host_tools/lib")
 fi
 
