@@ -8,7 +8,7 @@ ghost use Rattle.std.specs.Prelude.{◌≡◌, ◌+◌, ◌-◌, ◌≤◌, ◌<
 ghost use Rattle.lines.specs.Lines.{Filled, Front, begun, end_from, found_of, is_gone, kept_of, passed, FoundWithin};
 ghost use Rattle.lines.specs.Turns as T;
 
-use std::io::{Read, Write};
+use std::io::{ErrorKind, Read, Write};
 
 // The sizes of a program's buffers, for its input and its text.
 pub const INPUT: usize = 81920;
@@ -150,15 +150,32 @@ pub fn fill<R: Read>(reader: &mut R, buf: &mut [u8], f: Feed, limit: usize) -> F
     }
 }
 
-// The first `put` bytes of the text go to the output. A closed output loses them, and nothing else:
-// the program goes on to the end of its input.
-pub fn flush<W: Write>(writer: &mut W, text: &[u8], put: usize)
+// The first `put` bytes of the text go to the output. A write that fails loses them, and nothing else:
+// the program goes on to the end of its input. Whether somebody still takes the text: not once a pipe
+// is closed.
+pub fn flush<W: Write>(writer: &mut W, text: &[u8], put: usize) -> bool
     requires { put ≤ length text.now }
 {
     match writer.write_all(&text[..put]) {
-        Ok(()) => {}
-        Err(_) => {}
+        Ok(()) => true,
+        Err(e) => match e.kind() {
+            ErrorKind::BrokenPipe => false,
+            _ => true,
+        },
     }
+}
+
+// The next block, or, where nobody takes the text any more, the input's end: a closed pipe ends the
+// program, as the system's signal does where it is not held back.
+fn block<R: Read>(reader: &mut R, buf: &mut [u8], f: Feed, limit: usize, taken: bool) -> Feed
+    requires { (f.from ≤ f.total) × (f.total ≤ length buf.old) × (limit < length buf.old) }
+    ensures { (result.from ≤ result.total) × (result.total ≤ length buf.old) × Filled f limit buf.old buf.new result }
+{
+    if taken {
+        return fill(reader, buf, f, limit);
+    }
+    let mut nothing = std::io::empty();
+    fill(&mut nothing, buf, f, limit)
 }
 
 // A place with room for `need` more bytes: this one, or, once all that stands in the text has been
@@ -222,8 +239,8 @@ pub fn read_on<R: Read, W: Write>(
     ensures { T.StateKept result × T.Read s limit buf.old buf.new result }
 {
     let f = s.feed;
-    flush(writer, text, s.put);
-    let feed = fill(reader, buf, f, limit);
+    let taken = flush(writer, text, s.put);
+    let feed = block(reader, buf, f, limit, taken);
     State {
         feed,
         put: 0,
