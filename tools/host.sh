@@ -1,7 +1,7 @@
 # The library and the programs are for x86-64. Sourced by the host tests, at the repository's root: which compiler makes a
 # program for it (host_cc, host_cxx), what runs one (host_run), and whether Rust can link it (host_rust). On another
-# processor these are Debian's cross compiler (gcc-x86-64-linux-gnu) and the kit's emulator, loader and C library; rustc makes
-# programs of its own machine alone there, so what Rust links is not run.
+# processor these are Debian's cross compiler (gcc-x86-64-linux-gnu) and the kit's emulator, loader and C library, where a kit
+# brings them: today's is for x86-64 alone. rustc makes programs of its own machine alone there, so what Rust links is not run.
 host_cc=(cc) host_cxx=(c++) host_run=()
 if [ "$(uname -m)" != x86_64 ]; then
     host_cc=(x86_64-linux-gnu-gcc) host_cxx=(x86_64-linux-gnu-g++ -static-libstdc++ -static-libgcc)
