@@ -16,12 +16,10 @@ fn reduced(m: u64, k: u64) -> u64
     ensures { result ≡ m * 2 ^ k % 13176795 }
 {
     let mut n = m;
-    let mut j = k;
-    while j >= 32 {
+    for _ in 0..k / 32 {
         n = n * 4294967296 % 13176795;
-        j -= 32;
     }
-    (n << j) % 13176795
+    (n << (k % 32)) % 13176795
 }
 
 // One step of the remainders by PI (q is 0) or by TAU (q is 1), with the sign of x.
@@ -57,40 +55,54 @@ fn rem_far(x: f32, q: u32) -> f32
     reduced(m as u64, k as u64) as f32 * step(x, q)
 }
 
-pub fn rem_pi(x: f32) -> f32
-    ensures { result ≡ rem binary32 x pi }
+// PI or TAU.
+fn divisor(q: u32) -> f32
+    requires { q ≤ 1 }
+    ensures { result ≡ modulus q }
 {
-    if -floats::PI < x && x < floats::PI {
+    if q == 0 {
+        return floats::PI;
+    }
+    floats::TAU
+}
+
+// The remainder by PI (Q is 0) or by TAU (Q is 1).
+fn rem_by<const Q: u32>(x: f32) -> f32
+    requires { Q ≤ 1 }
+    ensures { result ≡ rem binary32 x (modulus Q) }
+{
+    let d = divisor(Q);
+    if -d < x && x < d {
         return x;
     }
-    rem_far(x, 0)
+    rem_far(x, Q)
+}
+
+fn rem_euclid_by<const Q: u32>(x: f32) -> f32
+    requires { Q ≤ 1 }
+    ensures { result ≡ rem_euclid binary32 x (modulus Q) }
+{
+    let r = rem_by::<Q>(x);
+    if r < 0.0 {
+        return r + divisor(Q);
+    }
+    r
 }
 
 pub fn rem_tau(x: f32) -> f32
     ensures { result ≡ rem binary32 x tau }
 {
-    if -floats::TAU < x && x < floats::TAU {
-        return x;
-    }
-    rem_far(x, 1)
+    rem_by::<1>(x)
 }
 
 pub fn rem_euclid_pi(x: f32) -> f32
     ensures { result ≡ rem_euclid binary32 x pi }
 {
-    let r = rem_pi(x);
-    if r < 0.0 {
-        return r + floats::PI;
-    }
-    r
+    rem_euclid_by::<0>(x)
 }
 
 pub fn rem_euclid_tau(x: f32) -> f32
     ensures { result ≡ rem_euclid binary32 x tau }
 {
-    let r = rem_tau(x);
-    if r < 0.0 {
-        return r + floats::TAU;
-    }
-    r
+    rem_euclid_by::<1>(x)
 }
