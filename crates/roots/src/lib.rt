@@ -34,6 +34,7 @@ fn square(s: u64) -> u64
 }
 
 // the whole number nearest to the root of n, from any guess g: the heart of the square root
+// The loops count nothing: they look for a number from where the guess is, and no iterator of std's stops there.
 fn nearest_root(n: u64, g: u64) -> u64
     requires { (1 ≤ n) × (n < 281474976710656) × (g ≤ 33554432) }
     ensures { (n ≤ result * result + result) × (result * result < n + result) }
@@ -89,13 +90,8 @@ fn root_small(t: u64) -> f32
     requires t_bound { t < 2 ^ 23 }
     ensures { result ≡ root_units binary32 (t * 2 ^ 149) }
 {
-    let mut m = t;
-    let mut i: u64 = 0;
-    while m < 8388608 {
-        m = m * 2;
-        i += 1;
-    }
-    root_parts(m, 149 - i)
+    let i = 23 - t.ilog2() as u64;
+    root_parts(t << i, 149 - i)
 }
 
 fn root_bits(b: u32) -> f32

@@ -1,6 +1,6 @@
 -- Multiples dropped on the way are multiples of the whole, so each turn keeps the remainder, and 24 digits moved up by fewer than 32 places fit.
 -- Assumes nothing.
-use Rattle.std.proofs.Common.{◌≡◌, ◌∙◌, ◌*◌, ◌+◌, ◌-◌, ◌/◌, ◌%◌, ◌^◌, ◌<◌, ◌≤◌, ℕ, sym, ap, arith, lit<, le_of_lt, lt_of_le_of_lt, mod-eq_of_lt, mul-le-mul, pow_mono}
+use Rattle.std.proofs.Common.{◌≡◌, ◌∙◌, ◌*◌, ◌+◌, ◌-◌, ◌%◌, ◌^◌, ◌<◌, ◌≤◌, ℕ, ap, arith, lit<, le_of_lt, lt_of_le_of_lt, mod-eq_of_lt, mul-le-mul, pow_mono}
 use Rattle.remainders.specs.RemainderLaws.{M, mod_part}
 use Rattle.remainders.proofs.reduced.Goals as goal
 
