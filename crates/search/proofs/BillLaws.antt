@@ -12,9 +12,8 @@ use Rattle.geometry.specs.Geometry.{valid_pair}
 use Rattle.loops.specs.Loops.{iter, range}
 use Rattle.loops.proofs.IterLaws.{range_start, iter_through}
 use Rattle.data.specs.Data.{DiskData}
-use Rattle.candidates.specs.Candidates.{no_pairs, pooled_pair, pooled_from, pooled, pair_score, build_pair_pool}
+use Rattle.candidates.specs.Candidates.{Forced, no_pairs, pooled_pair, pooled_from, pooled, pair_score, build_pair_pool}
 use Rattle.candidates.specs.declared.CandidateSet.{CandidateSet}
-use Rattle.candidates.specs.declared.Forced.{Forced}
 use Rattle.candidates.specs.declared.PairScore.{PairScore}
 use Rattle.candidates.specs.declared.Pool.{Pool}
 use Rattle.search_ranking.specs.Ranking.{max_top_pairs, ranked}
