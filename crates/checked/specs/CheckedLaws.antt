@@ -81,7 +81,7 @@ tested_append from to a b e = rw (wild_append a b, ← e) (go (first_wild a))
     go (Some i) = refl
     go None = ap values_test (moved_twice from (length a) (first_wild b))
 
-unmoved_test : (l : List Float) → values_test (first_wild l) ≡ values_from 0 l
+pub unmoved_test : (l : List Float) → values_test (first_wild l) ≡ values_from 0 l
 unmoved_test l = ap values_test (unmoved (first_wild l))
 
 -- a ring's two lists, the first of n
