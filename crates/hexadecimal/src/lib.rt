@@ -1,7 +1,8 @@
 // Hexadecimal digits, words and values: reading them from a slice, and writing them into a lent one.
 #![tactic(auto)]
 
-ghost use Rattle.std.specs.Prelude.{◌≡◌, ◌+◌, ◌*◌, ◌<◌, ◌≤◌, length};
+ghost use Rattle.std.specs.Prelude.{List, ℕ, ◌≡◌, ◌+◌, ◌*◌, ◌<◌, ◌≤◌, length};
+ghost use Rattle.loops.specs.Loops.{tab};
 ghost use Rattle.hexadecimal.specs.Hex.{is_hex, all_hex, digit_of, byte_of, word_of, word_list_of, value_of, values_of};
 ghost use Rattle.hexadecimal.specs.Hex.{hex_of, byte_text, count_text, word_text, words_text, put};
 
@@ -20,14 +21,13 @@ pub fn is_hex(b: u8) -> bool
     b < 103
 }
 
-// Whether every character of a line is a digit.
+// Whether every character of a line is a digit. No `all`: it ends early, and this loop, which does not, is vector code.
 pub fn all_hex(s: &[u8]) -> bool
     ensures { result ≡ all_hex s.now (length s.now) }
 {
-    let n = s.len();
     let mut ok = true;
-    for i in 0..n {
-        ok = ok & is_hex(s[i]);
+    for b in s {
+        ok = ok & is_hex(*b);
     }
     ok
 }
@@ -36,7 +36,7 @@ pub fn all_hex(s: &[u8]) -> bool
 fn digit(b: u8) -> u32
     ensures { (result < 16) × (result ≡ digit_of b) }
 {
-    let x = b as u32;
+    let x = u32::from(b);
     (x % 16 + 9 * (x / 64)) % 16
 }
 
@@ -67,16 +67,48 @@ pub fn value_at(s: &[u8], at: usize) -> f32
     floats::from_bits(word_at(s, at))
 }
 
-// The words from `at` on, as many as the buffer holds.
+// What eight digits are read as: a word, or the value whose bits it is.
+trait Spelt: Copy {
+    ghost spelt: { List ℕ → ℕ → Self };
+
+    fn spelt_at(s: &[u8], at: usize) -> Self
+        requires { at + 8 ≤ length s.now }
+        ensures { result ≡ spelt s.now at };
+}
+
+impl Spelt for u32 {
+    ghost spelt = { word_of };
+
+    fn spelt_at(s: &[u8], at: usize) -> u32 {
+        word_at(s, at)
+    }
+}
+
+impl Spelt for f32 {
+    ghost spelt = { value_of };
+
+    fn spelt_at(s: &[u8], at: usize) -> f32 {
+        value_at(s, at)
+    }
+}
+
+// What is spelt from `at` on, as much as the buffer holds.
+fn all_at<T: Spelt>(s: &[u8], at: usize, out: &mut [T])
+    requires { (length out.old < 4096) × (at + 8 * length out.old ≤ length s.now) }
+    ensures { out.new ≡ tab (λ k. T.spelt s.now (at + 8 * k)) (length out.old) }
+{
+    let n = out.len();
+    for k in 0..n {
+        out[k] = T::spelt_at(s, at + 8 * k);
+    }
+}
+
+// The words from `at` on.
 pub fn words(s: &[u8], at: usize, out: &mut [u32])
     requires { (length out.old < 4096) × (at + 8 * length out.old ≤ length s.now) }
     ensures { out.new ≡ word_list_of s.now at (length out.old) }
 {
-    let n = out.len();
-    for k in 0..n {
-        let p = at + 8 * k;
-        out[k] = word_at(s, p);
-    }
+    all_at(s, at, out);
 }
 
 // The values of those words.
@@ -84,15 +116,11 @@ pub fn values(s: &[u8], at: usize, out: &mut [f32])
     requires { (length out.old < 4096) × (at + 8 * length out.old ≤ length s.now) }
     ensures { out.new ≡ values_of s.now at (length out.old) }
 {
-    let n = out.len();
-    for k in 0..n {
-        let p = at + 8 * k;
-        out[k] = value_at(s, p);
-    }
+    all_at(s, at, out);
 }
 
 // The character of a digit.
-fn hex(n: u32) -> u8
+pub fn hex(n: u32) -> u8
     requires { n < 16 }
     ensures { result ≡ hex_of n }
 {
@@ -134,10 +162,7 @@ pub fn put_words(out: &mut [u8], at: usize, ws: &[u32])
     requires { (length ws.now < 4096) × (at + 8 * length ws.now ≤ length out.old) }
     ensures { out.new ≡ put out.old at (words_text ws.now (length ws.now)) }
 {
-    let n = ws.len();
-    for k in 0..n {
-        let p = at + 8 * k;
-        let w = ws[k];
-        put_word(out, p, w);
+    for (k, w) in ws.iter().enumerate() {
+        put_word(out, at + 8 * k, *w);
     }
 }

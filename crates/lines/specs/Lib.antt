@@ -1,4 +1,3 @@
 pub mod Lines
-pub mod LinesLaws
 pub mod Turns
 pub mod TurnsLaws

@@ -1,37 +1,38 @@
 -- Lines of a buffer. Definitions only.
-use Rattle.std.specs.Prelude.{Bool, false, cond, not, ◌||◌, ◌≡◌, List, ℕ, zero, suc, ◌+◌, ◌-◌, ◌≤◌, get_or, take, drop, eqb, ltb}
+use Rattle.std.specs.Prelude.{Bool, false, cond, not, ◌||◌, ◌≡◌, List, ℕ, ◌+◌, ◌-◌, ◌≤◌, take, drop, eqb, ltb, ◌==◌}
+use Rattle.std.specs.Prelude.{Option, Some, None, position, slice_range}
 use Rattle.lines.specs.declared.Feed.{Feed}
 use Rattle.lines.specs.declared.Found.{Found}
 use Rattle.lines.specs.declared.Found.TheVariants.{Line, More, Done}
 
--- the first line feed among `left` places from i on, or the place after them
-unfoldable pub end_from : List ℕ → ℕ → ℕ → ℕ
-end_from l zero i = i
-end_from l (suc left) i = cond (eqb (get_or l i 0) 10) i (end_from l left (i + 1))
+-- the first line feed of what is left, counted from its start
+abbrev pub end_of : List ℕ → Feed → Option ℕ
+end_of l f = position (λ b. b == 10) (slice_range l f.from f.total)
 
 -- a line feed ends a line, and the next one starts behind it; the input's end ends the last one, where there is any of it
-unfoldable pub found_of : List ℕ → Feed → Found
-unfolding end_from
-found_of l f =
-    let e = end_from l (f.total - f.from) f.from in
-    cond (ltb e f.total) (Line e (e + 1)) (cond (not f.ended) More (cond (ltb f.from f.total || f.skip) (Line f.total f.total) Done))
+abbrev pub found_at : Feed → Option ℕ → Found
+found_at f (Some k) = Line (f.from + k) (f.from + k + 1)
+found_at f None = cond (not f.ended) More (cond (ltb f.from f.total || f.skip) (Line f.total f.total) Done)
+
+abbrev pub found_of : List ℕ → Feed → Found
+found_of l f = found_at f (end_of l f)
 
 -- nothing read yet; and the line before a place answered
-unfoldable pub begun : Feed
+abbrev pub begun : Feed
 begun = record { from = 0; total = 0; skip = false; ended = false }
 
-unfoldable pub passed : Feed → ℕ → Feed
+abbrev pub passed : Feed → ℕ → Feed
 passed f at = record { from = at; total = f.total; skip = false; ended = f.ended }
 
 -- an unfinished line over the limit loses its start; of any other every byte is kept
-unfoldable pub is_gone : Feed → ℕ → Bool
+abbrev pub is_gone : Feed → ℕ → Bool
 is_gone f limit = f.skip || ltb limit (f.total - f.from)
 
-unfoldable pub kept_of : Feed → ℕ → ℕ
+abbrev pub kept_of : Feed → ℕ → ℕ
 kept_of f limit = cond (is_gone f limit) 0 (f.total - f.from)
 
 -- n bytes have come behind what is kept; none is the input's end
-unfoldable pub with_block : Feed → ℕ → ℕ → Feed
+abbrev pub with_block : Feed → ℕ → ℕ → Feed
 with_block f limit n = record { from = 0; total = kept_of f limit + n; skip = is_gone f limit; ended = eqb n 0 }
 
 -- the first n bytes of m are those of l from `from` on

@@ -4,8 +4,8 @@
 // a turn finds a line, asks `room` for its answer's place and calls `answered`, or reads on, or ends.
 #![tactic(auto)]
 
-ghost use Rattle.std.specs.Prelude.{◌≡◌, ◌+◌, ◌-◌, ◌≤◌, ◌<◌, length};
-ghost use Rattle.lines.specs.Lines.{Filled, Front, begun, end_from, found_of, is_gone, kept_of, passed, FoundWithin};
+ghost use Rattle.std.specs.Prelude.{◌≡◌, ◌+◌, ◌≤◌, ◌<◌, length, IfSome};
+ghost use Rattle.lines.specs.Lines.{Filled, Front, end_of, found_of, is_gone, kept_of, passed, FoundWithin};
 ghost use Rattle.lines.specs.Turns as T;
 
 use std::io::{ErrorKind, Read, Write};
@@ -16,8 +16,8 @@ pub const INPUT: usize = 81920;
 pub const OUTPUT: usize = 65536;
 
 // What is left of the buffer: the bytes from `from` up to `total`; whether the start of the line
-// there is gone; whether the input has ended.
-#[derive(Clone, Copy)]
+// there is gone; whether the input has ended. At first nothing is read.
+#[derive(Clone, Copy, Default)]
 pub struct Feed {
     pub from: usize,
     pub total: usize,
@@ -33,120 +33,75 @@ pub enum Found {
     Done,
 }
 
-pub fn start() -> Feed
-    ensures { (result.from ≡ 0) × (result.total ≡ 0) × (result ≡ begun) }
-{
-    Feed {
-        from: 0,
-        total: 0,
-        skip: false,
-        ended: false,
+impl Feed {
+    // Where the next line ends, counted from its start.
+    fn line_end(self, buf: &[u8]) -> Option<usize>
+        requires { (self.from ≤ self.total) × (self.total ≤ length buf.now) }
+        ensures same { result ≡ end_of buf.now self }
+        ensures within { IfSome result (λ k. self.from + k < self.total) }
+    {
+        buf[self.from..self.total].iter().position(|b| *b == b'\n')
     }
-}
 
-// Where the line that starts at `at` ends: its line feed, or `total` where it has none yet.
-pub fn line_end(s: &[u8], at: usize, total: usize) -> usize
-    requires { (at ≤ total) × (total ≤ length s.now) }
-    ensures { (at ≤ result) × (result ≤ total) × (result ≡ end_from s.now (total - at) at) }
-{
-    for i in at..total {
-        if s[i] == 10 {
-            return i;
+    // The next line of the buffer.
+    pub fn find(self, buf: &[u8]) -> Found
+        requires { (self.from ≤ self.total) × (self.total ≤ length buf.now) }
+        ensures { (result ≡ found_of buf.now self) × FoundWithin self result }
+    {
+        match self.line_end(buf) {
+            Some(k) => Found::Line(self.from + k, self.from + k + 1),
+            None if !self.ended => Found::More,
+            None if (self.from < self.total) | self.skip => Found::Line(self.total, self.total),
+            None => Found::Done,
         }
     }
-    total
-}
 
-// The next line of the buffer.
-pub fn find(buf: &[u8], f: Feed) -> Found
-    requires { (f.from ≤ f.total) × (f.total ≤ length buf.now) }
-    ensures { (result ≡ found_of buf.now f) × FoundWithin f result }
-{
-    let from = f.from;
-    let total = f.total;
-    let e = line_end(buf, from, total);
-    if e < total {
-        return Found::Line(e, e + 1);
+    // The line before `from` has been answered.
+    fn past(self, from: usize) -> Feed
+        requires { from ≤ self.total }
+        ensures { result ≡ passed self from }
+    {
+        Feed {
+            from,
+            skip: false,
+            ..self
+        }
     }
-    if !f.ended {
-        return Found::More;
-    }
-    if (from < total) | f.skip {
-        return Found::Line(total, total);
-    }
-    Found::Done
-}
 
-// The line before `from` has been answered.
-pub fn past(f: Feed, from: usize) -> Feed
-    requires { from ≤ f.total }
-    ensures { (result.from ≡ from) × (result.total ≡ f.total) × (result ≡ passed f from) }
-{
-    Feed {
-        from,
-        total: f.total,
-        skip: false,
-        ended: f.ended,
+    // Whether the unfinished line loses its start: it is over the limit, or its start is gone already.
+    fn gone(self, limit: usize) -> bool
+        requires { self.from ≤ self.total }
+        ensures { result ≡ is_gone self limit }
+    {
+        self.skip | (self.total - self.from > limit)
     }
-}
 
-// What is left goes to the front of the buffer.
-fn keep(buf: &mut [u8], at: usize, total: usize) -> usize
-    requires { (at ≤ total) × (total ≤ length buf.old) }
-    ensures { (result ≡ total - at) × Front (total - at) at buf.old buf.new }
-{
-    let n = total - at;
-    for i in 0..n {
-        let b = buf[at + i];
-        buf[i] = b;
+    // How much of the unfinished line is kept, at the front of the buffer: all of it, or nothing.
+    fn kept(self, buf: &mut [u8], limit: usize) -> usize
+        requires { (self.from ≤ self.total) × (self.total ≤ length buf.old) }
+        ensures { (result ≤ limit) × (result ≤ length buf.old) × (result ≡ kept_of self limit) × Front result self.from buf.old buf.new }
+    {
+        if self.gone(limit) {
+            return 0;
+        }
+        buf.copy_within(self.from..self.total, 0);
+        self.total - self.from
     }
-    n
-}
 
-// How much of the unfinished line is kept: all of it, or nothing where it is over the limit
-// already or its start is gone.
-fn kept(buf: &mut [u8], f: Feed, limit: usize) -> usize
-    requires { (f.from ≤ f.total) × (f.total ≤ length buf.old) }
-    ensures { (result ≤ limit) × (result ≤ length buf.old) × (result ≡ kept_of f limit) × Front result f.from buf.old buf.new }
-{
-    let from = f.from;
-    let total = f.total;
-    if f.skip {
-        return 0;
-    }
-    if total - from > limit {
-        return 0;
-    }
-    keep(buf, from, total)
-}
-
-fn gone(f: Feed, limit: usize) -> bool
-    requires { f.from ≤ f.total }
-    ensures { result ≡ is_gone f limit }
-{
-    if f.skip {
-        return true;
-    }
-    f.total - f.from > limit
-}
-
-// The next block of the input, behind what is kept. A read that fails is taken for the input's end.
-pub fn fill<R: Read>(reader: &mut R, buf: &mut [u8], f: Feed, limit: usize) -> Feed
-    requires { (f.from ≤ f.total) × (f.total ≤ length buf.old) × (limit < length buf.old) }
-    ensures { (result.from ≤ result.total) × (result.total ≤ length buf.old) × Filled f limit buf.old buf.new result }
-{
-    let skip = gone(f, limit);
-    let have = kept(buf, f, limit);
-    let part: &mut [u8] = &mut buf[have..];
-    let n = match reader.read(part) {
-        Ok(n) => n,
-        Err(_) => 0,
-    };
-    Feed {
-        from: 0,
-        total: have + n,
-        skip,
-        ended: n == 0,
+    // The next block of the input, behind what is kept. A read that fails is taken for the input's end.
+    pub fn fill<R: Read>(self, reader: &mut R, buf: &mut [u8], limit: usize) -> Feed
+        requires { (self.from ≤ self.total) × (self.total ≤ length buf.old) × (limit < length buf.old) }
+        ensures { (result.from ≤ result.total) × (result.total ≤ length buf.old) × Filled self limit buf.old buf.new result }
+    {
+        let skip = self.gone(limit);
+        let have = self.kept(buf, limit);
+        let n = reader.read(&mut buf[have..]).unwrap_or(0);
+        Feed {
+            from: 0,
+            total: have + n,
+            skip,
+            ended: n == 0,
+        }
     }
 }
 
@@ -158,37 +113,8 @@ pub fn flush<W: Write>(writer: &mut W, text: &[u8], put: usize) -> bool
 {
     match writer.write_all(&text[..put]) {
         Ok(()) => true,
-        Err(e) => match e.kind() {
-            ErrorKind::BrokenPipe => false,
-            _ => true,
-        },
+        Err(e) => e.kind() != ErrorKind::BrokenPipe,
     }
-}
-
-// The next block, or, where nobody takes the text any more, the input's end: a closed pipe ends the
-// program, as the system's signal does where it is not held back.
-fn block<R: Read>(reader: &mut R, buf: &mut [u8], f: Feed, limit: usize, taken: bool) -> Feed
-    requires { (f.from ≤ f.total) × (f.total ≤ length buf.old) × (limit < length buf.old) }
-    ensures { (result.from ≤ result.total) × (result.total ≤ length buf.old) × Filled f limit buf.old buf.new result }
-{
-    if taken {
-        return fill(reader, buf, f, limit);
-    }
-    let mut nothing = std::io::empty();
-    fill(&mut nothing, buf, f, limit)
-}
-
-// A place with room for `need` more bytes: this one, or, once all that stands in the text has been
-// written out, its start.
-pub fn room<W: Write>(writer: &mut W, text: &[u8], put: usize, need: usize) -> usize
-    requires { (put ≤ length text.now) × (need ≤ length text.now) × (length text.now < 1000000) }
-    ensures { (result + need ≤ length text.now) × (result ≡ T.room_of put need (length text.now)) }
-{
-    if put + need <= text.len() {
-        return put;
-    }
-    flush(writer, text, put);
-    0
 }
 
 // How far a program is: what is left of its input, up to where its text stands, and whether there is
@@ -200,64 +126,79 @@ pub struct State {
     pub more: bool,
 }
 
-pub fn begin() -> State
-    ensures { T.StateKept result × (result ≡ T.opening) }
-{
-    let feed = start();
-    State {
-        feed,
-        put: 0,
-        more: true,
+impl State {
+    pub fn begin() -> State
+        ensures { T.StateKept result × (result ≡ T.opening) }
+    {
+        State {
+            feed: Feed::default(),
+            put: 0,
+            more: true,
+        }
     }
-}
 
-// A line has been answered: the text stands up to `put`, and the next line starts at `from`.
-pub fn answered(s: State, from: usize, put: usize) -> State
-    requires { T.StateKept s × (from ≤ s.feed.total) × (put ≤ T.output) }
-    ensures { T.StateKept result × (result ≡ T.answered_of s from put) }
-{
-    let f = s.feed;
-    let feed = past(f, from);
-    State {
-        feed,
-        put,
-        more: true,
+    // A place with room for `need` more bytes: this one, or, once all that stands in the text has been
+    // written out, its start.
+    pub fn room<W: Write>(self, writer: &mut W, text: &[u8], need: usize) -> usize
+        requires { (self.put ≤ length text.now) × (need ≤ length text.now) × (length text.now < 1000000) }
+        ensures { (result + need ≤ length text.now) × (result ≡ T.room_of self.put need (length text.now)) }
+    {
+        let put = self.put;
+        if put + need <= text.len() {
+            return put;
+        }
+        flush(writer, text, put);
+        0
     }
-}
 
-// More input is wanted. What stands in the text is written out before the read, so that whoever waits
-// for an answer has it.
-pub fn read_on<R: Read, W: Write>(
-    reader: &mut R,
-    writer: &mut W,
-    buf: &mut [u8],
-    text: &[u8],
-    s: State,
-    limit: usize,
-) -> State
-    requires { T.StateKept s × (limit < T.input) × (length buf.old ≡ T.input) × (length text.now ≡ T.output) }
-    ensures { T.StateKept result × T.Read s limit buf.old buf.new result }
-{
-    let f = s.feed;
-    let taken = flush(writer, text, s.put);
-    let feed = block(reader, buf, f, limit, taken);
-    State {
-        feed,
-        put: 0,
-        more: true,
+    // A line has been answered: the text stands up to `put`, and the next line starts at `from`.
+    pub fn answered(self, from: usize, put: usize) -> State
+        requires { T.StateKept self × (from ≤ self.feed.total) × (put ≤ T.output) }
+        ensures { T.StateKept result × (result ≡ T.answered_of self from put) }
+    {
+        State {
+            feed: self.feed.past(from),
+            put,
+            more: true,
+        }
     }
-}
 
-// The input has ended, and what stands in the text is written out.
-pub fn finish<W: Write>(writer: &mut W, text: &[u8], s: State) -> State
-    requires { T.StateKept s × (length text.now ≡ T.output) }
-    ensures { T.StateKept result × (result ≡ T.closed s) }
-{
-    let feed = s.feed;
-    flush(writer, text, s.put);
-    State {
-        feed,
-        put: 0,
-        more: false,
+    // More input is wanted. What stands in the text is written out before the read, so that whoever waits
+    // for an answer has it. Where nobody takes the text any more, nothing is read, as at the input's end: a
+    // closed pipe ends the program, as the system's signal does where it is not held back.
+    pub fn read_on<R: Read, W: Write>(
+        self,
+        reader: &mut R,
+        writer: &mut W,
+        buf: &mut [u8],
+        text: &[u8],
+        limit: usize,
+    ) -> State
+        requires { T.StateKept self × (limit < T.input) × (length buf.old ≡ T.input) × (length text.now ≡ T.output) }
+        ensures { T.StateKept result × T.Read self limit buf.old buf.new result }
+    {
+        let feed = if flush(writer, text, self.put) {
+            self.feed.fill(reader, buf, limit)
+        } else {
+            self.feed.fill(&mut std::io::empty(), buf, limit)
+        };
+        State {
+            feed,
+            put: 0,
+            more: true,
+        }
+    }
+
+    // The input has ended, and what stands in the text is written out.
+    pub fn finish<W: Write>(self, writer: &mut W, text: &[u8]) -> State
+        requires { T.StateKept self × (length text.now ≡ T.output) }
+        ensures { T.StateKept result × (result ≡ T.closed self) }
+    {
+        flush(writer, text, self.put);
+        State {
+            put: 0,
+            more: false,
+            ..self
+        }
     }
 }

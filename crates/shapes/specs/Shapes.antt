@@ -1,7 +1,9 @@
 -- A frame's shape (docs/RULES.md, Frame lines): its type, length and characters, in the order of the refusals. Definitions only.
-use Rattle.std.specs.Prelude.{Bool, cond, not, ◌||◌, List, ◌≡◌, ℕ, ◌+◌, ◌*◌, ◌≤◌, length, T, ltb, eqb}
+use Rattle.std.specs.Prelude.{Bool, cond, not, ◌||◌, List, ◌≡◌, ℕ, ◌+◌, ◌*◌, ◌≤◌, length, ltb, eqb}
 use Rattle.data.specs.Data.{max_tanh_pixels}
 use Rattle.hexadecimal.specs.Hex.{all_hex, byte_of}
+use Rattle.shapes.specs.declared.RingKind.{RingKind}
+use Rattle.shapes.specs.declared.RingKind.TheVariants.{Sixteen, TwentyFour}
 use Rattle.shapes.specs.declared.Fault.TheVariants.{TooLong, Foreign, Short, RingLength, DiskShort, DiskLength}
 use Rattle.shapes.specs.declared.Shape.{Shape}
 use Rattle.shapes.specs.declared.Shape.TheVariants.{Ring, Disk, BadCount, OtherType, Malformed}
@@ -22,17 +24,16 @@ abbrev pub fit_length : Bool → ℕ
 fit_length disk = cond disk 98 60
 
 -- the samples of a ring: 16 of type 01, 24 of type 03
-abbrev pub samples_of : ℕ → ℕ
-samples_of kind = cond (eqb kind 3) 24 16
+abbrev pub samples_of : RingKind → ℕ
+samples_of Sixteen = 16
+samples_of TwentyFour = 24
 
-abbrev pub RingType : ℕ → Type 0
-RingType kind = T (eqb kind 1 || eqb kind 3)
+-- an answer's type is the frame's plus 80
+abbrev pub answer_type : RingKind → ℕ
+answer_type Sixteen = 0x81
+answer_type TwentyFour = 0x83
 
--- an answer's type is the frame's plus 80; ff, of a malformed line, stays
-abbrev pub answer_type : ℕ → ℕ
-answer_type kind = cond (ltb kind 128) (kind + 128) kind
-
-unfoldable pub ring_shape : List ℕ → ℕ → Shape
+unfoldable pub ring_shape : List ℕ → RingKind → Shape
 ring_shape l kind = cond (eqb (length l) (ring_length (samples_of kind))) (Ring kind) (Malformed (RingLength kind))
 
 -- a count of 0 or of too many is refused before the length is looked at
@@ -46,7 +47,7 @@ disk_shape l = cond (ltb (length l) 30) (Malformed DiskShort) (counted_shape (le
 unfoldable pub typed_shape : List ℕ → Shape
 typed_shape l =
     let kind = byte_of l 0 in
-    cond (eqb kind 1 || eqb kind 3) (ring_shape l kind) (cond (eqb kind 2) (disk_shape l) (OtherType kind))
+    cond (eqb kind 1) (ring_shape l Sixteen) (cond (eqb kind 3) (ring_shape l TwentyFour) (cond (eqb kind 2) (disk_shape l) (OtherType kind)))
 
 -- too long; a foreign character; under 2 characters; another type; and then by the type
 unfoldable pub shape_of : List ℕ → Shape
@@ -57,7 +58,7 @@ shape_of l =
 
 -- what a reader of the values relies on
 abbrev pub ShapeSized : ℕ → Shape → Type 0
-ShapeSized size (Ring kind) = RingType kind × (size ≡ ring_length (samples_of kind))
+ShapeSized size (Ring kind) = size ≡ ring_length (samples_of kind)
 ShapeSized size (Disk n) = (n ≤ max_tanh_pixels) × (size ≡ disk_length n)
 ShapeSized size (BadCount n) = 0 ≤ size
 ShapeSized size (OtherType kind) = 0 ≤ size

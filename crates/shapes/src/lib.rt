@@ -2,7 +2,7 @@
 // The order of the refusals is that of docs/RULES.md, Frame lines, and stands in specs/Shapes.antt.
 #![tactic(auto)]
 
-ghost use Rattle.std.specs.Prelude.{◌≡◌, ◌+◌, ◌≤◌, ◌<◌, length};
+ghost use Rattle.std.specs.Prelude.{◌≡◌, ◌≤◌, ◌<◌, length};
 ghost use Rattle.shapes.specs.Shapes as S;
 
 // A ring's line has its type, and two words for each sample, in characters.
@@ -18,55 +18,61 @@ pub const PIXEL: usize = 40;
 // The longest frame line: a disk of the most pixels.
 pub const LIMIT: usize = DISK_HEAD + PIXEL * data::MAX_TANH_PIXELS;
 
+// The two rings: 16 samples, of type 01, and 24, of type 03.
+#[derive(Clone, Copy, PartialEq, Eq)]
+pub enum RingKind {
+    Sixteen,
+    TwentyFour,
+}
+
+impl RingKind {
+    pub fn samples(self) -> usize
+        ensures { (result ≤ 24) × (result ≡ S.samples_of self) }
+    {
+        match self {
+            RingKind::Sixteen => 16,
+            RingKind::TwentyFour => 24,
+        }
+    }
+
+    // A frame is answered by its type plus 80.
+    pub fn answer_type(self) -> u8
+        ensures { (result ≤ 131) × (result ≡ S.answer_type self) }
+    {
+        match self {
+            RingKind::Sixteen => 129,
+            RingKind::TwentyFour => 131,
+        }
+    }
+}
+
 // What makes a line malformed: it is too long; it has a character that is no digit; it is too short for
 // a type; the length that its type, or its count of pixels, asks for.
-#[derive(Drop)]
+#[derive(Clone, Copy)]
 pub enum Fault {
     TooLong,
     Foreign,
     Short,
-    RingLength(u32),
+    RingLength(RingKind),
     DiskShort,
     DiskLength(u32),
 }
 
-// A ring of its type, a disk of so many pixels, a disk whose count is refused; a line of another type, which
-// is malformed too; or one that is malformed for a fault.
-#[derive(Drop)]
+// A ring, a disk of so many pixels, a disk whose count is refused; a line of another type, which is
+// malformed too; or one that is malformed for a fault.
+#[derive(Clone, Copy)]
 pub enum Shape {
-    Ring(u32),
+    Ring(RingKind),
     Disk(u32),
     BadCount(u32),
     OtherType(u32),
     Malformed(Fault),
 }
 
-// The samples of a ring: 16 of type 01, 24 of type 03.
-pub fn samples_of(kind: u32) -> usize
-    ensures { (result ≤ 24) × (result ≡ S.samples_of kind) }
-{
-    if kind == 3 {
-        return 24;
-    }
-    16
-}
-
-// A frame is answered by its type plus 80, and a malformed line by ff.
-pub fn answer_type(kind: u32) -> u32
-    ensures { (result ≡ S.answer_type kind) × (result ≤ 128 + kind) }
-{
-    if kind < 128 {
-        return kind + 128;
-    }
-    kind
-}
-
-fn ring_shape(line: &[u8], kind: u32) -> Shape
-    requires { S.RingType kind }
+fn ring_shape(line: &[u8], kind: RingKind) -> Shape
     ensures { (result ≡ S.ring_shape line.now kind) × S.ShapeSized (length line.now) result }
 {
-    let n = samples_of(kind);
-    if line.len() == RING_HEAD + SAMPLE * n {
+    if line.len() == RING_HEAD + SAMPLE * kind.samples() {
         return Shape::Ring(kind);
     }
     Shape::Malformed(Fault::RingLength(kind))
@@ -103,14 +109,12 @@ fn typed_shape(line: &[u8]) -> Shape
     requires { 2 ≤ length line.now }
     ensures { (result ≡ S.typed_shape line.now) × S.ShapeSized (length line.now) result }
 {
-    let kind = hexadecimal::byte_at(line, 0);
-    if kind == 1 || kind == 3 {
-        return ring_shape(line, kind);
+    match hexadecimal::byte_at(line, 0) {
+        1 => ring_shape(line, RingKind::Sixteen),
+        3 => ring_shape(line, RingKind::TwentyFour),
+        2 => disk_shape(line),
+        kind => Shape::OtherType(kind),
     }
-    if kind == 2 {
-        return disk_shape(line);
-    }
-    Shape::OtherType(kind)
 }
 
 pub fn shape_of(line: &[u8]) -> Shape

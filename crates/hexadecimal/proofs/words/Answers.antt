@@ -1,21 +1,7 @@
--- A loop of stores makes the list of its elements. Assumes nothing.
-use mathlib.Core.Path.{◌≡◌, ◌∙◌}
-use native.Mathlib.Omega.{arith}
-use lib.ListN.{length, length-set}
+-- The list of its elements is the definition's. Assumes nothing.
 use Rattle.hexadecimal.specs.Hex.{word_list_of}
-use Rattle.loops.proofs.TabLaws.{stored_all}
-use Rattle.loops.proofs.IterLaws.{iter_zero, iter_next}
-use borrow.Author.Rules.{rules}
 use Rattle.hexadecimal.proofs.words.Goals as goal
-
-pub loop-k-init : goal.loop-k-init
-loop-k-init c = (search rules, search rules, rw iter_zero)
-
-pub loop-k-preserved : goal.loop-k-preserved
-loop-k-preserved c = (search rules, simp length-set (search rules), rw iter_next (cc))
 
 pub returns : goal.returns
 unfolding word_list_of
-returns c =
-    let h : c.loop-k.k ≡ length c.args.out.now = omega arith in
-    rw h at c.loop-k.invariant.2 ∙ stored_all _ _ 0
+returns c = c.all_at.ensures

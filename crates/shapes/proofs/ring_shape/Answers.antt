@@ -4,12 +4,12 @@ use borrow.Author.Tests.{eq-eqb, ne_eqb}
 use borrow.Author.Rules.{rules}
 use Rattle.shapes.proofs.ring_shape.Goals as goal
 
-pub returns-then-line-n : goal.returns-then-line-n
+pub returns-then-line-samples : goal.returns-then-line-samples
 unfolding S.ring_shape
-returns-then-line-n c =
-    let n = c.samples_of-n.ensures.1 in
-    (rw (← n, eq-eqb _ _ c.if-line-n.true), (c.requires, rw (← n) c.if-line-n.true))
+returns-then-line-samples c =
+    let n = c.samples.ensures.1 in
+    (rw (← n, eq-eqb _ _ c.if-line-samples.true), rw (← n) c.if-line-samples.true)
 
 pub returns : goal.returns
 unfolding S.ring_shape
-returns c = (rw (← c.samples_of-n.ensures.1, ne_eqb _ _ c.if-line-n.false), search rules)
+returns c = (rw (← c.samples.ensures.1, ne_eqb _ _ c.if-line-samples.false), search rules)
