@@ -2,7 +2,7 @@
 // are not finite are refused by number and place; everything else is fitted.
 #![tactic(auto)]
 
-ghost use Rattle.std.specs.Prelude.{◌≡◌, [], ◌<◌, ◌≤◌, length, Float};
+ghost use Rattle.std.specs.Prelude.{◌≡◌, [], ◌≤◌, length, Float};
 ghost use Rattle.solver.specs.Buffers.{max_samples};
 ghost use Rattle.data.specs.Data.{lent_disk, OfPixels, DiskSized, max_tanh_pixels};
 ghost use Rattle.seed_models.specs.Words.{tables_in};
