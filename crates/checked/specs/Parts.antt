@@ -1,6 +1,6 @@
 -- What the contracts of crates/checked speak of besides the definitions: how the code tests values one list after the other, and what it learns of a
 -- ring before the fit. Definitions only.
-use Rattle.std.specs.Prelude.{◌≡◌, Bool, true, not, ◌&&◌, fold, position, List, ℕ, ◌+◌, length, Float, Option, Some, None, Result, Ok, Err}
+use Rattle.std.specs.Prelude.{T, eqb, ◌||◌, ◌≡◌, Bool, true, not, ◌&&◌, fold, position, List, ℕ, ◌+◌, length, Float, Option, Some, None, Result, Ok, Err}
 use Rattle.std.specs.Float.Ieee.Scale.{finite}
 use Rattle.seed_models.specs.Models.{Table}
 use Rattle.robust.specs.Record.{record_ring}
@@ -41,6 +41,10 @@ values_from from l = values_test (moved from (first_wild l))
 abbrev pub tested : Test → Test → Test
 tested (Err e) next = Err e
 tested (Ok u) next = next
+
+-- how many samples a ring may have
+abbrev pub RingSize : ℕ → Type 0
+RingSize n = T (eqb n 16 || eqb n 24)
 
 -- a ring of n samples that is refused is answered so; of any other both lengths are n, and its fit is the answer
 abbrev pub RingTested : ℕ → List Float → List Float → Test → Type 0

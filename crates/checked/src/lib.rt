@@ -97,20 +97,16 @@ fn check_ring(n: usize, samples: &[f32], angles: &[f32]) -> Result<(), Refusal>
     check_values(angles, n as u16)
 }
 
-// The ring entry: any two slices.
-pub fn fit_ring(samples: &[f32], angles: &[f32]) -> Result<RingFit, Refusal>
-    ensures { result ≡ C.checked_ring [] 16 samples.now angles.now }
+// The ring entry: any two slices, for a ring of N samples.
+pub fn fit_ring<const N: usize>(samples: &[f32], angles: &[f32]) -> Result<RingFit, Refusal>
+    requires { P.RingSize N }
+    ensures { result ≡ C.checked_ring [] N samples.now angles.now }
 {
-    check_ring(16, samples, angles)?;
+    check_ring(N, samples, angles)?;
+    if N == 24 {
+        return Ok(robust::fit_ring24(samples, angles));
+    }
     Ok(robust::fit_ring(samples, angles))
-}
-
-// The same of 24 samples.
-pub fn fit_ring24(samples: &[f32], angles: &[f32]) -> Result<RingFit, Refusal>
-    ensures { result ≡ C.checked_ring [] 24 samples.now angles.now }
-{
-    check_ring(24, samples, angles)?;
-    Ok(robust::fit_ring24(samples, angles))
 }
 
 // A ring with the tables that the words hold, whatever they are.

@@ -14,8 +14,6 @@ use Rattle.loops.specs.Loops.{iter}
 use Rattle.seed_models.specs.Models.{Table, table_of, table_at, angle_near, is_ring_phi, first_from, first_table}
 use Rattle.seed_models.specs.Words.{ring_samples, state_size, most_tables, held_in, table_part, tables_in}
 use Rattle.seed_models.specs.WordLaws.{stored_keeps, stored_tables}
-use Rattle.seed_models.specs.declared.Matched.{Matched}
-use Rattle.seed_models.specs.declared.Matched.TheVariants.{At, Missing}
 use Rattle.robust.specs.Robust.{robust_grid_fit, grid_seed, ring}
 use Rattle.robust.specs.Record.{record_ring}
 use Rattle.checked.specs.declared.Refusal.TheVariants.{WrongLength, NotFinite, TablesFull}
@@ -119,9 +117,9 @@ near_all zero ring_phi expected h = refl
 near_all (suc n) ring_phi expected h = rw (near_all n ring_phi expected (λ i l. h i (omega arith)), h n (omega arith)) refl
 
 -- of a search from i up to k: the first that passes
-abbrev FirstOf : (ℕ → Bool) → ℕ → ℕ → Matched → Type 0
-FirstOf p i k (At t) = (p t ≡ true) × (t < k) × ((s : ℕ) → i ≤ s → s < t → p s ≡ false)
-FirstOf p i k Missing = (s : ℕ) → i ≤ s → s < k → p s ≡ false
+abbrev FirstOf : (ℕ → Bool) → ℕ → ℕ → Option ℕ → Type 0
+FirstOf p i k (Some t) = (p t ≡ true) × (t < k) × ((s : ℕ) → i ≤ s → s < t → p s ≡ false)
+FirstOf p i k None = (s : ℕ) → i ≤ s → s < k → p s ≡ false
 
 first_says : (p : ℕ → Bool) (left i : ℕ) → FirstOf p i (i + left) (first_from p left i)
 unfolding first_from
@@ -138,13 +136,13 @@ first_says p (suc left) i = go (p i) refl (first_from p left (i + 1)) (first_say
         split (inl q) = rw (← q) e
         split (inr l) = later (omega arith)
 
-    go : (b : Bool) → p i ≡ b → (w : Matched) → FirstOf p (i + 1) (i + 1 + left) w → FirstOf p i (i + suc left) (cond b (At i) w)
+    go : (b : Bool) → p i ≡ b → (w : Option ℕ) → FirstOf p (i + 1) (i + 1 + left) w → FirstOf p i (i + suc left) (cond b (Some i) w)
     go true e w h = (e, omega arith, λ s l m. absurd (never s l m))
       where
         never : (s : ℕ) → i ≤ s → s < i → ⊥
         never s l m = omega arith
-    go false e (At t) h = (h.0, omega (arith, h.1), λ s l m. here s e (λ k. h.2 s k m) l)
-    go false e Missing h = λ s l m. here s e (λ k. h s k (omega arith)) l
+    go false e (Some t) h = (h.0, omega (arith, h.1), λ s l m. here s e (λ k. h.2 s k m) l)
+    go false e None h = λ s l m. here s e (λ k. h s k (omega arith)) l
 
 -- the table that is used is the first of those that are held whose angles are all within 1e-6 of the ring's; where none is used each has an angle that is not
 module _ (tables : List Table) (angles : Row) where
@@ -154,9 +152,9 @@ module _ (tables : List Table) (angles : Row) where
   abbrev NearTo : ℕ → Type 0
   NearTo t = (i : ℕ) → i < ring_samples → angle_near (at angles i) (at (table_at tables t).angles i) ≡ true
 
-  abbrev pub Used : Matched → Type 0
-  Used (At t) = (t < length tables) × NearTo t × ((s : ℕ) → s < t → NearTo s → ⊥)
-  Used Missing = (s : ℕ) → s < length tables → NearTo s → ⊥
+  abbrev pub Used : Option ℕ → Type 0
+  Used (Some t) = (t < length tables) × NearTo t × ((s : ℕ) → s < t → NearTo s → ⊥)
+  Used None = (s : ℕ) → s < length tables → NearTo s → ⊥
 
   pub table_used : Used (first_table ring_samples tables angles)
   unfolding first_table
@@ -165,17 +163,17 @@ module _ (tables : List Table) (angles : Row) where
       far : (s : ℕ) → is_near_to s ≡ false → NearTo s → ⊥
       far s e h = true≢false (sym (near_all ring_samples angles _ h) ∙ e)
 
-      go : (w : Matched) → FirstOf is_near_to 0 (0 + length tables) w → Used w
-      go (At t) h = (omega (arith, h.1), all_near ring_samples angles _ h.0, λ s l. far s (h.2 s (omega arith) l))
-      go Missing h = λ s l. far s (h s (omega arith) (omega arith))
+      go : (w : Option ℕ) → FirstOf is_near_to 0 (0 + length tables) w → Used w
+      go (Some t) h = (omega (arith, h.1), all_near ring_samples angles _ h.0, λ s l. far s (h.2 s (omega arith) l))
+      go None h = λ s l. far s (h s (omega arith) (omega arith))
 
-record_direct : (tables : List Table) (n : ℕ) (samples angles : Row) → first_table n tables angles ≡ Missing
+record_direct : (tables : List Table) (n : ℕ) (samples angles : Row) → first_table n tables angles ≡ None
     → record_ring tables n samples angles ≡ record_ring [] n samples angles
 unfolding record_ring ring robust_grid_fit grid_seed first_table first_from
 record_direct tables n samples angles e = rw e refl
 
 -- where no table is near, and so where none is held, the answer is that of the direct way
-pub direct_without : (tables : List Table) (n : ℕ) (samples angles : Row) → first_table n tables angles ≡ Missing
+pub direct_without : (tables : List Table) (n : ℕ) (samples angles : Row) → first_table n tables angles ≡ None
     → checked_ring tables n samples angles ≡ checked_ring [] n samples angles
 unfolding checked_ring ring_looked
 direct_without tables n samples angles e =

@@ -6,6 +6,7 @@ ghost use Rattle.data.specs.Data.{max_tanh_pixels};
 ghost use Rattle.hexadecimal.specs.Hex.{put, Written};
 ghost use Rattle.shapes.specs.Shapes.{ring_length, samples_of};
 ghost use Rattle.checked.specs.Checked.{checked_disk, fit_counts};
+ghost use Rattle.checked.specs.Parts.{RingSize};
 ghost use Rattle.frames.specs.Frames as F;
 ghost use Rattle.frames.specs.RunsLaws.{disk_of_runs};
 
@@ -59,28 +60,16 @@ impl LineRefusal {
     }
 }
 
-// The samples and the angles of a ring of 16, behind the type.
-fn ring_line(line: &[u8]) -> Result<RingFit, Refusal>
-    requires { length line.now ≡ ring_length 16 }
-    ensures { result ≡ F.ring_of_line line.now 16 }
+// The N samples and the N angles of a ring, behind the type.
+fn ring_line<const N: usize>(line: &[u8]) -> Result<RingFit, Refusal>
+    requires { RingSize N × (length line.now ≡ ring_length N) }
+    ensures { result ≡ F.ring_of_line line.now N }
 {
-    let mut samples = [0.0f32; 16];
-    let mut angles = [0.0f32; 16];
+    let mut samples = [0.0f32; N];
+    let mut angles = [0.0f32; N];
     hexadecimal::values(line, 2, &mut samples);
-    hexadecimal::values(line, 130, &mut angles);
-    checked::fit_ring(&samples, &angles)
-}
-
-// The same of 24.
-fn ring24_line(line: &[u8]) -> Result<RingFit, Refusal>
-    requires { length line.now ≡ ring_length 24 }
-    ensures { result ≡ F.ring_of_line line.now 24 }
-{
-    let mut samples = [0.0f32; 24];
-    let mut angles = [0.0f32; 24];
-    hexadecimal::values(line, 2, &mut samples);
-    hexadecimal::values(line, 194, &mut angles);
-    checked::fit_ring24(&samples, &angles)
+    hexadecimal::values(line, 2 + 8 * N, &mut angles);
+    checked::fit_ring::<N>(&samples, &angles)
 }
 
 fn typed_ring(line: &[u8], kind: RingKind) -> Result<FrameFit, LineRefusal>
@@ -88,8 +77,8 @@ fn typed_ring(line: &[u8], kind: RingKind) -> Result<FrameFit, LineRefusal>
     ensures { result ≡ F.ring_answer line.now kind }
 {
     let fit = match kind {
-        RingKind::Sixteen => ring_line(line),
-        RingKind::TwentyFour => ring24_line(line),
+        RingKind::Sixteen => ring_line::<16>(line),
+        RingKind::TwentyFour => ring_line::<24>(line),
     };
     fit.map(|r| FrameFit::Ring(kind, r))
         .map_err(|e| LineRefusal::Ring(kind, e))

@@ -6,6 +6,7 @@ ghost use Rattle.std.specs.Prelude.{◌≡◌, ◌≤◌, ◌||◌, [], map, len
 ghost use Rattle.std.specs.Float.{binary32};
 ghost use Rattle.data.specs.Data.{lent_disk};
 ghost use Rattle.checked.specs.Checked.{record_values, fit_counts, measured_values, measured_counts};
+ghost use Rattle.checked.specs.Parts.{RingSize};
 ghost use Rattle.checked_tables.specs.Tables.{refusal_code, table_refusal, words_with};
 ghost use Rattle.seed_models.specs.Words as W;
 ghost use Rattle.frames.specs.Frames as F;
@@ -143,7 +144,23 @@ fn ring_stored<const V: usize>(
     }
 }
 
-// The value call of the ring: any four slices.
+// The value call of a ring of N samples, of whose fit the first V values are written: any four slices.
+fn ring_call<const N: usize, const V: usize>(
+    samples: &[f32],
+    angles: &[f32],
+    fit: &mut [f32],
+    counts: &mut [u32],
+) -> u32
+    requires { RingSize N × (V ≤ 7) }
+    ensures { ◌≡◌ {A = J.Stored} (record { code = result; fit = fit.new; counts = counts.new })
+        (J.ring_call (J.first_values V) [] N samples.now angles.now fit.old counts.old) }
+{
+    if is_short(fit, V, counts, 4) {
+        return code(Refusal::WrongLength);
+    }
+    ring_stored::<V>(checked::fit_ring::<N>(samples, angles), fit, counts)
+}
+
 #[unsafe(no_mangle)]
 pub extern "C" fn jb_fit_ring(
     samples: &[f32],
@@ -154,13 +171,9 @@ pub extern "C" fn jb_fit_ring(
     ensures { ◌≡◌ {A = J.Stored} (record { code = result; fit = fit.new; counts = counts.new })
         (J.ring_call J.the_six [] 16 samples.now angles.now fit.old counts.old) }
 {
-    if is_short(fit, 6, counts, 4) {
-        return code(Refusal::WrongLength);
-    }
-    ring_stored::<6>(checked::fit_ring(samples, angles), fit, counts)
+    ring_call::<16, 6>(samples, angles, fit, counts)
 }
 
-// The same of the ring of 24 samples.
 #[unsafe(no_mangle)]
 pub extern "C" fn jb_fit_ring24(
     samples: &[f32],
@@ -171,10 +184,7 @@ pub extern "C" fn jb_fit_ring24(
     ensures { ◌≡◌ {A = J.Stored} (record { code = result; fit = fit.new; counts = counts.new })
         (J.ring_call J.the_six [] 24 samples.now angles.now fit.old counts.old) }
 {
-    if is_short(fit, 6, counts, 4) {
-        return code(Refusal::WrongLength);
-    }
-    ring_stored::<6>(checked::fit_ring24(samples, angles), fit, counts)
+    ring_call::<24, 6>(samples, angles, fit, counts)
 }
 
 // The ring's answer with its mean, of 16 samples or of 24: any four slices.
@@ -189,13 +199,10 @@ pub extern "C" fn jb_ring_record(
         (J.ring_call J.the_record [] (J.ring_size samples.now) samples.now angles.now
         fit.old counts.old) }
 {
-    if is_short(fit, 7, counts, 4) {
-        return code(Refusal::WrongLength);
-    }
     if samples.len() == 24 {
-        return ring_stored::<7>(checked::fit_ring24(samples, angles), fit, counts);
+        return ring_call::<24, 7>(samples, angles, fit, counts);
     }
-    ring_stored::<7>(checked::fit_ring(samples, angles), fit, counts)
+    ring_call::<16, 7>(samples, angles, fit, counts)
 }
 
 // Words that hold no table, whatever they held.
