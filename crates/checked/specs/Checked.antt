@@ -1,5 +1,6 @@
 -- The checked entries (docs/RULES.md, Refusals): what is refused by number and place, and what is answered. Definitions only.
 use Rattle.std.specs.Prelude.{Bool, cond, ◌&&◌, ◌||◌, List, [], ◌∷◌, ◌++◌, ℕ, zero, suc, ◌+◌, length, get_or, eqb, ltb, Float}
+use Rattle.std.specs.Prelude.{Option, Some, None, Result, Ok, Err}
 use Rattle.std.specs.Float.{nan}
 use Rattle.std.specs.Float.Ieee.Scale.{finite}
 use Rattle.seed_models.specs.Models.{Table}
@@ -14,20 +15,38 @@ use Rattle.data.specs.Data.{DiskData, max_tanh_pixels}
 use Rattle.search.specs.Search.{best_disk_fit}
 use Rattle.search.specs.declared.DiskFit.{DiskFit}
 use Rattle.search.specs.declared.DiskFit.TheVariants.{Best, Missing}
-use Rattle.checked.specs.declared.Wild.{Wild}
-use Rattle.checked.specs.declared.Wild.TheVariants.{At, Clean}
 use Rattle.checked.specs.declared.Measured.{Measured}
-use Rattle.checked.specs.declared.DiskAnswer.{DiskAnswer}
-use Rattle.checked.specs.declared.DiskAnswer.TheVariants as Disks
-use Rattle.checked.specs.declared.RingAnswer.{RingAnswer}
-use Rattle.checked.specs.declared.RingAnswer.TheVariants.{Fitted, Refused}
+use Rattle.checked.specs.declared.Refusal.{Refusal}
+use Rattle.checked.specs.declared.Refusal.TheVariants.{WrongLength, PixelCount, NotFinite, NothingFound, TablesFull}
+
+-- ---- the number and the place of each refusal (docs/RULES.md, Refusals)
+abbrev pub number_of : Refusal → ℕ
+number_of WrongLength = 1
+number_of PixelCount = 2
+number_of (NotFinite place) = 3
+number_of (NothingFound trials) = 4
+number_of TablesFull = 6
+
+abbrev pub place_of : Refusal → ℕ
+place_of WrongLength = 0
+place_of PixelCount = 0
+place_of (NotFinite place) = place
+place_of (NothingFound trials) = trials
+place_of TablesFull = 0
+
+-- what the entries answer: a fit, or why there is none
+abbrev pub RingAnswer : Type 0
+RingAnswer = Result RingFit Refusal
+
+abbrev pub DiskAnswer : Type 0
+DiskAnswer = Result Measured Refusal
 
 -- the first of `left` places from i on whose value is not finite
-unfoldable pub wild_from : List Float → ℕ → ℕ → Wild
-wild_from l zero i = Clean
-wild_from l (suc left) i = cond (finite (get_or l i nan)) (wild_from l left (i + 1)) (At i)
+unfoldable pub wild_from : List Float → ℕ → ℕ → Option ℕ
+wild_from l zero i = None
+wild_from l (suc left) i = cond (finite (get_or l i nan)) (wild_from l left (i + 1)) (Some i)
 
-unfoldable pub first_wild : List Float → Wild
+unfoldable pub first_wild : List Float → Option ℕ
 first_wild l = wild_from l (length l) 0
 
 -- ---- the ring of n samples: 1 for a length that is not n, then 3 for the first value that is not finite. `tables` are the tables of seed models that are
@@ -36,9 +55,9 @@ first_wild l = wild_from l (length l) 0
 abbrev pub ring_inputs : List Float → List Float → List Float
 ring_inputs samples angles = samples ++ angles
 
-unfoldable pub ring_looked : List Table → ℕ → List Float → List Float → Wild → RingAnswer
-ring_looked tables n samples angles Clean = Fitted (record_ring tables n samples angles)
-ring_looked tables n samples angles (At i) = Refused 3 i
+unfoldable pub ring_looked : List Table → ℕ → List Float → List Float → Option ℕ → RingAnswer
+ring_looked tables n samples angles None = Ok (record_ring tables n samples angles)
+ring_looked tables n samples angles (Some i) = Err (NotFinite i)
 
 -- the two slices are as long as the ring has samples
 abbrev pub ring_sized : ℕ → List Float → List Float → Bool
@@ -48,16 +67,16 @@ unfoldable pub checked_ring : List Table → ℕ → List Float → List Float �
 checked_ring tables n samples angles =
     cond (ring_sized n samples angles)
     (ring_looked tables n samples angles (first_wild (ring_inputs samples angles)))
-    (Refused 1 0)
+    (Err WrongLength)
 
 -- ---- number, place and values of each case (docs/RULES.md, Refusals)
 unfoldable pub ring_number : RingAnswer → ℕ
-ring_number (Fitted r) = 0
-ring_number (Refused number place) = number
+ring_number (Ok r) = 0
+ring_number (Err e) = number_of e
 
 unfoldable pub ring_place : RingAnswer → ℕ
-ring_place (Fitted r) = 0
-ring_place (Refused number place) = place
+ring_place (Ok r) = 0
+ring_place (Err e) = place_of e
 
 -- amp, theta1, theta2, both errors, rms: the order of a ring's values stands here alone
 abbrev pub fit_values : RustFit → List Float
@@ -65,16 +84,16 @@ fit_values f = f.amp ∷ f.theta1 ∷ f.theta2 ∷ f.fit_std_error_theta1 ∷ f.
 
 -- nothing of a refusal
 unfoldable pub ring_values : RingAnswer → List Float
-ring_values (Fitted r) = fit_values (without_mean r.fit)
-ring_values (Refused number place) = []
+ring_values (Ok r) = fit_values (without_mean r.fit)
+ring_values (Err e) = []
 
 -- the record: those six, and the mean
 abbrev pub record_values : TwoAxisFit → List Float
 record_values f = fit_values (without_mean f) ++ (f.mean ∷ [])
 
 unfoldable pub ring_record : RingAnswer → List Float
-ring_record (Fitted r) = record_values r.fit
-ring_record (Refused number place) = []
+ring_record (Ok r) = record_values r.fit
+ring_record (Err e) = []
 
 -- starts, updates of the first and of the second start, known
 abbrev pub flag : Bool → ℕ
@@ -84,8 +103,8 @@ abbrev pub fit_counts : RingFit → List ℕ
 fit_counts r = r.starts ∷ r.first ∷ r.second ∷ flag r.standing.known ∷ []
 
 unfoldable pub ring_counts : RingAnswer → List ℕ
-ring_counts (Fitted r) = fit_counts r
-ring_counts (Refused number place) = []
+ring_counts (Ok r) = fit_counts r
+ring_counts (Err e) = []
 
 -- ---- the disk: 2 for the number of pixels, 1 for lengths that differ, 3 for the first value that is not finite, 4 where the search answers nothing
 -- the values in the order of their places
@@ -98,15 +117,15 @@ measured_of D f trials = record { fit = f; estimate = fit_estimate D f; trials =
 
 -- or that there is none after so many trials
 unfoldable pub disk_measured : DiskData → DiskFit → DiskAnswer
-disk_measured D (Missing trials) = Disks.Refused 4 trials
-disk_measured D (Best f trials) = Disks.Fitted (measured_of D f trials)
+disk_measured D (Missing trials) = Err (NothingFound trials)
+disk_measured D (Best f trials) = Ok (measured_of D f trials)
 
 unfoldable pub disk_fitted : DiskData → Float → Float → DiskAnswer
 disk_fitted D base0 base1 = disk_measured D (best_disk_fit D base0 base1)
 
-unfoldable pub disk_looked : DiskData → Float → Float → Wild → DiskAnswer
-disk_looked D base0 base1 (At i) = Disks.Refused 3 i
-disk_looked D base0 base1 Clean = disk_fitted D base0 base1
+unfoldable pub disk_looked : DiskData → Float → Float → Option ℕ → DiskAnswer
+disk_looked D base0 base1 (Some i) = Err (NotFinite i)
+disk_looked D base0 base1 None = disk_fitted D base0 base1
 
 -- the number of pixels is the length of xs, and the other four are as long
 unfoldable pub same_lengths : DiskData → Bool
@@ -116,18 +135,18 @@ same_lengths D =
 
 unfoldable pub checked_disk : DiskData → Float → Float → DiskAnswer
 checked_disk D base0 base1 =
-    cond (eqb D.n 0 || ltb max_tanh_pixels D.n) (Disks.Refused 2 0)
+    cond (eqb D.n 0 || ltb max_tanh_pixels D.n) (Err PixelCount)
     (cond (same_lengths D)
     (disk_looked D base0 base1 (first_wild (disk_inputs D base0 base1)))
-    (Disks.Refused 1 0))
+    (Err WrongLength))
 
 unfoldable pub disk_number : DiskAnswer → ℕ
-disk_number (Disks.Fitted m) = 0
-disk_number (Disks.Refused number place) = number
+disk_number (Ok m) = 0
+disk_number (Err e) = number_of e
 
 unfoldable pub disk_place : DiskAnswer → ℕ
-disk_place (Disks.Fitted m) = 0
-disk_place (Disks.Refused number place) = place
+disk_place (Ok m) = 0
+disk_place (Err e) = place_of e
 
 -- theta1, theta2, width, amp, rms, rel_rms, corr, edge_score, objective, both errors: the order of a disk's values stands here alone
 abbrev pub measured_values : Measured → List Float
@@ -136,13 +155,13 @@ measured_values m =
     m.fit.objective ∷ m.estimate.errors.error1 ∷ m.estimate.errors.error2 ∷ []
 
 unfoldable pub disk_values : DiskAnswer → List Float
-disk_values (Disks.Fitted m) = measured_values m
-disk_values (Disks.Refused number place) = []
+disk_values (Ok m) = measured_values m
+disk_values (Err e) = []
 
 -- trials, known
 abbrev pub measured_counts : Measured → List ℕ
 measured_counts m = m.trials ∷ flag m.estimate.standing.known ∷ []
 
 unfoldable pub disk_counts : DiskAnswer → List ℕ
-disk_counts (Disks.Fitted m) = measured_counts m
-disk_counts (Disks.Refused number place) = []
+disk_counts (Ok m) = measured_counts m
+disk_counts (Err e) = []

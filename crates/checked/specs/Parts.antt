@@ -1,41 +1,53 @@
--- What the contracts of crates/checked speak of besides the definitions: how the code looks for the first value that is not finite, and what it
--- learns of a ring before the fit. Definitions only.
-use Rattle.std.specs.Prelude.{◌≡◌, Bool, true, false, cond, List, ℕ, ◌+◌, ◌<◌, ◌≤◌, length, get_or, Float}
-use Rattle.std.specs.Float.{nan}
+-- What the contracts of crates/checked speak of besides the definitions: how the code tests values one list after the other, and what it learns of a
+-- ring before the fit. Definitions only.
+use Rattle.std.specs.Prelude.{T, eqb, ◌||◌, ◌≡◌, Bool, true, not, ◌&&◌, fold, position, List, ℕ, ◌+◌, length, Float, Option, Some, None, Result, Ok, Err}
 use Rattle.std.specs.Float.Ieee.Scale.{finite}
-use Rattle.loops.specs.Loops.{iter}
 use Rattle.seed_models.specs.Models.{Table}
 use Rattle.robust.specs.Record.{record_ring}
 use Rattle.checked.specs.declared.Refusal.{Refusal}
-use Rattle.checked.specs.declared.Refusal.TheVariants.{By, Nothing}
-use Rattle.checked.specs.declared.RingAnswer.TheVariants.{Fitted, Refused}
-use Rattle.checked.specs.Checked.{checked_ring}
-use Rattle.checked.specs.declared.Wild.{Wild}
-use Rattle.checked.specs.declared.Wild.TheVariants.{At, Clean}
+use Rattle.checked.specs.declared.Refusal.TheVariants.{NotFinite}
+use Rattle.checked.specs.Checked.{first_wild, checked_ring}
 
 -- whether all values are finite, told without their places
-abbrev pub still_fine : Float → Bool → Bool
-still_fine x fine = cond (finite x) fine false
+abbrev pub still_fine : Bool → Float → Bool
+still_fine fine x = finite x && fine
 
-unfoldable pub all_finite : List Float → Bool
-all_finite l = iter (λ i. still_fine (get_or l i nan)) true (length l)
+abbrev pub all_finite : List Float → Bool
+all_finite l = fold still_fine true l
 
--- a place that is found is one of the values
-abbrev pub Below : ℕ → Wild → Type 0
-Below n (At i) = i < n
-Below n Clean = 0 ≤ n
+-- the place of the first that is not, as std's search finds it
+abbrev pub wild_position : List Float → Option ℕ
+wild_position = position (λ x. not (finite x))
 
--- a place of a list that stands `off` places behind the start, or what comes later
-abbrev pub shifted_by : Wild → ℕ → Wild → Wild
-shifted_by (At i) off next = At (off + i)
-shifted_by Clean off next = next
+-- a place of a list that stands `from` places behind the start
+abbrev pub moved : ℕ → Option ℕ → Option ℕ
+moved from (Some i) = Some (from + i)
+moved from None = None
 
--- a lone value at its place
-abbrev pub lone_at : Float → ℕ → Wild → Wild
-lone_at x place next = cond (finite x) next (At place)
+-- what a test answers: nothing, or why a call is refused
+abbrev pub Test : Type 0
+Test = Result (Unit {0}) Refusal
+
+-- of the first value that is not finite, if there is one
+abbrev pub values_test : Option ℕ → Test
+values_test None = Ok tt
+values_test (Some i) = Err (NotFinite i)
+
+-- of a list whose places count from `from`
+abbrev pub values_from : ℕ → List Float → Test
+values_from from l = values_test (moved from (first_wild l))
+
+-- one test, and then another
+abbrev pub tested : Test → Test → Test
+tested (Err e) next = Err e
+tested (Ok u) next = next
+
+-- how many samples a ring may have
+abbrev pub RingSize : ℕ → Type 0
+RingSize n = T (eqb n 16 || eqb n 24)
 
 -- a ring of n samples that is refused is answered so; of any other both lengths are n, and its fit is the answer
-abbrev pub RingRefusal : ℕ → List Float → List Float → Refusal → Type 0
-RingRefusal n samples angles (By number place) = (tables : List Table) → Refused number place ≡ checked_ring tables n samples angles
-RingRefusal n samples angles Nothing =
-    (length samples ≡ n) × (length angles ≡ n) × ((tables : List Table) → Fitted (record_ring tables n samples angles) ≡ checked_ring tables n samples angles)
+abbrev pub RingTested : ℕ → List Float → List Float → Test → Type 0
+RingTested n samples angles (Err e) = (tables : List Table) → Err e ≡ checked_ring tables n samples angles
+RingTested n samples angles (Ok u) =
+    (length samples ≡ n) × (length angles ≡ n) × ((tables : List Table) → Ok (record_ring tables n samples angles) ≡ checked_ring tables n samples angles)

@@ -1,6 +1,7 @@
 -- What the checked entries promise, for every list of values, non-numbers included: exactly when each number is given, and what an answer's values
 -- and counts keep to. `checked_ring` and `checked_disk` are the answers' definitions: the contracts of `checked::fit_ring` and `checked::fit_disk` say
 -- that the code's answers equal them. A promise speaks of the paper's number, place, values and counts of an answer (Checked.antt). Assumes nothing.
+use Rattle.std.specs.Prelude.{Option, Some, None, Ok, Err}
 use Rattle.std.specs.Prelude.{◌≡◌, cond, not, ◌&&◌, ◌||◌, ℕ, ◌+◌, ◌*◌, ◌^◌, ◌≤◌, ◌<◌, min, get_or}
 use Rattle.std.proofs.Math.Path.{refl, ap}
 use Rattle.std.proofs.Common.{sym, subst, ◌∙◌, true≢false, arith, ltb-false}
@@ -46,14 +47,10 @@ use Rattle.search.proofs.BillLaws.{disk_bill, disk_bill_most, leaders_are, missi
 use Rattle.search.proofs.SoundLaws.{search_sound, width_known}
 use Rattle.search.specs.declared.DiskFit.{DiskFit}
 use Rattle.search.specs.declared.DiskFit.TheVariants.{Best, Missing}
-use Rattle.checked.specs.declared.Wild.{Wild}
-use Rattle.checked.specs.declared.Wild.TheVariants.{At, Clean}
 use Rattle.checked.specs.declared.Measured.{Measured}
-use Rattle.checked.specs.declared.DiskAnswer.{DiskAnswer}
-use Rattle.checked.specs.declared.DiskAnswer.TheVariants as Disks
-use Rattle.checked.specs.declared.RingAnswer.{RingAnswer}
-use Rattle.checked.specs.declared.RingAnswer.TheVariants.{Fitted, Refused}
+use Rattle.checked.specs.declared.Refusal.TheVariants.{WrongLength, PixelCount, NotFinite, NothingFound}
 use Rattle.checked.specs.Checked as C
+use Rattle.checked.specs.Checked.{RingAnswer, DiskAnswer}
 use Rattle.checked.specs.Checked.{first_wild, ring_inputs, checked_ring, ring_number, ring_place, ring_values, ring_record, ring_counts}
 use Rattle.checked.specs.Checked.{disk_inputs, checked_disk, disk_number, disk_place, disk_values, disk_counts}
 use Rattle.checked.specs.CheckedLaws.{IsFirstWild, wild_first, clean_finite}
@@ -81,9 +78,9 @@ module _ (tables : List Table) (held : TablesHeld tables) (n : ℕ) (samples ang
   -- exactly when each answer is given: 1 for a length that is not n; 3, with both lengths n, for a value that is not finite, at the first such
   -- place; a fit where all 2 n values are finite
   pub data RingCase (a : RingAnswer) : Type 0 where
-    wrong_length : C.ring_sized n samples angles ≡ false → a ≡ Refused 1 0 → RingCase a
-    wrong_value : (p : ℕ) → (C.ring_sized n samples angles ≡ true) × (p < 2 * n) → IsFirstWild inputs p → a ≡ Refused 3 p → RingCase a
-    answered : length samples ≡ n → length inputs ≡ 2 * n → AllFinite inputs → a ≡ Fitted (record_ring tables n samples angles) → RingCase a
+    wrong_length : C.ring_sized n samples angles ≡ false → a ≡ Err WrongLength → RingCase a
+    wrong_value : (p : ℕ) → (C.ring_sized n samples angles ≡ true) × (p < 2 * n) → IsFirstWild inputs p → a ≡ Err (NotFinite p) → RingCase a
+    answered : length samples ≡ n → length inputs ≡ 2 * n → AllFinite inputs → a ≡ Ok (record_ring tables n samples angles) → RingCase a
 
   pub ring_cases : RingCase answer
   unfolding checked_ring C.ring_looked
@@ -95,10 +92,10 @@ module _ (tables : List Table) (held : TablesHeld tables) (n : ℕ) (samples ang
       total : eqb (length samples) n ≡ true → eqb (length angles) n ≡ true → length inputs ≡ 2 * n
       total p q = length-append samples angles ∙ omega (arith, sized samples p, sized angles q)
 
-      go : (x y : Bool) → eqb (length samples) n ≡ x → eqb (length angles) n ≡ y → (w : Wild) → first_wild inputs ≡ w →
-          RingCase (cond (x && y) (C.ring_looked tables n samples angles w) (Refused 1 0))
-      go true true p q Clean e = answered (sized samples p) (total p q) (clean_finite inputs e) refl
-      go true true p q (At i) e = let f = wild_first inputs i e in wrong_value i (rw (p, q) refl, omega (arith, f.inside, total p q)) f refl
+      go : (x y : Bool) → eqb (length samples) n ≡ x → eqb (length angles) n ≡ y → (w : Option ℕ) → first_wild inputs ≡ w →
+          RingCase (cond (x && y) (C.ring_looked tables n samples angles w) (Err WrongLength))
+      go true true p q None e = answered (sized samples p) (total p q) (clean_finite inputs e) refl
+      go true true p q (Some i) e = let f = wild_first inputs i e in wrong_value i (rw (p, q) refl, omega (arith, f.inside, total p q)) f refl
       go true false p q w e = wrong_length (rw (p, q) refl) refl
       go false y p q w e = wrong_length (rw p refl) refl
 
@@ -158,7 +155,7 @@ module _ (tables : List Table) (held : TablesHeld tables) (n : ℕ) (samples ang
     pub sized : length samples ≡ n
     pub length : length inputs ≡ 2 * n
     pub finite : AllFinite inputs
-    pub answer : checked_ring tables n samples angles ≡ Fitted (record_ring tables n samples angles)
+    pub answer : checked_ring tables n samples angles ≡ Ok (record_ring tables n samples angles)
 
   module _ (zero_number : ring_number answer ≡ 0) where
     pub answered_is_the_fit : RingFitted
@@ -355,13 +352,13 @@ module _ (D : DiskData) (base0 base1 : Float) where
   -- exactly when each answer is given: 2 for the number of pixels, then 1 for lengths that differ, 3 for a value that is not finite, at the first
   -- such place, 4 where the search answers nothing, at the number of its trials; else its fit
   pub data DiskCase (a : DiskAnswer) : Type 0 where
-    wrong_count : (eqb D.n 0 || ltb max_tanh_pixels D.n) ≡ true → a ≡ Disks.Refused 2 0 → DiskCase a
-    wrong_lengths : PixelsInRange → C.same_lengths D ≡ false → a ≡ Disks.Refused 1 0 → DiskCase a
-    wrong_disk_value : (p : ℕ) → p < 3 + 5 * D.n → DiskSound → IsFirstWild disk_inputs_lem p → a ≡ Disks.Refused 3 p → DiskCase a
-    no_fit : (t : ℕ) → DiskSound → AllFinite disk_inputs_lem → best_disk_fit D base0 base1 ≡ Missing t → a ≡ Disks.Refused 4 t → DiskCase a
+    wrong_count : (eqb D.n 0 || ltb max_tanh_pixels D.n) ≡ true → a ≡ Err PixelCount → DiskCase a
+    wrong_lengths : PixelsInRange → C.same_lengths D ≡ false → a ≡ Err WrongLength → DiskCase a
+    wrong_disk_value : (p : ℕ) → p < 3 + 5 * D.n → DiskSound → IsFirstWild disk_inputs_lem p → a ≡ Err (NotFinite p) → DiskCase a
+    no_fit : (t : ℕ) → DiskSound → AllFinite disk_inputs_lem → best_disk_fit D base0 base1 ≡ Missing t → a ≡ Err (NothingFound t) → DiskCase a
     disk_answered_lem :
         (f : Fit) (t : ℕ) → DiskSound → AllFinite disk_inputs_lem → best_disk_fit D base0 base1 ≡ Best f t →
-        a ≡ Disks.Fitted (C.measured_of D f t) → DiskCase a
+        a ≡ Ok (C.measured_of D f t) → DiskCase a
 
   -- lengths that do not differ are the number of pixels, and the values are 3 + 5 n
   same : (x a b c d : Bool) → (x && (a && (b && (c && d)))) ≡ true → T x × T a × T b × T c × T d
@@ -393,12 +390,12 @@ module _ (D : DiskData) (base0 base1 : Float) where
   unfolding checked_disk C.disk_looked C.disk_fitted
   disk_cases = go (eqb D.n 0 || ltb max_tanh_pixels D.n) (C.same_lengths D) refl refl (first_wild disk_inputs_lem) refl
     where
-      go : (x y : Bool) → (eqb D.n 0 || ltb max_tanh_pixels D.n) ≡ x → C.same_lengths D ≡ y → (w : Wild) → first_wild disk_inputs_lem ≡ w →
-          DiskCase (cond x (Disks.Refused 2 0) (cond y (C.disk_looked D base0 base1 w) (Disks.Refused 1 0)))
+      go : (x y : Bool) → (eqb D.n 0 || ltb max_tanh_pixels D.n) ≡ x → C.same_lengths D ≡ y → (w : Option ℕ) → first_wild disk_inputs_lem ≡ w →
+          DiskCase (cond x (Err PixelCount) (cond y (C.disk_looked D base0 base1 w) (Err WrongLength)))
       go true y p q w e = wrong_count p refl
       go false false p q w e = wrong_lengths p q refl
-      go false true p q (At i) e = let f = wild_first disk_inputs_lem i e in wrong_disk_value i (omega (arith, f.inside, disk_total q)) (p, q) f refl
-      go false true p q Clean e = searched (p, q) (clean_finite disk_inputs_lem e) (best_disk_fit D base0 base1) refl
+      go false true p q (Some i) e = let f = wild_first disk_inputs_lem i e in wrong_disk_value i (omega (arith, f.inside, disk_total q)) (p, q) f refl
+      go false true p q None e = searched (p, q) (clean_finite disk_inputs_lem e) (best_disk_fit D base0 base1) refl
 
   -- the numbers are 0 to 4
   pub disk_numbers : disk_number disk_answer_lem ≤ 4
@@ -453,7 +450,7 @@ module _ (D : DiskData) (base0 base1 : Float) where
     pub length : length disk_inputs_lem ≡ 3 + 5 * D.n
     pub finite : AllFinite disk_inputs_lem
     pub found : best_disk_fit D base0 base1 ≡ Best fit trials
-    pub answer : checked_disk D base0 base1 ≡ Disks.Fitted (C.measured_of D fit trials)
+    pub answer : checked_disk D base0 base1 ≡ Ok (C.measured_of D fit trials)
 
   module _ (zero_number : disk_number disk_answer_lem ≡ 0) where
     pub disk_answered_is_the_fit : DiskFitted

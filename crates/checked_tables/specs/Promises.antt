@@ -1,6 +1,7 @@
 -- What storing a table and fitting with tables promise, for all words that a caller's memory may hold. That a ring's answer keeps to the bill, the axes, the
 -- errors, known, the mean and the residual is promised in crates/checked/specs/Promises.antt for all tables: `words_held` of seed_models says that whatever
 -- the words are, the tables that are read from them are such as is asked there; `fresh_tables` that words made fresh hold none. Assumes nothing.
+use Rattle.std.specs.Prelude.{Option, Some, None, Ok, Err}
 use Rattle.std.specs.Prelude.{◌≡◌, Bool, cond, ◌&&◌, List, [], ◌∷◌, ◌++◌, ◌⊎◌, length}
 use Rattle.std.proofs.Math.Path.{refl}
 use Rattle.std.proofs.Common.{sym, ap, ◌∙◌, inl, inr, eq-or-lt_of_le, le_of_suc-le-suc, eqb-true, ltb-true, ltb-false}
@@ -13,48 +14,41 @@ use Rattle.loops.specs.Loops.{iter}
 use Rattle.seed_models.specs.Models.{Table, table_of, table_at, angle_near, is_ring_phi, first_from, first_table}
 use Rattle.seed_models.specs.Words.{ring_samples, state_size, most_tables, held_in, table_part, tables_in}
 use Rattle.seed_models.specs.WordLaws.{stored_keeps, stored_tables}
-use Rattle.seed_models.specs.declared.Matched.{Matched}
-use Rattle.seed_models.specs.declared.Matched.TheVariants.{At, Missing}
 use Rattle.robust.specs.Robust.{robust_grid_fit, grid_seed, ring}
 use Rattle.robust.specs.Record.{record_ring}
-use Rattle.checked.specs.declared.Refusal.{Refusal}
-use Rattle.checked.specs.declared.Refusal.TheVariants.{By, Nothing}
-use Rattle.checked.specs.declared.RingAnswer.{RingAnswer}
-use Rattle.checked.specs.declared.RingAnswer.TheVariants.{Fitted, Refused}
-use Rattle.checked.specs.declared.Wild.{Wild}
-use Rattle.checked.specs.declared.Wild.TheVariants as Wilds
-use Rattle.checked.specs.Checked.{first_wild, ring_inputs, ring_sized, ring_looked, checked_ring}
-use Rattle.checked_tables.specs.Tables.{table_looked, table_refusal, words_after, words_with, refusal_code}
+use Rattle.checked.specs.declared.Refusal.TheVariants.{WrongLength, NotFinite, TablesFull}
+use Rattle.checked.specs.Checked.{RingAnswer, first_wild, ring_inputs, ring_sized, ring_looked, checked_ring}
+use Rattle.checked_tables.specs.Tables.{TableAnswer, table_looked, table_refusal, words_after, words_with, refusal_code}
 use Rattle.checked.specs.CheckedLaws.{IsFirstWild, wild_first, clean_finite}
 use Rattle.checked.specs.Promises.{AllFinite}
 use Rattle.std.proofs.lemmas.Bool.{eqb-false}
 
 -- ---- storing
 module _ (words angles : Row) where
-  abbrev refusal : Refusal
+  abbrev refusal : TableAnswer
   refusal = table_refusal words angles
 
   -- exactly when each answer is given: 1 for another length than 16; 3 with 16 angles for one that is not finite, at the first such place; 6 with 16 finite
   -- angles where three tables are held; and nothing where they are not
-  pub data TableCase (r : Refusal) : Type 0 where
-    wrong_angles : (length angles ≡ ring_samples → ⊥) → r ≡ By 1 0 → TableCase r
-    wild_angle : (p : ℕ) → length angles ≡ ring_samples → IsFirstWild angles p → r ≡ By 3 p → TableCase r
-    no_room : length angles ≡ ring_samples → AllFinite angles → most_tables ≤ held_in words → r ≡ By 6 0 → TableCase r
-    stored : length angles ≡ ring_samples → AllFinite angles → held_in words < most_tables → r ≡ Nothing → TableCase r
+  pub data TableCase (r : TableAnswer) : Type 0 where
+    wrong_angles : (length angles ≡ ring_samples → ⊥) → r ≡ Err WrongLength → TableCase r
+    wild_angle : (p : ℕ) → length angles ≡ ring_samples → IsFirstWild angles p → r ≡ Err (NotFinite p) → TableCase r
+    no_room : length angles ≡ ring_samples → AllFinite angles → most_tables ≤ held_in words → r ≡ Err TablesFull → TableCase r
+    stored : length angles ≡ ring_samples → AllFinite angles → held_in words < most_tables → r ≡ Ok tt → TableCase r
 
   -- by a look at the angles that gives number 3 for a place and else asks for room
   cases_of :
-      (look : Wild → Refusal) → ((i : ℕ) → look (Wilds.At i) ≡ By 3 i) →
-      look Wilds.Clean ≡ cond (ltb (held_in words) most_tables) Nothing (By 6 0) →
-      TableCase (cond (eqb (length angles) ring_samples) (look (first_wild angles)) (By 1 0))
+      (look : Option ℕ → TableAnswer) → ((i : ℕ) → look (Some i) ≡ Err (NotFinite i)) →
+      look None ≡ cond (ltb (held_in words) most_tables) (Ok tt) (Err TablesFull) →
+      TableCase (cond (eqb (length angles) ring_samples) (look (first_wild angles)) (Err WrongLength))
   cases_of look at clean = go (eqb (length angles) ring_samples) refl (first_wild angles) refl (ltb (held_in words) most_tables) refl
     where
-      go : (x : Bool) → eqb (length angles) ring_samples ≡ x → (w : Wild) → first_wild angles ≡ w → (y : Bool) → ltb (held_in words) most_tables ≡ y
-          → TableCase (cond x (look w) (By 1 0))
+      go : (x : Bool) → eqb (length angles) ring_samples ≡ x → (w : Option ℕ) → first_wild angles ≡ w → (y : Bool) → ltb (held_in words) most_tables ≡ y
+          → TableCase (cond x (look w) (Err WrongLength))
       go false p w e y q = wrong_angles (eqb-false _ _ p) refl
-      go true p (Wilds.At i) e y q = wild_angle i (eqb-true _ _ p) (wild_first angles i e) (at i)
-      go true p Wilds.Clean e true q = stored (eqb-true _ _ p) (clean_finite angles e) (ltb-true _ _ q) (rw (clean, q) refl)
-      go true p Wilds.Clean e false q = no_room (eqb-true _ _ p) (clean_finite angles e) (ltb-false _ _ q) (rw (clean, q) refl)
+      go true p (Some i) e y q = wild_angle i (eqb-true _ _ p) (wild_first angles i e) (at i)
+      go true p None e true q = stored (eqb-true _ _ p) (clean_finite angles e) (ltb-true _ _ q) (rw (clean, q) refl)
+      go true p None e false q = no_room (eqb-true _ _ p) (clean_finite angles e) (ltb-false _ _ q) (rw (clean, q) refl)
 
   pub table_cases : TableCase refusal
   unfolding table_refusal table_looked
@@ -64,9 +58,9 @@ module _ (words angles : Row) where
   pub refused_changes_nothing : (refusal_code refusal ≡ 0 → ⊥) → words_with words angles ≡ words
   refused_changes_nothing h = go refusal h
     where
-      go : (r : Refusal) → (refusal_code r ≡ 0 → ⊥) → words_after r words angles ≡ words
-      go (By number place) h = unfold words_after in refl
-      go Nothing h = absurd (h refl)
+      go : (r : TableAnswer) → (refusal_code r ≡ 0 → ⊥) → words_after r words angles ≡ words
+      go (Err e) h = unfold words_after in refl
+      go (Ok u) h = absurd (h refl)
 
   module _ (sized : length words ≡ state_size) where
     -- tables that are held stay word for word, refused or not
@@ -123,9 +117,9 @@ near_all zero ring_phi expected h = refl
 near_all (suc n) ring_phi expected h = rw (near_all n ring_phi expected (λ i l. h i (omega arith)), h n (omega arith)) refl
 
 -- of a search from i up to k: the first that passes
-abbrev FirstOf : (ℕ → Bool) → ℕ → ℕ → Matched → Type 0
-FirstOf p i k (At t) = (p t ≡ true) × (t < k) × ((s : ℕ) → i ≤ s → s < t → p s ≡ false)
-FirstOf p i k Missing = (s : ℕ) → i ≤ s → s < k → p s ≡ false
+abbrev FirstOf : (ℕ → Bool) → ℕ → ℕ → Option ℕ → Type 0
+FirstOf p i k (Some t) = (p t ≡ true) × (t < k) × ((s : ℕ) → i ≤ s → s < t → p s ≡ false)
+FirstOf p i k None = (s : ℕ) → i ≤ s → s < k → p s ≡ false
 
 first_says : (p : ℕ → Bool) (left i : ℕ) → FirstOf p i (i + left) (first_from p left i)
 unfolding first_from
@@ -142,13 +136,13 @@ first_says p (suc left) i = go (p i) refl (first_from p left (i + 1)) (first_say
         split (inl q) = rw (← q) e
         split (inr l) = later (omega arith)
 
-    go : (b : Bool) → p i ≡ b → (w : Matched) → FirstOf p (i + 1) (i + 1 + left) w → FirstOf p i (i + suc left) (cond b (At i) w)
+    go : (b : Bool) → p i ≡ b → (w : Option ℕ) → FirstOf p (i + 1) (i + 1 + left) w → FirstOf p i (i + suc left) (cond b (Some i) w)
     go true e w h = (e, omega arith, λ s l m. absurd (never s l m))
       where
         never : (s : ℕ) → i ≤ s → s < i → ⊥
         never s l m = omega arith
-    go false e (At t) h = (h.0, omega (arith, h.1), λ s l m. here s e (λ k. h.2 s k m) l)
-    go false e Missing h = λ s l m. here s e (λ k. h s k (omega arith)) l
+    go false e (Some t) h = (h.0, omega (arith, h.1), λ s l m. here s e (λ k. h.2 s k m) l)
+    go false e None h = λ s l m. here s e (λ k. h s k (omega arith)) l
 
 -- the table that is used is the first of those that are held whose angles are all within 1e-6 of the ring's; where none is used each has an angle that is not
 module _ (tables : List Table) (angles : Row) where
@@ -158,9 +152,9 @@ module _ (tables : List Table) (angles : Row) where
   abbrev NearTo : ℕ → Type 0
   NearTo t = (i : ℕ) → i < ring_samples → angle_near (at angles i) (at (table_at tables t).angles i) ≡ true
 
-  abbrev pub Used : Matched → Type 0
-  Used (At t) = (t < length tables) × NearTo t × ((s : ℕ) → s < t → NearTo s → ⊥)
-  Used Missing = (s : ℕ) → s < length tables → NearTo s → ⊥
+  abbrev pub Used : Option ℕ → Type 0
+  Used (Some t) = (t < length tables) × NearTo t × ((s : ℕ) → s < t → NearTo s → ⊥)
+  Used None = (s : ℕ) → s < length tables → NearTo s → ⊥
 
   pub table_used : Used (first_table ring_samples tables angles)
   unfolding first_table
@@ -169,22 +163,22 @@ module _ (tables : List Table) (angles : Row) where
       far : (s : ℕ) → is_near_to s ≡ false → NearTo s → ⊥
       far s e h = true≢false (sym (near_all ring_samples angles _ h) ∙ e)
 
-      go : (w : Matched) → FirstOf is_near_to 0 (0 + length tables) w → Used w
-      go (At t) h = (omega (arith, h.1), all_near ring_samples angles _ h.0, λ s l. far s (h.2 s (omega arith) l))
-      go Missing h = λ s l. far s (h s (omega arith) (omega arith))
+      go : (w : Option ℕ) → FirstOf is_near_to 0 (0 + length tables) w → Used w
+      go (Some t) h = (omega (arith, h.1), all_near ring_samples angles _ h.0, λ s l. far s (h.2 s (omega arith) l))
+      go None h = λ s l. far s (h s (omega arith) (omega arith))
 
-record_direct : (tables : List Table) (n : ℕ) (samples angles : Row) → first_table n tables angles ≡ Missing
+record_direct : (tables : List Table) (n : ℕ) (samples angles : Row) → first_table n tables angles ≡ None
     → record_ring tables n samples angles ≡ record_ring [] n samples angles
 unfolding record_ring ring robust_grid_fit grid_seed first_table first_from
 record_direct tables n samples angles e = rw e refl
 
 -- where no table is near, and so where none is held, the answer is that of the direct way
-pub direct_without : (tables : List Table) (n : ℕ) (samples angles : Row) → first_table n tables angles ≡ Missing
+pub direct_without : (tables : List Table) (n : ℕ) (samples angles : Row) → first_table n tables angles ≡ None
     → checked_ring tables n samples angles ≡ checked_ring [] n samples angles
 unfolding checked_ring ring_looked
 direct_without tables n samples angles e =
-    ap (λ (a : RingAnswer). cond (ring_sized n samples angles) a (Refused 1 0)) (go (first_wild (ring_inputs samples angles)))
+    ap (λ (a : RingAnswer). cond (ring_sized n samples angles) a (Err WrongLength)) (go (first_wild (ring_inputs samples angles)))
   where
-    go : (w : Wild) → ring_looked tables n samples angles w ≡ ring_looked [] n samples angles w
-    go Wilds.Clean = ap Fitted (record_direct tables n samples angles e)
-    go (Wilds.At i) = refl
+    go : (w : Option ℕ) → ring_looked tables n samples angles w ≡ ring_looked [] n samples angles w
+    go None = ap Ok (record_direct tables n samples angles e)
+    go (Some i) = refl

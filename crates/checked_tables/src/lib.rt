@@ -6,37 +6,34 @@ ghost use Rattle.seed_models.specs.Words.{state_size, fresh_in};
 ghost use Rattle.checked_tables.specs.Tables as T;
 ghost use Rattle.checked_tables.specs.Parts as P;
 
-use checked::{Refusal, Wild};
+use checked::Refusal;
 
-// By which number and place a table is refused, if it is.
-fn table_refusal(words: &[f32], angles: &[f32]) -> Refusal
+// That a table has 16 angles, all of them finite, and that there is room for it.
+fn check_table(words: &[f32], angles: &[f32]) -> Result<(), Refusal>
     requires { length words.now ≡ state_size }
-    ensures { P.TableRefusal words.now angles.now result }
+    ensures { P.TableTested words.now angles.now result }
 {
     if angles.len() != seed_models::RING_SAMPLES {
-        return Refusal::By(1, 0);
+        return Err(Refusal::WrongLength);
     }
-    if let Wild::At(i) = checked::first_wild(angles) {
-        return Refusal::By(3, i);
-    }
+    checked::check_values(angles, 0)?;
     if seed_models::held(words) == seed_models::MOST_TABLES {
-        return Refusal::By(6, 0);
+        return Err(Refusal::TablesFull);
     }
-    Refusal::Nothing
+    Ok(())
 }
 
 // Stores the table of any angles: a refused one changes no word.
-pub fn store_table(words: &mut [f32; seed_models::STATE_SIZE], angles: &[f32]) -> Refusal
+pub fn store_table(
+    words: &mut [f32; seed_models::STATE_SIZE],
+    angles: &[f32],
+) -> Result<(), Refusal>
     ensures { (result ≡ T.table_refusal words.old angles.now)
         × (words.new ≡ T.words_with words.old angles.now) }
 {
-    match table_refusal(words, angles) {
-        Refusal::By(number, place) => Refusal::By(number, place),
-        Refusal::Nothing => {
-            seed_models::store(words, angles);
-            Refusal::Nothing
-        }
-    }
+    check_table(words, angles)?;
+    seed_models::store(words, angles);
+    Ok(())
 }
 
 // Whatever the words are, afterwards they hold no table.

@@ -1,13 +1,16 @@
 -- The lengths of the answers' texts: 60 of a ring's fit, 98 of a disk's and 8 of a refusal. Assumes nothing.
-use Rattle.std.specs.Prelude.{◌≡◌, refl, List, ◌++◌, ℕ, ◌+◌, ◌≤◌, length}
+use Rattle.std.specs.Prelude.{◌≡◌, refl, Bool, true, false, List, ◌++◌, ℕ, ◌+◌, ◌≤◌, length}
 use Rattle.std.proofs.Common.{ap, ◌∙◌, append_assoc, arith, length-append}
+use Rattle.std.specs.Int.{from_bool}
+use Rattle.checked.specs.Checked.{flag}
 use Rattle.hexadecimal.specs.Hex.{byte_text, count_text, put}
 use Rattle.hexadecimal.specs.HexLaws.{words_length, put_put}
+use Rattle.shapes.specs.declared.RingKind.{RingKind}
 use Rattle.robust_choice.specs.declared.RingFit.{RingFit}
 use Rattle.checked.specs.declared.Measured.{Measured}
 use Rattle.frames.specs.Frames.{ring_words, ring_text, disk_words, disk_text, refusal_text}
 
-pub ring_length_lem : (kind : ℕ) (r : RingFit) → 60 ≡ length (ring_text kind r)
+pub ring_length_lem : (kind : RingKind) (r : RingFit) → 60 ≡ length (ring_text kind r)
 unfolding ring_text count_text byte_text
 ring_length_lem kind r = simp length-append (omega (arith, words_length (ring_words r) 7))
 
@@ -27,3 +30,8 @@ four_puts l at a b c d la lb lc ld h =
     let q = put_put l at (a ++ b) c (at + 92) (simp length-append (omega arith)) (omega arith) in
     let r = put_put l at ((a ++ b) ++ c) d (at + 96) (simp length-append (omega arith)) (omega arith) in
     rw (p, q, r) (ap (put l at) (append_assoc (a ++ b) c d ∙ append_assoc a b (c ++ d)))
+
+-- a flag is the number that Rust makes of a bool
+pub flag_number : (b : Bool) → from_bool b ≡ flag b
+flag_number true = refl
+flag_number false = refl

@@ -1,6 +1,6 @@
 -- What a line's answer promises, for every line: exactly when each number is given, and that with 0 the text has the checked entry's own
 -- values and its true counts. The remainders in the text's definition are idle, since no count reaches them. Assumes nothing.
-use Rattle.std.specs.Prelude.{◌≡◌, Bool, true, false, ℕ, ◌+◌, ◌*◌, ◌%◌, ◌^◌, ◌≤◌, ◌<◌, length, get_or}
+use Rattle.std.specs.Prelude.{◌≡◌, Ok, Bool, true, false, ℕ, ◌+◌, ◌*◌, ◌%◌, ◌^◌, ◌≤◌, ◌<◌, length, get_or}
 use Rattle.std.proofs.Math.Path.{refl}
 use mathlib.Core.List.{List, [], ◌∷◌, ◌++◌}
 use Rattle.std.proofs.Common.{arith}
@@ -16,12 +16,9 @@ use Rattle.checked.specs.Promises.{RingCase, wrong_length, wrong_value, answered
 use Rattle.checked.specs.Promises.{DiskCase, wrong_count, wrong_lengths, wrong_disk_value, no_fit, disk_answered_lem, disk_cases, disk_numbers, disk_trials}
 use Rattle.checked.specs.declared.Measured.{Measured}
 use Rattle.robust_choice.specs.declared.RingFit.{RingFit}
-use Rattle.checked.specs.declared.RingAnswer.{RingAnswer}
-use Rattle.checked.specs.declared.RingAnswer.TheVariants as Rings
-use Rattle.checked.specs.declared.DiskAnswer.{DiskAnswer}
-use Rattle.checked.specs.declared.DiskAnswer.TheVariants as Disks
-use Rattle.frames.specs.declared.Answer.{Answer}
-use Rattle.frames.specs.Frames.{answer_of, shaped_answer, ring_answered, ring_of_line, disk_answered, disk_of_line, value_words}
+use Rattle.shapes.specs.declared.RingKind.{RingKind}
+use Rattle.checked.specs.Checked.{RingAnswer, DiskAnswer}
+use Rattle.frames.specs.Frames.{Answer, answer_of, shaped_answer, ring_answered, ring_of_line, disk_answered, disk_of_line, value_words}
 use Rattle.frames.specs.Frames.{ring_text, disk_text, refusal_text, text_of, number_of}
 
 -- counts side by side, a byte each, as they are
@@ -38,14 +35,14 @@ flagged false = omega arith
 
 module _ (line : List ℕ) where
   -- the checked entries' answers to the values that the line has
-  abbrev pub ring_at : ℕ → RingAnswer
+  abbrev pub ring_at : RingKind → RingAnswer
   ring_at kind = ring_of_line line (samples_of kind)
 
   abbrev pub disk_at : ℕ → DiskAnswer
   disk_at n = checked_disk (disk_of_line line n) (value_of line 14) (value_of line 22)
 
   -- the text of an answered ring and of an answered disk
-  abbrev pub ring_line : ℕ → List ℕ
+  abbrev pub ring_line : RingKind → List ℕ
   ring_line kind =
       count_text (answer_type kind * 256) ++ words_text (value_words (ring_values (ring_at kind)) ++ (plain_word (ring_counts (ring_at kind)) ∷ [])) 7
 
@@ -57,10 +54,10 @@ module _ (line : List ℕ) where
   -- 0 with the fit's text and no other number with it; else a refusal's text of type, number and place
   pub data LineCase (a : Answer) : Type 0 where
     ring_fit :
-        (kind : ℕ) → shape_of line ≡ Shapes.Ring kind → ring_number (ring_at kind) ≡ 0 → number_of a ≡ 0 →
+        (kind : RingKind) → shape_of line ≡ Shapes.Ring kind → ring_number (ring_at kind) ≡ 0 → number_of a ≡ 0 →
         text_of a ≡ ring_line kind → LineCase a
     ring_refused :
-        (kind : ℕ) → shape_of line ≡ Shapes.Ring kind → 0 < ring_number (ring_at kind) → number_of a ≡ ring_number (ring_at kind) →
+        (kind : RingKind) → shape_of line ≡ Shapes.Ring kind → 0 < ring_number (ring_at kind) → number_of a ≡ ring_number (ring_at kind) →
         text_of a ≡ refusal_text (answer_type kind) (ring_number (ring_at kind)) (ring_place (ring_at kind)) → LineCase a
     disk_fit : (n : ℕ) → shape_of line ≡ Shapes.Disk n → disk_number (disk_at n) ≡ 0 → number_of a ≡ 0 → text_of a ≡ disk_line n → LineCase a
     disk_refused :
@@ -72,7 +69,7 @@ module _ (line : List ℕ) where
 
   -- the counts of an answer are below 256, and its trials below 65536
   ring_text_lem :
-      (kind : ℕ) (r : RingFit) → ring_at kind ≡ Rings.Fitted r → ring_number (ring_at kind) ≡ 0 → ring_text (answer_type kind) r ≡ ring_line kind
+      (kind : RingKind) (r : RingFit) → ring_at kind ≡ Ok r → ring_number (ring_at kind) ≡ 0 → ring_text kind r ≡ ring_line kind
   unfolding ring_text ring_values ring_counts
   ring_text_lem kind r e z =
       let n = samples_of kind in
@@ -85,7 +82,7 @@ module _ (line : List ℕ) where
       rw (e, starts, first, second, known)
 
   disk_text_lem :
-      (n : ℕ) (m : Measured) → disk_at n ≡ Disks.Fitted m → disk_number (disk_at n) ≡ 0 → disk_text m ≡ disk_line n
+      (n : ℕ) (m : Measured) → disk_at n ≡ Ok m → disk_number (disk_at n) ≡ 0 → disk_text m ≡ disk_line n
   unfolding disk_text disk_values disk_counts
   disk_text_lem n m e z =
       let c : disk_counts (disk_at n) ≡ C.measured_counts m = rw e in
@@ -94,13 +91,13 @@ module _ (line : List ℕ) where
       rw (e, trials)
 
   -- the cases of a ring's values
-  abbrev AtRing : ℕ → Type 0
+  abbrev AtRing : RingKind → Type 0
   AtRing kind = let n = samples_of kind in RingCase [] no_tables n (values_of line 2 n) (values_of line (2 + 8 * n) n) (ring_at kind)
 
-  at_ring : (kind : ℕ) → AtRing kind
+  at_ring : (kind : RingKind) → AtRing kind
   at_ring kind = let n = samples_of kind in ring_cases [] no_tables n (values_of line 2 n) (values_of line (2 + 8 * n) n)
 
-  ring_line_lem : (kind : ℕ) → shape_of line ≡ Shapes.Ring kind → AtRing kind → LineCase (ring_answered (answer_type kind) (ring_at kind))
+  ring_line_lem : (kind : RingKind) → shape_of line ≡ Shapes.Ring kind → AtRing kind → LineCase (ring_answered kind (ring_at kind))
   unfolding ring_number ring_place
   ring_line_lem kind s (wrong_length l e) = rw e (ring_refused kind s (rw e (omega arith)) (rw e refl) (rw e refl))
   ring_line_lem kind s (wrong_value p b f e) = rw e (ring_refused kind s (rw e (omega arith)) (rw e refl) (rw e refl))
@@ -131,7 +128,7 @@ module _ (line : List ℕ) where
       go (Shapes.OtherType kind) e = other_type kind e refl refl
       go (Shapes.Malformed f) e = malformed_line f e refl refl
 
-  ring_most : (kind : ℕ) → AtRing kind → ring_number (ring_at kind) ≤ 3
+  ring_most : (kind : RingKind) → AtRing kind → ring_number (ring_at kind) ≤ 3
   unfolding ring_number
   ring_most kind (wrong_length l e) = rw e (omega arith)
   ring_most kind (wrong_value p b f e) = rw e (omega arith)

@@ -1,5 +1,5 @@
 -- The rows of docs/RULES.md, Rows to prove: the definitions are run at the given bits, by the checker's own computation. Assumes nothing.
-use Rattle.std.specs.Prelude.{◌≡◌, refl, Bool, false, cond, ℕ, ◌*◌, replicate, Float}
+use Rattle.std.specs.Prelude.{◌≡◌, refl, Bool, false, cond, ℕ, ◌*◌, replicate, Float, Option, Some, None}
 use mathlib.Core.List.{List, [], ◌∷◌, ◌++◌, map, zip_with}
 use Rattle.std.specs.Float.{nan, inf, binary32}
 use Rattle.std.specs.Float.Ieee.{add, sub, mul, div, rem, neg, lt, le, eq, is_nan, of_bits, to_bits, of_int, to_unsigned, round, size}
@@ -11,12 +11,10 @@ use Rattle.geometry.specs.Geometry.{signed_line_delta, line_delta, line_separati
 use Rattle.solver_axes.specs.Canonical.{wrap_to_tau, arc, placed, axes_settled, canonicalize_tracking_swap}
 use Rattle.solver_axes.specs.declared.Axes.{Axes}
 use Rattle.solver_elimination.specs.Solve.{Matrix, augmented, larger, pivot_row, unusable, reduced, cleared, clear}
-use Rattle.floats.specs.Rows.{Row}
+use Rattle.floats.specs.Rows.{Row, at}
 use Rattle.solver_elimination.specs.Solve.{top_row, columned, stopped, solve4x4}
 use Rattle.solver_errors.specs.StdErrors.{axis_error, both_errors, axis_std_errors}
 use Rattle.solver_errors.specs.StdErrors.{standing_by, both_standing, standing, estimate}
-use Rattle.solver_elimination.specs.declared.Solved.{Solved}
-use Rattle.solver_elimination.specs.declared.Solved.TheVariants.{Values, Failed}
 use Rattle.solver_errors.specs.declared.Estimate.{Estimate}
 use Rattle.solver_record.specs.Fit.{degenerate_fit, degenerate}
 use Rattle.solver_record.specs.Record.{degenerate_record}
@@ -41,9 +39,9 @@ flag b = cond b 1 0
 abbrev axes_bits : Axes → List ℕ
 axes_bits a = bits a.theta1 ∷ bits a.theta2 ∷ bits a.amp ∷ flag a.swapped ∷ []
 
-abbrev solved_bits : Solved → List ℕ
-solved_bits Failed = []
-solved_bits (Values a b c d) = bits a ∷ bits b ∷ bits c ∷ bits d ∷ []
+abbrev solved_bits : Option Row → List ℕ
+solved_bits None = []
+solved_bits (Some x) = bits (at x 0) ∷ bits (at x 1) ∷ bits (at x 2) ∷ bits (at x 3) ∷ []
 
 abbrev estimate_bits : Estimate → List ℕ
 estimate_bits e = bits e.errors.error1 ∷ bits e.errors.error2 ∷ flag e.standing.known ∷ []

@@ -6,10 +6,8 @@
 
 ghost use Rattle.std.specs.Prelude.{◌^◌, ◌<◌};
 
-use robust_choice::{RingFit, Second};
-use seed::{Seed, SeedCandidate};
-use seed_models::Matched;
-use solver_elimination::Solved;
+use robust_choice::RingFit;
+use seed::SeedCandidate;
 use solver_record::{Params, Started, TwoAxisFit};
 
 // ---- what crosses to C, under the names of tests/funclines.h; `some` is false where there is nothing
@@ -103,15 +101,13 @@ fn start_of(s: Started) -> Start {
     }
 }
 
-fn second_of(s: Second) -> Start {
-    match s {
-        Second::Made(f) => start_of(f),
-        Second::Missing => Start {
-            some: false,
-            values: [0.0f32; 6],
-            updates: 0,
-        },
-    }
+fn second_of(s: Option<Started>) -> Start {
+    let nothing = Start {
+        some: false,
+        values: [0.0f32; 6],
+        updates: 0,
+    };
+    s.map_or(nothing, start_of)
 }
 
 fn candidate_of(x: [f32; 5]) -> SeedCandidate {
@@ -124,24 +120,15 @@ fn candidate_of(x: [f32; 5]) -> SeedCandidate {
     }
 }
 
-fn top_of(s: Seed5) -> Seed {
-    if s.some {
-        let x = s.values;
-        return Seed::Found(candidate_of(x));
-    }
-    Seed::Nothing
+fn top_of(s: Seed5) -> Option<SeedCandidate> {
+    s.some.then(|| candidate_of(s.values))
 }
 
-fn seed_of(s: Seed) -> Seed5 {
-    match s {
-        Seed::Found(c) => Seed5 {
-            some: true,
-            values: [c.theta1, c.theta2, c.mu, c.amp, c.rms],
-        },
-        Seed::Nothing => Seed5 {
-            some: false,
-            values: [0.0f32; 5],
-        },
+fn seed_of(s: Option<SeedCandidate>) -> Seed5 {
+    let values = s.map(|c| [c.theta1, c.theta2, c.mu, c.amp, c.rms]);
+    Seed5 {
+        some: values.is_some(),
+        values: values.unwrap_or([0.0f32; 5]),
     }
 }
 
@@ -255,15 +242,10 @@ pub extern "C" fn fl_valid_pair(a0: f32, a1: f32) -> bool {
 
 #[unsafe(no_mangle)]
 pub extern "C" fn fl_solve_4x4(a: &[[f32; 4]; 4], b: &[f32; 4]) -> Four {
-    match solver_elimination::solve_4x4(a, b) {
-        Solved::Values(x0, x1, x2, x3) => Four {
-            some: true,
-            values: [x0, x1, x2, x3],
-        },
-        Solved::Failed => Four {
-            some: false,
-            values: [0.0f32; 4],
-        },
+    let values = solver_elimination::solve_4x4(a, b);
+    Four {
+        some: values.is_some(),
+        values: values.unwrap_or([0.0f32; 4]),
     }
 }
 
@@ -432,10 +414,7 @@ pub extern "C" fn fl_tables_match(
     tables: &[f32; seed_models::STATE_SIZE],
     ring_phi: &[f32; 16],
 ) -> usize {
-    match seed_models::first_table(tables, ring_phi) {
-        Matched::At(t) => t,
-        Matched::Missing => seed_models::MOST_TABLES,
-    }
+    seed_models::first_table(tables, ring_phi).unwrap_or(seed_models::MOST_TABLES)
 }
 
 #[unsafe(no_mangle)]

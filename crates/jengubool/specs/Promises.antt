@@ -1,6 +1,6 @@
 -- What the value calls return and leave in a caller's buffers: 0 with the answer's values and true counts in front, or number and place with both
 -- buffers as they came. Assumes nothing.
-use Rattle.std.specs.Prelude.{◌≡◌, Bool, cond, List, [], ℕ, ◌+◌, ◌*◌, ◌≤◌, length, ltb, Float}
+use Rattle.std.specs.Prelude.{◌≡◌, Ok, Err, Bool, cond, List, [], ℕ, ◌+◌, ◌*◌, ◌≤◌, length, ltb, Float}
 use Rattle.std.proofs.Math.Path.{refl}
 use Rattle.std.proofs.Math.Bool.{true, false}
 use Rattle.std.proofs.Common.{arith}
@@ -14,11 +14,9 @@ use Rattle.robust.specs.Record.{record_ring}
 use Rattle.robust_choice.specs.declared.RingFit.{RingFit}
 use Rattle.score.specs.Score.{fit_standing}
 use Rattle.checked.specs.Promises.{answered_is_the_fit, answered_values, ring_bill, disk_answered_is_the_fit, disk_answered_values, disk_trials}
-use Rattle.checked.specs.declared.DiskAnswer.{DiskAnswer}
-use Rattle.checked.specs.declared.DiskAnswer.TheVariants as Disks
-use Rattle.checked.specs.declared.RingAnswer.{RingAnswer}
-use Rattle.checked.specs.declared.RingAnswer.TheVariants.{Fitted, Refused}
-use Rattle.jengubool.specs.Calls.{Form, the_six, the_record, ring_size, Stored, put_from, wide, ring_stored, ring_call, disk_stored, disk_call}
+use Rattle.checked.specs.Checked.{RingAnswer, DiskAnswer}
+use Rattle.checked.specs.declared.Refusal.{Refusal}
+use Rattle.jengubool.specs.Calls.{Form, the_six, the_record, ring_size, Stored, code_of, put_from, wide, ring_stored, ring_call, disk_stored, disk_call}
 
 module _ (fit : List Float) (counts : List ℕ) where
   -- the code c, and every float and every count as it was
@@ -27,11 +25,11 @@ module _ (fit : List Float) (counts : List ℕ) where
 
   -- of any way to store that gives 0 with a fit, and of a refusal its number and place with both buffers
   stored_keeps :
-      (store : RingAnswer → Stored) → ((r : RingFit) → (store (Fitted r)).code ≡ 0) →
-      ((number place : ℕ) → store (Refused number place) ≡ refusal (number * 65536 + place)) →
+      (store : RingAnswer → Stored) → ((r : RingFit) → (store (Ok r)).code ≡ 0) →
+      ((e : Refusal) → store (Err e) ≡ refusal (code_of e)) →
       (a : RingAnswer) → ((store a).code ≡ 0 → ⊥) → store a ≡ refusal (store a).code
-  stored_keeps store none kept (Fitted r) h = absurd (h (none r))
-  stored_keeps store none kept (Refused number place) h = rw (kept number place) refl
+  stored_keeps store none kept (Ok r) h = absurd (h (none r))
+  stored_keeps store none kept (Err e) h = rw (kept e) refl
 
   short_keeps : (a b : Bool) (r : Stored) → ((r.code ≡ 0 → ⊥) → r ≡ refusal r.code) →
       let s = cond a (refusal 65536) (cond b (refusal 65536) r) in (s.code ≡ 0 → ⊥) → s ≡ refusal s.code
@@ -45,12 +43,12 @@ module _ (fit : List Float) (counts : List ℕ) where
   unfolding ring_call ring_stored
   refused_keeps w tables n samples angles =
       short_keeps (ltb (length fit) w.room) (ltb (length counts) 4) (ring_stored w (checked_ring tables n samples angles) fit counts)
-      (stored_keeps (λ (a : RingAnswer). ring_stored w a fit counts) (λ r. refl) (λ number place. refl) (checked_ring tables n samples angles))
+      (stored_keeps (λ (a : RingAnswer). ring_stored w a fit counts) (λ r. refl) (λ e. refl) (checked_ring tables n samples angles))
 
   disk_stored_keeps : (a : DiskAnswer) → ((disk_stored a fit counts).code ≡ 0 → ⊥) → disk_stored a fit counts ≡ refusal (disk_stored a fit counts).code
   unfolding disk_stored
-  disk_stored_keeps (Disks.Fitted m) h = absurd (h refl)
-  disk_stored_keeps (Disks.Refused number place) h = refl
+  disk_stored_keeps (Ok m) h = absurd (h refl)
+  disk_stored_keeps (Err e) h = refl
 
   -- the same of the disk's call
   pub disk_refused_keeps : (D : DiskData) (base0 base1 : Float) → let s = disk_call D base0 base1 fit counts in (s.code ≡ 0 → ⊥) → s ≡ refusal s.code
@@ -60,13 +58,13 @@ module _ (fit : List Float) (counts : List ℕ) where
   -- ---- what is returned, and what is written with 0
   ring_stored_code : (w : Form) (a : RingAnswer) → (ring_stored w a fit counts).code ≡ ring_number a * 65536 + ring_place a
   unfolding ring_stored ring_number ring_place
-  ring_stored_code w (Fitted r) = refl
-  ring_stored_code w (Refused number place) = refl
+  ring_stored_code w (Ok r) = refl
+  ring_stored_code w (Err e) = refl
 
   disk_stored_code : (a : DiskAnswer) → (disk_stored a fit counts).code ≡ disk_number a * 65536 + disk_place a
   unfolding disk_stored disk_number disk_place
-  disk_stored_code (Disks.Fitted m) = refl
-  disk_stored_code (Disks.Refused number place) = refl
+  disk_stored_code (Ok m) = refl
+  disk_stored_code (Err e) = refl
 
   -- with buffers that are long enough the code is the answer's number and place
   pub ring_code : (w : Form) (tables : List Table) (n : ℕ) (samples angles : List Float) → w.room ≤ length fit → 4 ≤ length counts →

@@ -2,11 +2,11 @@
 // include/jengubool.h declares them, with what each promises.
 #![tactic(auto)]
 
-ghost use Rattle.std.specs.Prelude.{◌≡◌, ◌≤◌, [], map, length};
+ghost use Rattle.std.specs.Prelude.{◌≡◌, ◌≤◌, ◌||◌, [], map, length, ltb};
 ghost use Rattle.std.specs.Float.{binary32};
 ghost use Rattle.data.specs.Data.{lent_disk};
-ghost use Rattle.solver_record.specs.Record.{without_mean};
-ghost use Rattle.checked.specs.Checked.{fit_values, record_values, fit_counts, measured_values, measured_counts, flag};
+ghost use Rattle.checked.specs.Checked.{record_values, fit_counts, measured_values, measured_counts};
+ghost use Rattle.checked.specs.Parts.{RingSize};
 ghost use Rattle.checked_tables.specs.Tables.{refusal_code, table_refusal, words_with};
 ghost use Rattle.seed_models.specs.Words as W;
 ghost use Rattle.frames.specs.Frames as F;
@@ -14,7 +14,7 @@ ghost use Rattle.jengubool.specs.Calls as J;
 ghost use Rattle.floats.specs.Library as L;
 ghost use Rattle.elementary.specs.Elementary as E;
 
-use checked::{DiskAnswer, Measured, Refusal, RingAnswer};
+use checked::{Measured, Refusal};
 use robust_choice::RingFit;
 use solver_record::TwoAxisFit;
 
@@ -75,56 +75,92 @@ pub extern "C" fn jb_answer_line(line: &[u8], out: &mut [u8]) -> u32
     frames::answer_line(line, out)
 }
 
-// The six values of a fit, in front of whatever the buffer holds behind them.
-fn put_fit(f: TwoAxisFit, fit: &mut [f32])
-    requires { 6 ≤ length fit.old }
-    ensures { fit.new ≡ J.put_from (fit_values (without_mean f)) 0 fit.old }
+// A refusal's number and place in one word.
+fn code(e: Refusal) -> u32
+    ensures { result ≡ J.code_of e }
 {
-    fit[0] = f.amp;
-    fit[1] = f.theta1;
-    fit[2] = f.theta2;
-    fit[3] = f.fit_std_error_theta1;
-    fit[4] = f.fit_std_error_theta2;
-    fit[5] = f.rms;
+    u32::from(e.number()) * 65536 + u32::from(e.place())
 }
 
-fn as_number(b: bool) -> u32
-    ensures { result ≡ J.wide (flag b) }
+// Whether a caller's buffers are too short for so many values and counts.
+fn is_short(fit: &[f32], values: usize, counts: &[u32], numbers: usize) -> bool
+    ensures { result ≡ (ltb (length fit.now) values || ltb (length counts.now) numbers) }
 {
-    if b {
-        return 1;
-    }
-    0
+    fit.len() < values || counts.len() < numbers
 }
 
-fn put_counts(r: RingFit, counts: &mut [u32])
-    requires { 4 ≤ length counts.old }
-    ensures { counts.new ≡ J.put_from (map J.wide (fit_counts r)) 0 counts.old }
+// Values in front of whatever a caller's buffer holds behind them.
+fn put<T: Copy>(values: &[T], out: &mut [T])
+    requires { length values.now ≤ length out.old }
+    ensures { out.new ≡ J.put_from values.now 0 out.old }
+{
+    out[..values.len()].copy_from_slice(values);
+}
+
+// The seven values of a fit's record: the Rust's six, and the mean.
+fn record(f: TwoAxisFit) -> [f32; 7]
+    ensures { (result ≡ record_values f) × (7 ≡ length result) }
+{
+    [
+        f.amp,
+        f.theta1,
+        f.theta2,
+        f.fit_std_error_theta1,
+        f.fit_std_error_theta2,
+        f.rms,
+        f.mean,
+    ]
+}
+
+fn ring_counts(r: RingFit) -> [u32; 4]
+    ensures { (result ≡ map J.wide (fit_counts r)) × (4 ≡ length result) }
 {
     let s = r.standing;
-    let k = as_number(s.known);
-    counts[0] = (r.starts % 4294967296) as u32;
-    counts[1] = (r.first % 4294967296) as u32;
-    counts[2] = (r.second % 4294967296) as u32;
-    counts[3] = k;
+    [
+        (r.starts % 4294967296) as u32,
+        (r.first % 4294967296) as u32,
+        (r.second % 4294967296) as u32,
+        u32::from(s.known),
+    ]
 }
 
-fn ring_stored(a: RingAnswer, fit: &mut [f32], counts: &mut [u32]) -> u32
-    requires { (6 ≤ length fit.old) × (4 ≤ length counts.old) }
+// Of a fit the first V of the record's values are written.
+fn ring_stored<const V: usize>(
+    a: Result<RingFit, Refusal>,
+    fit: &mut [f32],
+    counts: &mut [u32],
+) -> u32
+    requires { (V ≤ 7) × (V ≤ length fit.old) × (4 ≤ length counts.old) }
     ensures { ◌≡◌ {A = J.Stored} (record { code = result; fit = fit.new; counts = counts.new })
-        (J.ring_stored J.the_six a fit.old counts.old) }
+        (J.ring_stored (J.first_values V) a fit.old counts.old) }
 {
     match a {
-        RingAnswer::Fitted(r) => {
-            put_fit(r.fit, fit);
-            put_counts(r, counts);
+        Ok(r) => {
+            put(&record(r.fit)[..V], fit);
+            put(&ring_counts(r), counts);
             0
         }
-        RingAnswer::Refused(number, place) => (number as u32) * 65536 + place as u32,
+        Err(e) => code(e),
     }
 }
 
-// The value call of the ring: any four slices.
+// The value call of a ring of N samples, of whose fit the first V values are written: any four slices.
+fn ring_call<const N: usize, const V: usize>(
+    samples: &[f32],
+    angles: &[f32],
+    fit: &mut [f32],
+    counts: &mut [u32],
+) -> u32
+    requires { RingSize N × (V ≤ 7) }
+    ensures { ◌≡◌ {A = J.Stored} (record { code = result; fit = fit.new; counts = counts.new })
+        (J.ring_call (J.first_values V) [] N samples.now angles.now fit.old counts.old) }
+{
+    if is_short(fit, V, counts, 4) {
+        return code(Refusal::WrongLength);
+    }
+    ring_stored::<V>(checked::fit_ring::<N>(samples, angles), fit, counts)
+}
+
 #[unsafe(no_mangle)]
 pub extern "C" fn jb_fit_ring(
     samples: &[f32],
@@ -135,16 +171,9 @@ pub extern "C" fn jb_fit_ring(
     ensures { ◌≡◌ {A = J.Stored} (record { code = result; fit = fit.new; counts = counts.new })
         (J.ring_call J.the_six [] 16 samples.now angles.now fit.old counts.old) }
 {
-    if fit.len() < 6 {
-        return 65536;
-    }
-    if counts.len() < 4 {
-        return 65536;
-    }
-    ring_stored(checked::fit_ring(samples, angles), fit, counts)
+    ring_call::<16, 6>(samples, angles, fit, counts)
 }
 
-// The same of the ring of 24 samples.
 #[unsafe(no_mangle)]
 pub extern "C" fn jb_fit_ring24(
     samples: &[f32],
@@ -155,37 +184,7 @@ pub extern "C" fn jb_fit_ring24(
     ensures { ◌≡◌ {A = J.Stored} (record { code = result; fit = fit.new; counts = counts.new })
         (J.ring_call J.the_six [] 24 samples.now angles.now fit.old counts.old) }
 {
-    if fit.len() < 6 {
-        return 65536;
-    }
-    if counts.len() < 4 {
-        return 65536;
-    }
-    ring_stored(checked::fit_ring24(samples, angles), fit, counts)
-}
-
-// The seven values of a fit's record: the six, and the mean.
-fn put_record(f: TwoAxisFit, fit: &mut [f32])
-    requires { 7 ≤ length fit.old }
-    ensures { fit.new ≡ J.put_from (record_values f) 0 fit.old }
-{
-    put_fit(f, fit);
-    fit[6] = f.mean;
-}
-
-fn record_stored(a: RingAnswer, fit: &mut [f32], counts: &mut [u32]) -> u32
-    requires { (7 ≤ length fit.old) × (4 ≤ length counts.old) }
-    ensures { ◌≡◌ {A = J.Stored} (record { code = result; fit = fit.new; counts = counts.new })
-        (J.ring_stored J.the_record a fit.old counts.old) }
-{
-    match a {
-        RingAnswer::Fitted(r) => {
-            put_record(r.fit, fit);
-            put_counts(r, counts);
-            0
-        }
-        RingAnswer::Refused(number, place) => (number as u32) * 65536 + place as u32,
-    }
+    ring_call::<24, 6>(samples, angles, fit, counts)
 }
 
 // The ring's answer with its mean, of 16 samples or of 24: any four slices.
@@ -200,16 +199,10 @@ pub extern "C" fn jb_ring_record(
         (J.ring_call J.the_record [] (J.ring_size samples.now) samples.now angles.now
         fit.old counts.old) }
 {
-    if fit.len() < 7 {
-        return 65536;
-    }
-    if counts.len() < 4 {
-        return 65536;
-    }
     if samples.len() == 24 {
-        return record_stored(checked::fit_ring24(samples, angles), fit, counts);
+        return ring_call::<24, 7>(samples, angles, fit, counts);
     }
-    record_stored(checked::fit_ring(samples, angles), fit, counts)
+    ring_call::<16, 7>(samples, angles, fit, counts)
 }
 
 // Words that hold no table, whatever they held.
@@ -218,15 +211,6 @@ pub extern "C" fn jb_tables_fresh(tables: &mut [f32; seed_models::STATE_SIZE])
     ensures { tables.new ≡ W.fresh_in tables.old }
 {
     checked_tables::fresh_tables(tables);
-}
-
-fn refusal_code(r: Refusal) -> u32
-    ensures { result ≡ refusal_code r }
-{
-    match r {
-        Refusal::By(number, place) => (number as u32) * 65536 + place as u32,
-        Refusal::Nothing => 0,
-    }
 }
 
 // The table of any angles, behind those that are held.
@@ -238,7 +222,10 @@ pub extern "C" fn jb_tables_store(
     ensures { (result ≡ refusal_code (table_refusal tables.old angles.now))
         × (tables.new ≡ words_with tables.old angles.now) }
 {
-    refusal_code(checked_tables::store_table(tables, angles))
+    match checked_tables::store_table(tables, angles) {
+        Ok(()) => 0,
+        Err(e) => code(e),
+    }
 }
 
 // The ring's answer with its mean, with the tables that are held: any four slices of 16 samples.
@@ -254,59 +241,54 @@ pub extern "C" fn jb_tables_fit(
         (J.ring_call J.the_record (W.tables_in tables.now) 16 samples.now angles.now
         fit.old counts.old) }
 {
-    if fit.len() < 7 {
-        return 65536;
+    if is_short(fit, 7, counts, 4) {
+        return code(Refusal::WrongLength);
     }
-    if counts.len() < 4 {
-        return 65536;
-    }
-    record_stored(checked::fit_ring_with(tables, samples, angles), fit, counts)
+    ring_stored::<7>(checked::fit_ring_with(tables, samples, angles), fit, counts)
 }
 
 // The eleven values of a disk's fit.
-fn put_disk(m: Measured, fit: &mut [f32])
-    requires { 11 ≤ length fit.old }
-    ensures { fit.new ≡ J.put_from (measured_values m) 0 fit.old }
+fn disk_values(m: Measured) -> [f32; 11]
+    ensures { (result ≡ measured_values m) × (11 ≡ length result) }
 {
     let f = m.fit;
     let e = m.estimate;
     let errors = e.errors;
-    fit[0] = f.theta1;
-    fit[1] = f.theta2;
-    fit[2] = f.width;
-    fit[3] = f.amp;
-    fit[4] = f.rms;
-    fit[5] = f.rel_rms;
-    fit[6] = f.corr;
-    fit[7] = f.edge_score;
-    fit[8] = f.objective;
-    fit[9] = errors.error1;
-    fit[10] = errors.error2;
+    [
+        f.theta1,
+        f.theta2,
+        f.width,
+        f.amp,
+        f.rms,
+        f.rel_rms,
+        f.corr,
+        f.edge_score,
+        f.objective,
+        errors.error1,
+        errors.error2,
+    ]
 }
 
-fn put_trials(m: Measured, counts: &mut [u32])
-    requires { 2 ≤ length counts.old }
-    ensures { counts.new ≡ J.put_from (map J.wide (measured_counts m)) 0 counts.old }
+fn disk_counts(m: Measured) -> [u32; 2]
+    ensures { (result ≡ map J.wide (measured_counts m)) × (2 ≡ length result) }
 {
     let e = m.estimate;
     let s = e.standing;
-    let k = as_number(s.known);
-    counts[0] = (m.trials % 4294967296) as u32;
-    counts[1] = k;
+    [(m.trials % 4294967296) as u32, u32::from(s.known)]
 }
 
-fn disk_stored(a: DiskAnswer, fit: &mut [f32], counts: &mut [u32]) -> u32
+fn disk_stored(a: Result<Measured, Refusal>, fit: &mut [f32], counts: &mut [u32]) -> u32
     requires { (11 ≤ length fit.old) × (2 ≤ length counts.old) }
     ensures { ◌≡◌ {A = J.Stored} (record { code = result; fit = fit.new; counts = counts.new })
         (J.disk_stored a fit.old counts.old) }
 {
     match a {
-        DiskAnswer::Fitted(m) => {
-            put_disk(m, fit);
-            put_trials(m, counts);
+        Ok(m) => {
+            put(&disk_values(m), fit);
+            put(&disk_counts(m), counts);
             0
         }
-        DiskAnswer::Refused(number, place) => (number as u32) * 65536 + place as u32,
+        Err(e) => code(e),
     }
 }
 
@@ -328,11 +310,8 @@ pub extern "C" fn jb_fit_disk(
         (J.disk_call (lent_disk val_energy xs ys vals_centered grad_angles grad_weights) base0 base1
         fit.old counts.old) }
 {
-    if fit.len() < 11 {
-        return 65536;
-    }
-    if counts.len() < 2 {
-        return 65536;
+    if is_short(fit, 11, counts, 2) {
+        return code(Refusal::WrongLength);
     }
     disk_stored(
         checked::fit_disk(

@@ -1,11 +1,10 @@
 -- What the code's own steps come to: constants as they are derived, a refused start that is never suspicious, the starts of a seed and of the grid, and the
 -- whole fit. Assumes nothing.
-use Rattle.std.specs.Prelude.{◌≡◌, Bool, cond, not, ◌||◌, List, [], ◌++◌, ℕ, ◌+◌, ◌-◌, ◌*◌, ◌≤◌, ◌<◌, length, take, drop, Float}
+use Rattle.std.specs.Prelude.{◌≡◌, Bool, cond, not, ◌||◌, List, [], ◌++◌, ℕ, ◌+◌, ◌-◌, ◌*◌, ◌≤◌, ◌<◌, length, take, drop, Option, Some, None, Float}
 use Rattle.std.proofs.Math.Path.{refl, sym, ap}
 use Rattle.std.proofs.Common.{◌∙◌, subst, zero-le, arith}
 use Rattle.std.proofs.Math.Bool.{true, false}
 use Rattle.std.proofs.lemmas.Bool.{false≢true}
-use Rattle.std.proofs.Math.Option.{Option}
 use Rattle.std.specs.Float.Ieee.{lt, mul, of_bits}
 use Rattle.std.specs.Float.Ieee.Scale.{finite}
 use Rattle.floats.specs.Ops.{lit}
@@ -22,21 +21,13 @@ use Rattle.solver.proofs.SolverLaws.{prepared_length, whole_prepared}
 use Rattle.solver_record.specs.declared.Params.{Params}
 use Rattle.solver_record.specs.declared.Started.{Started}
 use Rattle.seed.specs.Seed.{flat, second_harmonic}
-use Rattle.seed.specs.declared.Seed.{Seed}
-use Rattle.seed.specs.declared.Seed.TheVariants.{Found, Nothing}
 use Rattle.seed.specs.declared.SeedCandidate.{SeedCandidate}
 use Rattle.robust_grid.specs.Grid.{best_of, best_seed}
 use Rattle.robust_grid.specs.Places.{Grid, score_at}
 use Rattle.robust_grid.specs.PlaceLaws.{grid_best}
 use Rattle.seed_models.specs.Models.{Table, table_at, best_cached, first_from, first_table}
 use Rattle.seed_models.specs.Words.{ring_samples, held_in, table_part, table_in, tables_in}
-use Rattle.seed_models.specs.declared.Matched.{Matched}
-use Rattle.seed_models.specs.declared.Matched.TheVariants as Matches
 use Rattle.robust.specs.declared.First.{First}
-use Rattle.robust.specs.declared.Centered.{Centered}
-use Rattle.robust.specs.declared.Centered.TheVariants.{Sum, Flat}
-use Rattle.robust_choice.specs.declared.Second.{Second}
-use Rattle.robust_choice.specs.declared.Second.TheVariants.{Made, Missing}
 use Rattle.robust_choice.specs.declared.RingFit.{RingFit}
 use Rattle.robust.specs.Robust as R
 use Rattle.robust.specs.Record.{record_ring}
@@ -97,15 +88,15 @@ module _ (n : ℕ) (samples ring_phi : Row) (seed : Params) (centered_var : Floa
   start_made sphi cphi d t l p h = rw (← d, t) (h ∙ whole_prepared n samples ring_phi sphi cphi seed p l)
 
 -- ---- the one seed's start
-module _ (n : ℕ) (samples ring_phi : Row) (centered_var : Float) (top : Seed) where
-  pub refined_missing : top ≡ Nothing → Missing ≡ second_of (R.refine_seed_candidates n samples ring_phi centered_var top)
+module _ (n : ℕ) (samples ring_phi : Row) (centered_var : Float) (top : Option SeedCandidate) where
+  pub refined_missing : top ≡ None → None ≡ second_of (R.refine_seed_candidates n samples ring_phi centered_var top)
   unfolding R.refine_seed_candidates
   refined_missing e = rw e refl
 
-  pub refined_made : (s : SeedCandidate) (f : Started) → top ≡ Found s → f ≡ record_with_seed n samples ring_phi (R.seeded s) centered_var
-      → Made f ≡ second_of (R.refine_seed_candidates n samples ring_phi centered_var top)
+  pub refined_made : (s : SeedCandidate) (f : Started) → top ≡ Some s → f ≡ record_with_seed n samples ring_phi (R.seeded s) centered_var
+      → Some f ≡ second_of (R.refine_seed_candidates n samples ring_phi centered_var top)
   unfolding R.refine_seed_candidates
-  refined_made s f e h = rw e (ap Made (h ∙ start_is n samples ring_phi (R.seeded s) centered_var))
+  refined_made s f e h = rw e (ap Some (h ∙ start_is n samples ring_phi (R.seeded s) centered_var))
 
 -- ---- the grid's start: refused by the variance or the sum of squares, or made
 -- the centred samples stand at the front of js
@@ -135,24 +126,24 @@ module _ (n : ℕ) (samples : Row) (mean centered_var : Float) (centered : Row) 
   some_grid el eb et = rw (← sum_is, el, ← eb, et)
 
 -- what was told of them, where the case is known
-module _ (n : ℕ) (samples : Row) (mean centered_var : Float) (js : Row) (r : Centered) where
-  pub none_centered : r ≡ Flat → CenteredIn n samples mean centered_var js r → no_grid n samples mean centered_var ≡ true
+module _ (n : ℕ) (samples : Row) (mean centered_var : Float) (js : Row) (r : Option Float) where
+  pub none_centered : r ≡ None → CenteredIn n samples mean centered_var js r → no_grid n samples mean centered_var ≡ true
   none_centered e h = subst (CenteredIn n samples mean centered_var js) e h
 
-  pub sum_centered : (s : Float) → r ≡ Sum s → CenteredIn n samples mean centered_var js r → CenteredIn n samples mean centered_var js (Sum s)
+  pub sum_centered : (s : Float) → r ≡ Some s → CenteredIn n samples mean centered_var js r → CenteredIn n samples mean centered_var js (Some s)
   sum_centered s e h = subst (CenteredIn n samples mean centered_var js) e h
 
-module _ (search : Row → Float → Seed) (n : ℕ) (samples ring_phi : Row) (mean centered_var : Float) where
-  pub grid_missing : no_grid n samples mean centered_var ≡ true → Missing ≡ second_of (R.grid_fit_by search n samples ring_phi mean centered_var)
+module _ (search : Row → Float → Option SeedCandidate) (n : ℕ) (samples ring_phi : Row) (mean centered_var : Float) where
+  pub grid_missing : no_grid n samples mean centered_var ≡ true → None ≡ second_of (R.grid_fit_by search n samples ring_phi mean centered_var)
   unfolding R.grid_fit_by
   grid_missing e = rw e refl
 
-  pub grid_made : (top : Seed) {r : Second} → no_grid n samples mean centered_var ≡ false
+  pub grid_made : (top : Option SeedCandidate) {r : Option Started} → no_grid n samples mean centered_var ≡ false
       → top ≡ search (R.centered_of n samples mean) (R.squares n (R.centered_of n samples mean))
       → r ≡ second_of (R.refine_seed_candidates n samples ring_phi centered_var top)
       → r ≡ second_of (R.grid_fit_by search n samples ring_phi mean centered_var)
   unfolding R.grid_fit_by
-  grid_made top e et er = rw e (er ∙ ap (λ (x : Seed). second_of (R.refine_seed_candidates n samples ring_phi centered_var x)) et)
+  grid_made top e et er = rw e (er ∙ ap (λ (x : Option SeedCandidate). second_of (R.refine_seed_candidates n samples ring_phi centered_var x)) et)
 
 -- without tables the seed is the grid's, from the buffer
 module _ (n : ℕ) (samples ring_phi : Row) (mean centered_var : Float) where
@@ -160,7 +151,7 @@ module _ (n : ℕ) (samples ring_phi : Row) (mean centered_var : Float) where
   unfolding R.robust_grid_fit R.grid_seed first_table first_from
   direct_is = refl
 
-  pub direct_seed_lem : (sphi cphi h centered : Row) (s : Float) (top : Seed) → length ring_phi ≡ n → Prepared ring_phi sphi cphi
+  pub direct_seed_lem : (sphi cphi h centered : Row) (s : Float) (top : Option SeedCandidate) → length ring_phi ≡ n → Prepared ring_phi sphi cphi
       → Grid sphi cphi h (length sphi) → centered ≡ R.centered_of n samples mean → s ≡ R.squares n (R.centered_of n samples mean)
       → top ≡ best_of (score_at (length centered) h centered s mean)
       → top ≡ direct_seed n ring_phi mean (R.centered_of n samples mean) (R.squares n (R.centered_of n samples mean))
@@ -174,16 +165,16 @@ module _ (n : ℕ) (samples ring_phi : Row) (mean centered_var : Float) where
       rw (← es, ← ec, ← e_s, ← e_c) best
 
 -- with the tables of a caller's words: none is near, or the seed is that of the first that is
-module _ (words samples ring_phi : Row) (mean centered_var : Float) (w : Matched) (n : length samples ≡ ring_samples)
+module _ (words samples ring_phi : Row) (mean centered_var : Float) (w : Option ℕ) (n : length samples ≡ ring_samples)
     (first : w ≡ first_table ring_samples (tables_in words) ring_phi) where
   abbrev fit : List Table → Option Start
   fit tables = R.robust_grid_fit tables (length samples) samples ring_phi mean centered_var
 
-  pub none_near : w ≡ Matches.Missing → fit [] ≡ fit (tables_in words)
+  pub none_near : w ≡ None → fit [] ≡ fit (tables_in words)
   unfolding R.robust_grid_fit R.grid_seed first_table first_from
   none_near e = rw (n, ← first, e) refl
 
-  pub one_near : (t : ℕ) → w ≡ Matches.At t → t < held_in words
+  pub one_near : (t : ℕ) → w ≡ Some t → t < held_in words
       → R.grid_fit_by (cached_seed (table_part words t) mean) ring_samples samples ring_phi mean centered_var ≡ fit (tables_in words)
   unfolding R.robust_grid_fit R.grid_seed
   one_near t e l =
@@ -219,7 +210,7 @@ module _ (tables : List Table) (n : ℕ) (samples ring_phi : Row) (f : First) (r
   unfolding record_ring R.ring
   ring_chosen t c =
       let due : R.fit_is_suspicious primary.fit ≡ true = ap (λ (x : Started). R.fit_is_suspicious (without_mean x.fit)) (sym first_is) ∙ t in
-      let second : First → Second = λ x. second_of (R.robust_grid_fit tables n samples ring_phi x.mean x.centered_var) in
+      let second : First → Option Started = λ x. second_of (R.robust_grid_fit tables n samples ring_phi x.mean x.centered_var) in
       rw due (
       c ∙ ap (λ (x : Started). chosen_of x (second f)) first_is
       ∙ ap (λ (x : First). chosen_of (started_of primary) (second x)) e ∙ chosen_is primary _

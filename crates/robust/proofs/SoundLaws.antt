@@ -1,9 +1,8 @@
 -- Every ring fit is sound and keeps the bill, for any number of samples and any values: its starts are sound, a seed of the grid is held by f32, and
 -- one or two starts are made. Assumes nothing.
-use Rattle.std.specs.Prelude.{◌≡◌, refl, Bool, cond, ◌&&◌, ◌||◌, ◌⊎◌, List, [], ◌∷◌, ℕ, ◌+◌, ◌/◌, ◌≤◌, T, Float}
+use Rattle.std.specs.Prelude.{◌≡◌, refl, Bool, cond, ◌&&◌, ◌||◌, ◌⊎◌, List, [], ◌∷◌, ℕ, ◌+◌, ◌/◌, ◌≤◌, T, Option, Some, None, Float}
 use Rattle.std.proofs.Math.Bool.{true, false}
 use Rattle.std.proofs.Common.{inl, inr}
-use Rattle.std.proofs.Math.Option.{Option, none, some}
 use native.Mathlib.Omega.{arith}
 use Rattle.std.specs.Float.Ieee.{binary32, lt, fits}
 use Rattle.std.specs.Float.Ieee.Scale.{finite}
@@ -22,15 +21,11 @@ use Rattle.solver_record.specs.declared.Params.{Params}
 use Rattle.seed.specs.Seed.{robust_grid_step_deg, flat, kept, seed_from, scored_from, scored, score_seed_pair, pair_sums, insert_seed_candidate}
 use Rattle.seed.specs.Seed.{second_harmonic, harmonic}
 use Rattle.seed.specs.declared.Sums.{Sums}
-use Rattle.seed.specs.declared.Seed.{Seed}
-use Rattle.seed.specs.declared.Seed.TheVariants.{Found, Nothing}
 use Rattle.seed.specs.declared.SeedCandidate.{SeedCandidate}
 use Rattle.robust_lanes.specs.Lanes.{inserted}
 use Rattle.robust_grid.specs.Grid.{grid_angle, grid_row, pair_at, pairs_from, all_pairs, tries, best_of, best_seed}
 use Rattle.seed_models.specs.Models.{SeedModel, Table, table_at, first_table, score_cached_seed_model, best_from, best_cached}
 use Rattle.seed_models.specs.HeldLaws.{All, AnglesHeld, TablesHeld, table_held}
-use Rattle.seed_models.specs.declared.Matched.{Matched}
-use Rattle.seed_models.specs.declared.Matched.TheVariants.{At, Missing}
 use Rattle.robust_choice.specs.declared.RingFit.{RingFit}
 use Rattle.robust.specs.Robust as R
 use Rattle.robust_choice.specs.Choice.{Start, Ring, single, is_lower, chosen}
@@ -41,15 +36,15 @@ use Rattle.robust.specs.Record.{record_ring}
 abbrev Held : SeedCandidate → Type 0
 Held s = ParamsHeld (R.seeded s) × T (finite s.mu)
 
-abbrev SeedHeld : Seed → Type 0
-SeedHeld Nothing = 0 ≤ 0
-SeedHeld (Found s) = Held s
+abbrev SeedHeld : Option SeedCandidate → Type 0
+SeedHeld None = 0 ≤ 0
+SeedHeld (Some s) = Held s
 
 kept_held : (s : SeedCandidate) → ParamsHeld (R.seeded s) → SeedHeld (kept s)
 unfolding kept
 kept_held s h = go (finite s.rms) (finite s.amp) (finite s.mu) refl
   where
-    go : (a b c : Bool) → finite s.mu ≡ c → SeedHeld (cond (a && (b && c)) (Found s) Nothing)
+    go : (a b c : Bool) → finite s.mu ≡ c → SeedHeld (cond (a && (b && c)) (Some s) None)
     go true true true e = (h, of_true e)
     go true true false e = omega arith
     go true false c e = omega arith
@@ -68,26 +63,26 @@ scored_held n css mean s a b =
     let step = to_radians robust_grid_step_deg in
     go (flat denom) _ (from_held n css mean s.num q_mean denom _ _ (mul-fits binary32 (count a) step) (mul-fits binary32 (count b) step))
   where
-    go : (f : Bool) (x : Seed) → SeedHeld x → SeedHeld (cond f Nothing x)
+    go : (f : Bool) (x : Option SeedCandidate) → SeedHeld x → SeedHeld (cond f None x)
     go true x h = omega arith
     go false x h = h
 
-insert_held : (top : Seed) (c : SeedCandidate) → SeedHeld top → Held c → SeedHeld (insert_seed_candidate top c)
+insert_held : (top : Option SeedCandidate) (c : SeedCandidate) → SeedHeld top → Held c → SeedHeld (insert_seed_candidate top c)
 unfolding insert_seed_candidate
-insert_held Nothing c h g = g
-insert_held (Found s) c h g = go (lt c.rms s.rms)
+insert_held None c h g = g
+insert_held (Some s) c h g = go (lt c.rms s.rms)
   where
-    go : (b : Bool) → SeedHeld (cond b (Found c) (Found s))
+    go : (b : Bool) → SeedHeld (cond b (Some c) (Some s))
     go true = g
     go false = h
 
-inserted_held : (top s : Seed) → SeedHeld top → SeedHeld s → SeedHeld (inserted top s)
+inserted_held : (top s : Option SeedCandidate) → SeedHeld top → SeedHeld s → SeedHeld (inserted top s)
 unfolding inserted
-inserted_held top Nothing h g = h
-inserted_held top (Found c) h g = insert_held top c h g
+inserted_held top None h g = h
+inserted_held top (Some c) h g = insert_held top c h g
 
-module _ (score : ℕ → ℕ → Seed) (sound : (a b : ℕ) → SeedHeld (score a b)) where
-  pair_held : (a b : ℕ) (top : Seed) → SeedHeld top → SeedHeld (pair_at (tries score) a b top)
+module _ (score : ℕ → ℕ → Option SeedCandidate) (sound : (a b : ℕ) → SeedHeld (score a b)) where
+  pair_held : (a b : ℕ) (top : Option SeedCandidate) → SeedHeld top → SeedHeld (pair_at (tries score) a b top)
   unfolding pair_at
   pair_held a b top h = go (valid_pair (grid_angle a) (grid_angle b))
     where
@@ -95,13 +90,13 @@ module _ (score : ℕ → ℕ → Seed) (sound : (a b : ℕ) → SeedHeld (score
       go true = inserted_held top (score a b) h (sound a b)
       go false = h
 
-  pairs_held : (a : ℕ) (top : Seed) → SeedHeld top → SeedHeld (pairs_from (tries score) a top)
+  pairs_held : (a : ℕ) (top : Option SeedCandidate) → SeedHeld top → SeedHeld (pairs_from (tries score) a top)
   unfolding pairs_from
   pairs_held a top h = range_keeps SeedHeld (pair_at (tries score) a) top (a + 1) 23 h (λ b x g. pair_held a b x g)
 
   best_held : SeedHeld (best_of score)
   unfolding best_of all_pairs
-  best_held = iter_keeps SeedHeld (pairs_from (tries score)) Nothing 23 (omega arith) (λ a x g. pairs_held a x g)
+  best_held = iter_keeps SeedHeld (pairs_from (tries score)) None 23 (omega arith) (λ a x g. pairs_held a x g)
 
 seed_held : (n : ℕ) (sphi cphi centered : Row) (centered_ss mean : Float) → SeedHeld (best_seed n sphi cphi centered centered_ss mean)
 unfolding best_seed score_seed_pair
@@ -109,19 +104,19 @@ seed_held n sphi cphi centered centered_ss mean =
     best_held _ (λ a b. scored_held (count n) centered_ss mean (pair_sums n centered (grid_row n sphi cphi a) (grid_row n sphi cphi b)) a b)
 
 -- the same of a table's models
-cached_held : (score : SeedModel → Seed) (top : Seed) (models : List SeedModel) → ((m : SeedModel) → AnglesHeld m → SeedHeld (score m))
-    → SeedHeld top → All AnglesHeld models → SeedHeld (best_from score top models)
+cached_held : (score : SeedModel → Option SeedCandidate) (top : Option SeedCandidate) (models : List SeedModel)
+    → ((m : SeedModel) → AnglesHeld m → SeedHeld (score m)) → SeedHeld top → All AnglesHeld models → SeedHeld (best_from score top models)
 unfolding best_from
 cached_held score top [] sound h all = h
 cached_held score top (m ∷ models) sound h all =
     cached_held score (inserted top (score m)) models sound (inserted_held top (score m) h (sound m all.0)) all.1
 
-grid_held : (tables : List Table) (w : Matched) (n : ℕ) (ring_phi : Row) (mean : Float) (centered : Row) (centered_ss : Float) → TablesHeld tables
+grid_held : (tables : List Table) (w : Option ℕ) (n : ℕ) (ring_phi : Row) (mean : Float) (centered : Row) (centered_ss : Float) → TablesHeld tables
     → SeedHeld (R.grid_seed tables w n ring_phi mean centered centered_ss)
 unfolding R.grid_seed best_cached score_cached_seed_model
-grid_held tables Missing n ring_phi mean centered centered_ss h = seed_held n (sines n ring_phi) (cosines n ring_phi) centered centered_ss mean
-grid_held tables (At t) n ring_phi mean centered centered_ss h =
-    cached_held _ Nothing (table_at tables t).models (λ m a. from_held _ _ _ _ _ _ _ _ a.0 a.1) (omega arith) (table_held tables t h)
+grid_held tables None n ring_phi mean centered centered_ss h = seed_held n (sines n ring_phi) (cosines n ring_phi) centered centered_ss mean
+grid_held tables (Some t) n ring_phi mean centered centered_ss h =
+    cached_held _ None (table_at tables t).models (λ m a. from_held _ _ _ _ _ _ _ _ a.0 a.1) (omega arith) (table_held tables t h)
 
 -- a first seed has the mean of the samples, and one of the grid a mean that is finite
 abbrev pub MeanHeld : Float → Params → Type 0
@@ -130,13 +125,13 @@ MeanHeld mean seed = (seed.mu ≡ mean) ⊎ T (finite seed.mu)
 -- ---- what every start from a held seed has, the answered start has, and the second too
 module _ (P : Start → Type 0) where
   abbrev Each : Option Start → Type 0
-  Each none = 0 ≤ 0
-  Each (some s) = P s
+  Each None = 0 ≤ 0
+  Each (Some s) = P s
 
   chosen_each : (f : Start) (o : Option Start) → P f → Each o → P (chosen f o).answered
   unfolding chosen
-  chosen_each f none h k = h
-  chosen_each f (some g) h k = go (is_lower g.fit f.fit)
+  chosen_each f None h k = h
+  chosen_each f (Some g) h k = go (is_lower g.fit f.fit)
     where
       go : (b : Bool) → P (cond b g f)
       go true = k
@@ -161,10 +156,10 @@ module _ (P : Start → Type 0) where
           let two = add-fits binary32 h.theta (lit 0x4040_0000 ⊗ quarter_pi) in
           all (R.first_seed h mean) (record { amp = div-fits binary32 _ (count (n / 2)); one = one; two = two }) (inl refl)
 
-      refined_each : (s : Seed) → SeedHeld s → Each (R.refine_seed_candidates n samples ring_phi centered_var s)
+      refined_each : (s : Option SeedCandidate) → SeedHeld s → Each (R.refine_seed_candidates n samples ring_phi centered_var s)
       unfolding R.refine_seed_candidates
-      refined_each Nothing h = omega arith
-      refined_each (Found s) h = all (R.seeded s) h.0 (inr h.1)
+      refined_each None h = omega arith
+      refined_each (Some s) h = all (R.seeded s) h.0 (inr h.1)
 
       grid_each : Each (R.robust_grid_fit tables n samples ring_phi mean centered_var)
       unfolding R.robust_grid_fit R.grid_fit_by
@@ -174,7 +169,7 @@ module _ (P : Start → Type 0) where
           let seed = grid_held tables (first_table n tables ring_phi) n ring_phi mean centered centered_ss held in
           go (lt centered_var (lit 0x3586_37bd) || flat centered_ss) _ (refined_each _ seed)
         where
-          go : (b : Bool) (o : Option Start) → Each o → Each (cond b none o)
+          go : (b : Bool) (o : Option Start) → Each o → Each (cond b None o)
           go true o h = omega arith
           go false o h = h
 
@@ -202,8 +197,8 @@ single_billed f h = record { some = omega arith; most = omega arith; first = h; 
 
 chosen_billed : (f : Start) (o : Option Start) → Few f → Each Few o → Billed (ring_fit_of (chosen f o))
 unfolding chosen
-chosen_billed f none h k = single_billed f h
-chosen_billed f (some g) h k = record { some = omega arith; most = omega arith; first = h; second = k; alone = λ e. absurd (two e) }
+chosen_billed f None h k = single_billed f h
+chosen_billed f (Some g) h k = record { some = omega arith; most = omega arith; first = h; second = k; alone = λ e. absurd (two e) }
   where
     two : ◌≡◌ {A = ℕ} 2 1 → ⊥
     two e = omega arith

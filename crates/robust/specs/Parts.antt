@@ -1,5 +1,5 @@
 -- What the contracts of crates/robust speak of besides the definitions: the lent buffers, and the first start. Definitions only.
-use Rattle.std.specs.Prelude.{◌≡◌, Bool, true, false, ◌||◌, List, ℕ, ◌+◌, ◌-◌, ◌*◌, ◌≤◌, length, take, drop, Float}
+use Rattle.std.specs.Prelude.{◌≡◌, Bool, true, false, ◌||◌, List, ℕ, ◌+◌, ◌-◌, ◌*◌, ◌≤◌, length, take, drop, Option, Some, None, Float}
 use Rattle.std.specs.Float.Ieee.{lt}
 use Rattle.floats.specs.Ops.{lit}
 use Rattle.floats.specs.Rows.{Row}
@@ -7,14 +7,12 @@ use Rattle.solver.specs.Solver.{sines, cosines}
 use Rattle.solver.specs.Record.{record_with_seed}
 use Rattle.solver.specs.Buffers.{Prepared, max_samples}
 use Rattle.seed.specs.Seed.{second_harmonic, flat}
-use Rattle.seed.specs.declared.Seed.{Seed}
+use Rattle.seed.specs.declared.SeedCandidate.{SeedCandidate}
 use Rattle.robust_lanes.specs.Lanes.{grid_places}
 use Rattle.robust_grid.specs.Grid.{best_seed}
 use Rattle.seed_models.specs.Models.{Table, best_cached}
 use Rattle.seed_models.specs.Words.{ring_samples, models_in}
 use Rattle.robust.specs.declared.First.{First}
-use Rattle.robust.specs.declared.Centered.{Centered}
-use Rattle.robust.specs.declared.Centered.TheVariants.{Sum, Flat}
 use Rattle.robust_choice.specs.Parts.{second_of, chosen_of}
 use Rattle.robust_choice.specs.declared.RingFit.{RingFit}
 use Rattle.robust.specs.Robust as R
@@ -56,18 +54,18 @@ abbrev pub no_grid : ℕ → Row → Float → Float → Bool
 no_grid n samples mean centered_var = lt centered_var (lit 0x3586_37bd) || flat (R.squares n (R.centered_of n samples mean))
 
 -- if it is, that sum, and the centred samples stand in front of js
-abbrev pub CenteredIn : ℕ → Row → Float → Float → Row → Centered → Type 0
-CenteredIn n samples mean centered_var js Flat = no_grid n samples mean centered_var ≡ true
-CenteredIn n samples mean centered_var js (Sum s) =
+abbrev pub CenteredIn : ℕ → Row → Float → Float → Row → Option Float → Type 0
+CenteredIn n samples mean centered_var js None = no_grid n samples mean centered_var ≡ true
+CenteredIn n samples mean centered_var js (Some s) =
     (no_grid n samples mean centered_var ≡ false) × (take (n - 0) (drop 0 js) ≡ R.centered_of n samples mean) ×
     (s ≡ R.squares n (R.centered_of n samples mean))
 
 -- the best seed of the table in these words
-abbrev pub cached_seed : Row → Float → Row → Float → Seed
+abbrev pub cached_seed : Row → Float → Row → Float → Option SeedCandidate
 cached_seed table mean centered centered_ss = best_cached ring_samples centered centered_ss mean (models_in table)
 
 -- the best seed of the grid
-abbrev pub direct_seed : ℕ → Row → Float → Row → Float → Seed
+abbrev pub direct_seed : ℕ → Row → Float → Row → Float → Option SeedCandidate
 direct_seed n ring_phi mean centered centered_ss = best_seed n (sines n ring_phi) (cosines n ring_phi) centered centered_ss mean
 
 -- r is the answer of the first start f and of the table in these words

@@ -3,8 +3,7 @@
 -- crates/robust_choice/specs/Choice.antt.
 -- `n` is the number of samples throughout; `ring_phi` are their angles on the ring, and `tables` the tables of seed models that are held
 -- (crates/seed_models/specs/Models.antt). The answer of ours, which keeps the mean, is Record.antt.
-use Rattle.std.specs.Prelude.{Bool, false, cond, not, ◌&&◌, ◌||◌, List, ℕ, Float}
-use Rattle.std.proofs.Math.Option.{Option, none, some}
+use Rattle.std.specs.Prelude.{Bool, false, cond, not, ◌&&◌, ◌||◌, List, ℕ, Option, Some, None, Float}
 use Rattle.std.specs.Float.{inf}
 use Rattle.std.specs.Float.Ieee.{neg, lt, le}
 use Rattle.std.specs.Float.Ieee.Scale.{finite}
@@ -19,13 +18,9 @@ use Rattle.solver.specs.Record.{record_with_seed}
 use Rattle.solver_record.specs.declared.Params.{Params}
 use Rattle.seed.specs.Seed.{second_harmonic, flat}
 use Rattle.seed.specs.declared.Harmonic.{Harmonic}
-use Rattle.seed.specs.declared.Seed.{Seed}
-use Rattle.seed.specs.declared.Seed.TheVariants.{Found, Nothing}
 use Rattle.seed.specs.declared.SeedCandidate.{SeedCandidate}
 use Rattle.robust_grid.specs.Grid.{best_seed}
 use Rattle.seed_models.specs.Models.{Table, table_at, first_table, best_cached}
-use Rattle.seed_models.specs.declared.Matched.{Matched}
-use Rattle.seed_models.specs.declared.Matched.TheVariants.{At, Missing}
 use Rattle.robust_choice.specs.Choice.{Source, of_pass, of_seed, Start, Ring, single, chosen}
 
 -- ---- mod.rs: AMP_FLOOR; robust.rs: ROBUST_REL_RMS_TRIGGER, ROBUST_SEP_TRIGGER_MIN_RAD and ROBUST_SEP_TRIGGER_MAX_RAD, 0.12 and 65 and 115 degrees
@@ -86,9 +81,9 @@ start n samples ring_phi seed centered_var =
 abbrev pub seeded : SeedCandidate → Params
 seeded s = record { mu = s.mu; amp = s.amp; theta1 = s.theta1; theta2 = s.theta2 }
 
-unfoldable pub refine_seed_candidates : ℕ → Row → Row → Float → Seed → Option Start
-refine_seed_candidates n samples ring_phi centered_var Nothing = none
-refine_seed_candidates n samples ring_phi centered_var (Found s) = some (start n samples ring_phi (seeded s) centered_var)
+unfoldable pub refine_seed_candidates : ℕ → Row → Row → Float → Option SeedCandidate → Option Start
+refine_seed_candidates n samples ring_phi centered_var None = None
+refine_seed_candidates n samples ring_phi centered_var (Some s) = Some (start n samples ring_phi (seeded s) centered_var)
 
 -- ---- robust.rs: robust_grid_fit
 abbrev pub centered_of : ℕ → Row → Float → Row
@@ -98,17 +93,17 @@ unfoldable pub squares : ℕ → Row → Float
 squares n centered = iter (λ i s. s ⊕ at centered i ⊗ at centered i) nought n
 
 -- `search` is the best seed of the centred samples and their sum of squares
-unfoldable pub grid_fit_by : (Row → Float → Seed) → ℕ → Row → Row → Float → Float → Option Start
+unfoldable pub grid_fit_by : (Row → Float → Option SeedCandidate) → ℕ → Row → Row → Float → Float → Option Start
 grid_fit_by search n samples ring_phi mean centered_var =
     let centered = centered_of n samples mean in
     let centered_ss = squares n centered in
-    cond (lt centered_var (lit 0x3586_37bd) || flat centered_ss) none (refine_seed_candidates n samples ring_phi centered_var (search centered centered_ss))
+    cond (lt centered_var (lit 0x3586_37bd) || flat centered_ss) None (refine_seed_candidates n samples ring_phi centered_var (search centered centered_ss))
 
 -- under the feature `std` a ring whose angles are a table's has its seed from the table, by robust_grid_fit_cached; without tables this is the Rust without
 -- `std`, and with one table, of RING5's angles, the Rust with it
-unfoldable pub grid_seed : List Table → Matched → ℕ → Row → Float → Row → Float → Seed
-grid_seed tables Missing n ring_phi mean centered centered_ss = best_seed n (sines n ring_phi) (cosines n ring_phi) centered centered_ss mean
-grid_seed tables (At t) n ring_phi mean centered centered_ss = best_cached n centered centered_ss mean (table_at tables t).models
+unfoldable pub grid_seed : List Table → Option ℕ → ℕ → Row → Float → Row → Float → Option SeedCandidate
+grid_seed tables None n ring_phi mean centered centered_ss = best_seed n (sines n ring_phi) (cosines n ring_phi) centered centered_ss mean
+grid_seed tables (Some t) n ring_phi mean centered centered_ss = best_cached n centered centered_ss mean (table_at tables t).models
 
 unfoldable pub robust_grid_fit : List Table → ℕ → Row → Row → Float → Float → Option Start
 robust_grid_fit tables n samples ring_phi mean centered_var =

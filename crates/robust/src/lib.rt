@@ -12,9 +12,8 @@ ghost use Rattle.robust_choice.specs.Parts.{second_of};
 ghost use Rattle.robust.specs.Parts as P;
 ghost use Rattle.seed_models.specs.Words as W;
 
-use robust_choice::{RingFit, Second};
-use seed::{Harmonic, Seed};
-use seed_models::Matched;
+use robust_choice::RingFit;
+use seed::{Harmonic, SeedCandidate};
 use solver_record::{Params, Started, TwoAxisFit};
 
 const AMP_FLOOR: f32 = 1.0;
@@ -133,18 +132,16 @@ fn refined(
     samples: &[f32],
     ring_phi: &[f32],
     centered_var: f32,
-    top: Seed,
+    top: Option<SeedCandidate>,
     sphi: &[f32],
     cphi: &[f32],
     js: &mut [f32],
-) -> Second
+) -> Option<Started>
     requires { P.Ready samples.now ring_phi.now sphi.now cphi.now js.old }
     ensures { result ≡ second_of (R.refine_seed_candidates (length samples.now) samples.now ring_phi.now
         centered_var top) }
 {
-    let Seed::Found(s) = top else {
-        return Second::Missing;
-    };
+    let s = top?;
     let seed = Params {
         mu: s.mu,
         amp: s.amp,
@@ -152,31 +149,25 @@ fn refined(
         theta2: s.theta2,
     };
     let f = started(samples, ring_phi, seed, centered_var, sphi, cphi, js);
-    Second::Made(f)
+    Some(f)
 }
 
-// The sum of squares of the centred samples, or that the grid is not worth its search.
-#[derive(Drop)]
-pub enum Centered {
-    Sum(f32),
-    Flat,
-}
-
-// `js` holds the centred samples until the fit takes it.
-fn centered_sum(samples: &[f32], mean: f32, centered_var: f32, js: &mut [f32]) -> Centered
+// The sum of squares of the centred samples, where the grid is worth its search. `js` holds the centred samples until the
+// fit takes it.
+fn centered_sum(samples: &[f32], mean: f32, centered_var: f32, js: &mut [f32]) -> Option<f32>
     requires { length js.old ≡ 4 * length samples.now }
     ensures { P.CenteredIn (length samples.now) samples.now mean centered_var js.new result }
 {
     if centered_var < 1e-6 {
-        return Centered::Flat;
+        return None;
     }
     let n = samples.len();
     center(samples, mean, &mut js[0..n]);
     let s = squares(&js[0..n]);
     if seed::is_flat(s) {
-        return Centered::Flat;
+        return None;
     }
-    Centered::Sum(s)
+    Some(s)
 }
 
 // The start behind the grid, the sines and cosines at hand.
@@ -189,14 +180,12 @@ fn grid_fit(
     cphi: &[f32],
     js: &mut [f32],
     h: &mut [f32],
-) -> Second
+) -> Option<Started>
     requires { P.Ready samples.now ring_phi.now sphi.now cphi.now js.old × P.Rows samples.now h.old }
     ensures { result ≡ second_of (R.robust_grid_fit [] (length samples.now) samples.now ring_phi.now
         mean centered_var) }
 {
-    let Centered::Sum(centered_ss) = centered_sum(samples, mean, centered_var, js) else {
-        return Second::Missing;
-    };
+    let centered_ss = centered_sum(samples, mean, centered_var, js)?;
     robust_grid::fill_grid(sphi, cphi, h);
     let n = samples.len();
     let top = seed_models::best_seed(h, false, &js[0..n], centered_ss, mean);
@@ -213,15 +202,13 @@ fn cached_fit(
     sphi: &[f32],
     cphi: &[f32],
     js: &mut [f32],
-) -> Second
+) -> Option<Started>
     requires { (length table.now ≡ W.table_size) × (length samples.now ≡ W.ring_samples)
         × P.Ready samples.now ring_phi.now sphi.now cphi.now js.old }
     ensures { result ≡ second_of (R.grid_fit_by (P.cached_seed table.now mean) W.ring_samples samples.now ring_phi.now
         mean centered_var) }
 {
-    let Centered::Sum(centered_ss) = centered_sum(samples, mean, centered_var, js) else {
-        return Second::Missing;
-    };
+    let centered_ss = centered_sum(samples, mean, centered_var, js)?;
     let n = samples.len();
     let top = seed_models::best_seed(table, true, &js[0..n], centered_ss, mean);
     refined(samples, ring_phi, centered_var, top, sphi, cphi, js)
@@ -232,11 +219,11 @@ pub fn refine_seed_candidates(
     samples: &[f32],
     ring_phi: &[f32],
     centered_var: f32,
-    top: Seed,
+    top: Option<SeedCandidate>,
     sphi: &mut [f32],
     cphi: &mut [f32],
     js: &mut [f32],
-) -> Second
+) -> Option<Started>
     requires { P.Lent samples.now ring_phi.now sphi.old cphi.old js.old }
     ensures { result ≡ second_of (R.refine_seed_candidates (length samples.now) samples.now ring_phi.now
         centered_var top) }
@@ -256,7 +243,7 @@ pub fn robust_grid_fit(
     cphi: &mut [f32],
     js: &mut [f32],
     h: &mut [f32],
-) -> Second
+) -> Option<Started>
     requires { P.Lent samples.now ring_phi.now sphi.old cphi.old js.old × P.Rows samples.now h.old }
     ensures { result ≡ second_of (R.robust_grid_fit [] (length samples.now) samples.now ring_phi.now
         mean centered_var) }
@@ -444,7 +431,7 @@ fn with_tables(
         × P.Ready samples.now ring_phi.now sphi.now cphi.now js.old }
     ensures { P.WithGrid (W.tables_in words.now) samples.now ring_phi.now f result }
 {
-    let Matched::At(t) = seed_models::first_table(words, ring_phi) else {
+    let Some(t) = seed_models::first_table(words, ring_phi) else {
         return with_grid_16(samples, ring_phi, f, sphi, cphi, js);
     };
     with_table(words, t, samples, ring_phi, f, sphi, cphi, js)

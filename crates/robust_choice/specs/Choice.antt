@@ -1,6 +1,5 @@
 -- Which start is answered: ring_fit/robust.rs, the end of fit_ring, and what its starts are. Definitions only.
-use Rattle.std.specs.Prelude.{Bool, cond, ℕ}
-use Rattle.std.proofs.Math.Option.{Option, none, some}
+use Rattle.std.specs.Prelude.{Bool, cond, ℕ, Option, Some, None}
 use Rattle.std.specs.Float.Ieee.{lt}
 use Rattle.floats.specs.Ops.{◌⊖◌, lit}
 use Rattle.solver_errors.specs.declared.Standing.{Standing}
@@ -36,5 +35,5 @@ abbrev pub is_lower : RustFit → RustFit → Bool
 is_lower candidate primary = lt candidate.rms (primary.rms ⊖ lit 0x3a83_126f)
 
 unfoldable pub chosen : Start → Option Start → Ring
-chosen f none = single f
-chosen f (some g) = record { answered = cond (is_lower g.fit f.fit) g f; starts = 2; first = f.updates; second = g.updates }
+chosen f None = single f
+chosen f (Some g) = record { answered = cond (is_lower g.fit f.fit) g f; starts = 2; first = f.updates; second = g.updates }

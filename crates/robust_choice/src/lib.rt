@@ -7,13 +7,6 @@ ghost use Rattle.robust_choice.specs.Parts as P;
 use solver_errors::Standing;
 use solver_record::{Started, TwoAxisFit};
 
-// The second start's fit, or that there was none.
-#[derive(Drop)]
-pub enum Second {
-    Made(Started),
-    Missing,
-}
-
 // The fit that is answered with the standing of its errors, the number of starts, and the updates of each.
 #[derive(Clone, Copy)]
 pub struct RingFit {
@@ -51,11 +44,11 @@ fn lower(primary: Started, candidate: Started) -> Started
     primary
 }
 
-// The answer with a second start.
-pub fn chosen(primary: Started, s: Second) -> RingFit
-    ensures { result ≡ P.chosen_of primary s }
+// The answer with a second start, where there was one.
+pub fn chosen(primary: Started, second: Option<Started>) -> RingFit
+    ensures { result ≡ P.chosen_of primary second }
 {
-    let Second::Made(candidate) = s else {
+    let Some(candidate) = second else {
         return alone(primary);
     };
     let answered = lower(primary, candidate);

@@ -1,6 +1,6 @@
 -- A turn over four pairs: a lane's mean square is that of its pair, so a skipped lane changes nothing, and past the last allowed pair the turns are idle.
 -- From the grid's sums the lanes are those of the definition. Assumes nothing.
-use Rattle.std.specs.Prelude.{◌≡◌, true, cond, length, Float}
+use Rattle.std.specs.Prelude.{◌≡◌, true, cond, length, Option, Float}
 use Rattle.std.proofs.Math.Path.{refl, sym}
 use Rattle.std.proofs.Common.{ap, ◌∙◌, subst, lit≤}
 use Rattle.std.proofs.Math.Bool.{false}
@@ -13,7 +13,7 @@ use Rattle.floats.specs.Rows.{Row, at, count}
 use Rattle.loops.specs.Loops.{iter}
 use Rattle.loops.proofs.IterLaws.{iter_same, iter_idle}
 use Rattle.seed.specs.Seed.{scored}
-use Rattle.seed.specs.declared.Seed.{Seed}
+use Rattle.seed.specs.declared.SeedCandidate.{SeedCandidate}
 use Rattle.robust_lanes.specs.declared.Models.{Models}
 use Rattle.robust_lanes.specs.Lanes.{inserted, lane_sums, models_of, mean_square, mean_squares, Squared, BestBound}
 use Rattle.robust_lanes.specs.LaneLaws.{four_at}
@@ -28,11 +28,11 @@ last_most (suc a) = rw (eqb-suc-zero a) (lit≤ tt)
 
 -- ---- the lanes of four pairs
 module _ (n centered_ss mean : Float) (m : Models) (p : Pair) where
-  abbrev pub lane_step : ℕ → Seed → Seed
+  abbrev pub lane_step : ℕ → Option SeedCandidate → Option SeedCandidate
   lane_step k top = cond (leb (p.b + k) (last_of p.a)) (inserted top (lane_score n centered_ss mean m p k)) top
 
   -- past the last pair nothing is left
-  pub lanes_end : (k : ℕ) (top₀ top : Seed) → k ≤ 4 → leb (p.b + k) (last_of p.a) ≡ false → top ≡ iter lane_step top₀ k
+  pub lanes_end : (k : ℕ) (top₀ top : Option SeedCandidate) → k ≤ 4 → leb (p.b + k) (last_of p.a) ≡ false → top ≡ iter lane_step top₀ k
       → top ≡ lanes_tried n centered_ss mean m p top₀
   unfolding lanes_tried
   lanes_end k top₀ top l t e =
@@ -41,7 +41,7 @@ module _ (n centered_ss mean : Float) (m : Models) (p : Pair) where
       let idle = iter_idle lane_step top₀ k (4 - k) (λ i h x. off i x (lt-leb (p.b + i) (last_of p.a) (omega (arith, past)))) in
       e ∙ sym (rw z at idle)
     where
-      off : (i : ℕ) (x : Seed) → leb (p.b + i) (last_of p.a) ≡ false → lane_step i x ≡ x
+      off : (i : ℕ) (x : Option SeedCandidate) → leb (p.b + i) (last_of p.a) ≡ false → lane_step i x ≡ x
       off i x t = rw t
 
   module _ (xs : Row) (ex : xs ≡ mean_squares m n centered_ss) (k : ℕ) (l : k < 4) where
@@ -50,12 +50,12 @@ module _ (n centered_ss mean : Float) (m : Models) (p : Pair) where
         let is = ap (λ (r : Row). at r k) ex ∙ four_at (λ k. mean_square n centered_ss (at m.num k) (at m.denom k)) k l in
         subst (λ (x : Float). Squared x (lane_score n centered_ss mean m p k)) (sym is) (scored_squared n centered_ss mean _ _ _ _ _)
 
-    pub lane_skipped : (top : Seed) (bound : Float) → leb (p.b + k) (last_of p.a) ≡ true → BestBound top bound → le bound (at xs k) ≡ true
+    pub lane_skipped : (top : Option SeedCandidate) (bound : Float) → leb (p.b + k) (last_of p.a) ≡ true → BestBound top bound → le bound (at xs k) ≡ true
         → top ≡ lane_step k top
     lane_skipped top bound t q h = rw t (sym (skipped top (lane_score n centered_ss mean m p k) bound (at xs k) q lane_squared h))
 
-  pub lane_tried : (k : ℕ) (top next c : Seed) → leb (p.b + k) (last_of p.a) ≡ true → c ≡ lane_score n centered_ss mean m p k → next ≡ inserted top c
-      → next ≡ lane_step k top
+  pub lane_tried : (k : ℕ) (top next c : Option SeedCandidate) → leb (p.b + k) (last_of p.a) ≡ true → c ≡ lane_score n centered_ss mean m p k
+      → next ≡ inserted top c → next ≡ lane_step k top
   lane_tried k top next c t e d = rw t (d ∙ ap (inserted top) e)
 
 -- ---- the lanes that the grid's sums bring
@@ -77,6 +77,7 @@ module _ (h centered : Row) (centered_ss mean : Float) (p : Pair) where
       none : (k : ℕ) → suc (suc (suc (suc k))) < 4 → ⊥
       none k l = omega arith
 
-  pub grid_lanes : (top : Seed) → lanes_tried (count n) centered_ss mean lanes p top ≡ block_steps (tries (score_at n h centered centered_ss mean)) p top
+  pub grid_lanes : (top : Option SeedCandidate)
+      → lanes_tried (count n) centered_ss mean lanes p top ≡ block_steps (tries (score_at n h centered centered_ss mean)) p top
   unfolding lanes_tried block_steps step_at
   grid_lanes top = iter_same _ _ top 4 (λ k l x. rw (lane_is k l))

@@ -1,6 +1,6 @@
 -- The grid of seeds: ring_fit/robust.rs, robust_grid_fit from the rows of the grid to the best seed. Definitions only.
 -- The rest of robust.rs is crates/robust/specs/Robust.antt. `n` is the number of samples throughout.
-use Rattle.std.specs.Prelude.{cond, ℕ, ◌+◌, Float}
+use Rattle.std.specs.Prelude.{cond, ℕ, ◌+◌, Option, None, Float}
 use Rattle.floats.specs.Ops.{◌⊖◌, ◌⊗◌}
 use Rattle.floats.specs.Rows.{Row, at, count}
 use Rattle.floats.specs.Library.{to_radians}
@@ -10,8 +10,7 @@ use Rattle.geometry.specs.Geometry.{valid_pair}
 use Rattle.loops.specs.Loops.{iter, range, tab}
 use Rattle.solver.specs.Solver.{tanh_beta}
 use Rattle.seed.specs.Seed.{robust_grid_step_deg, robust_grid_steps, score_seed_pair}
-use Rattle.seed.specs.declared.Seed.{Seed}
-use Rattle.seed.specs.declared.Seed.TheVariants.{Nothing}
+use Rattle.seed.specs.declared.SeedCandidate.{SeedCandidate}
 use Rattle.robust_lanes.specs.Lanes.{inserted}
 
 -- the angle number a, which the Rust calls ai or bi
@@ -38,13 +37,13 @@ module _ {A : Type 0} (step : ℕ → ℕ → A → A) where
   all_pairs x = iter pairs_from x robust_grid_steps
 
 -- `score a b` is the score of a pair
-abbrev pub tries : (ℕ → ℕ → Seed) → ℕ → ℕ → Seed → Seed
+abbrev pub tries : (ℕ → ℕ → Option SeedCandidate) → ℕ → ℕ → Option SeedCandidate → Option SeedCandidate
 tries score a b top = inserted top (score a b)
 
-unfoldable pub best_of : (ℕ → ℕ → Seed) → Seed
-best_of score = all_pairs (tries score) Nothing
+unfoldable pub best_of : (ℕ → ℕ → Option SeedCandidate) → Option SeedCandidate
+best_of score = all_pairs (tries score) None
 
 -- the seed of least residual, the earlier on a tie
-unfoldable pub best_seed : ℕ → Row → Row → Row → Float → Float → Seed
+unfoldable pub best_seed : ℕ → Row → Row → Row → Float → Float → Option SeedCandidate
 best_seed n sphi cphi centered centered_ss mean =
     best_of (λ a b. score_seed_pair n centered centered_ss mean (grid_row n sphi cphi a) (grid_row n sphi cphi b) (grid_angle a) (grid_angle b))

@@ -1,6 +1,6 @@
 -- The grid stands sample by sample in one buffer, 24 places each: what is written of one sample leaves the others, and the sums that a lane adds up from its
 -- places are those of its pair's rows. Assumes nothing.
-use Rattle.std.specs.Prelude.{◌≡◌, ◌++◌, ℕ, ◌+◌, ◌*◌, ◌≤◌, ◌<◌, take, drop, Float}
+use Rattle.std.specs.Prelude.{◌≡◌, ◌++◌, ℕ, ◌+◌, ◌*◌, ◌≤◌, ◌<◌, take, drop, Option, None, Float}
 use Rattle.std.proofs.Math.Path.{sym, ap}
 use Rattle.std.proofs.Common.{◌∙◌, arith, get_or-take, get_or-drop}
 use borrow.Author.Count.{below_none, below_more}
@@ -12,25 +12,24 @@ use Rattle.elementary.specs.declared.SinCos.{SinCos}
 use Rattle.loops.proofs.IterLaws.{iter_same, range_same}
 use Rattle.loops.proofs.TabLaws.{tab_length, tab_at, tab_same, part_kept, part_same}
 use Rattle.seed.specs.Seed.{zeros, pair_sums, score_seed_pair}
-use Rattle.seed.specs.declared.Seed.{Seed}
-use Rattle.seed.specs.declared.Seed.TheVariants.{Nothing}
+use Rattle.seed.specs.declared.SeedCandidate.{SeedCandidate}
 use Rattle.robust_grid.specs.Grid.{grid_angle, factor, grid_row, pair_at, pairs_from, all_pairs, tries, best_of, best_seed}
 use Rattle.robust_grid.specs.Places.{Axes, row_from, sample_row, sample_row_at, Grid, score_at}
 use Rattle.robust_lanes.specs.Lanes.{grid_places, sums_at}
 
 -- ---- scores that agree on the grid have the same best
-module _ (f g : ℕ → ℕ → Seed) (h : (a b : ℕ) → a < 23 → b < 23 → f a b ≡ g a b) where
-  pair_same : (a b : ℕ) → a < 23 → b < 23 → (top : Seed) → pair_at (tries f) a b top ≡ pair_at (tries g) a b top
+module _ (f g : ℕ → ℕ → Option SeedCandidate) (h : (a b : ℕ) → a < 23 → b < 23 → f a b ≡ g a b) where
+  pair_same : (a b : ℕ) → a < 23 → b < 23 → (top : Option SeedCandidate) → pair_at (tries f) a b top ≡ pair_at (tries g) a b top
   unfolding pair_at
   pair_same a b x y top = rw (h a b x y)
 
-  pairs_same : (a : ℕ) → a < 23 → (top : Seed) → pairs_from (tries f) a top ≡ pairs_from (tries g) a top
+  pairs_same : (a : ℕ) → a < 23 → (top : Option SeedCandidate) → pairs_from (tries f) a top ≡ pairs_from (tries g) a top
   unfolding pairs_from
   pairs_same a x top = range_same _ _ top (a + 1) 23 (λ b l y s. pair_same a b x y s)
 
   best_same : best_of f ≡ best_of g
   unfolding best_of all_pairs
-  best_same = iter_same _ _ Nothing 23 (λ a l top. pairs_same a l top)
+  best_same = iter_same _ _ None 23 (λ a l top. pairs_same a l top)
 
 -- ---- a sample's row
 pub row_is : (s c : Float) (sines cosines : Row) → Axes sines cosines → row_from s c sines cosines ≡ sample_row s c

@@ -1,11 +1,11 @@
 -- What the contracts of crates/robust_grid speak of: the grid's factors in one buffer, 24 places for each sample, and the pairs that are tried.
 -- Definitions only.
-use Rattle.std.specs.Prelude.{◌≡◌, cond, ℕ, ◌+◌, ◌*◌, ◌<◌, leb, eqb, take, drop, Float}
+use Rattle.std.specs.Prelude.{◌≡◌, cond, ℕ, ◌+◌, ◌*◌, ◌<◌, leb, eqb, take, drop, Option, Float}
 use Rattle.floats.specs.Rows.{Row, at, count}
 use Rattle.elementary.specs.Elementary.{sin_cos}
 use Rattle.loops.specs.Loops.{iter, tab}
 use Rattle.seed.specs.Seed.{scored, scored_from}
-use Rattle.seed.specs.declared.Seed.{Seed}
+use Rattle.seed.specs.declared.SeedCandidate.{SeedCandidate}
 use Rattle.robust_lanes.specs.Lanes.{grid_places, inserted, sums_at}
 use Rattle.robust_lanes.specs.declared.Models.{Models}
 use Rattle.robust_grid.specs.declared.Pair.{Pair}
@@ -58,14 +58,14 @@ unfoldable pub block_steps : {A : Type 0} → (ℕ → ℕ → A → A) → Pair
 block_steps step p x = iter (λ k. step_at step p.a (p.b + k)) x 4
 
 -- the score of a lane of four pairs, and the four in their order
-abbrev pub lane_score : Float → Float → Float → Models → Pair → ℕ → Seed
+abbrev pub lane_score : Float → Float → Float → Models → Pair → ℕ → Option SeedCandidate
 lane_score n centered_ss mean m p k =
     scored_from n centered_ss mean (at m.num k) (at m.q_mean k) (at m.denom k) (grid_angle p.a) (grid_angle (p.b + k))
 
-unfoldable pub lanes_tried : Float → Float → Float → Models → Pair → Seed → Seed
+unfoldable pub lanes_tried : Float → Float → Float → Models → Pair → Option SeedCandidate → Option SeedCandidate
 lanes_tried n centered_ss mean m p top =
     iter (λ k top. cond (leb (p.b + k) (last_of p.a)) (inserted top (lane_score n centered_ss mean m p k)) top) top 4
 
 -- the score of a pair, from the buffer
-unfoldable pub score_at : ℕ → Row → Row → Float → Float → ℕ → ℕ → Seed
+unfoldable pub score_at : ℕ → Row → Row → Float → Float → ℕ → ℕ → Option SeedCandidate
 score_at n h centered centered_ss mean a b = scored (count n) centered_ss mean (sums_at n centered h a b) (grid_angle a) (grid_angle b)

@@ -1,5 +1,5 @@
 -- What the contracts of crates/robust_lanes speak of: four pairs of the grid side by side, and the best so far. Definitions only.
-use Rattle.std.specs.Prelude.{◌≡◌, [], ◌∷◌, ℕ, ◌+◌, ◌*◌, ◌≤◌, length, Float}
+use Rattle.std.specs.Prelude.{◌≡◌, [], ◌∷◌, ℕ, ◌+◌, ◌*◌, ◌≤◌, length, Option, Some, None, Float}
 use Rattle.std.specs.Float.{nan, binary32}
 use Rattle.floats.specs.Ops.{◌⊕◌, ◌⊖◌, ◌⊗◌, ◌⊘◌, nought}
 use Rattle.floats.specs.Rows.{Row, at}
@@ -8,8 +8,7 @@ use Rattle.loops.specs.Loops.{iter}
 use Rattle.solver.specs.Buffers.{max_samples}
 use Rattle.seed.specs.Seed.{zeros, summed_by, insert_seed_candidate}
 use Rattle.seed.specs.declared.Sums.{Sums}
-use Rattle.seed.specs.declared.Seed.{Seed}
-use Rattle.seed.specs.declared.Seed.TheVariants.{Found, Nothing}
+use Rattle.seed.specs.declared.SeedCandidate.{SeedCandidate}
 use Rattle.robust_lanes.specs.declared.Best.{Best}
 use Rattle.robust_lanes.specs.declared.Lanes.{Lanes}
 use Rattle.robust_lanes.specs.declared.Models.{Models}
@@ -69,19 +68,19 @@ abbrev pub mean_squares : Models → Float → Float → Row
 mean_squares m n centered_ss = four (λ k. mean_square n centered_ss (at m.num k) (at m.denom k))
 
 -- ---- the best so far: ring_fit/robust.rs, a pair that scored is inserted
-unfoldable pub inserted : Seed → Seed → Seed
-inserted top Nothing = top
-inserted top (Found c) = insert_seed_candidate top c
+unfoldable pub inserted : Option SeedCandidate → Option SeedCandidate → Option SeedCandidate
+inserted top None = top
+inserted top (Some c) = insert_seed_candidate top c
 
 -- x is what the root of a seed's rms was taken of; where there is no seed nothing is said
-abbrev pub Squared : Float → Seed → Type 0
-Squared x Nothing = 0 ≤ 0
-Squared x (Found s) = s.rms ≡ sqrt binary32 x
+abbrev pub Squared : Float → Option SeedCandidate → Type 0
+Squared x None = 0 ≤ 0
+Squared x (Some s) = s.rms ≡ sqrt binary32 x
 
 -- with a seed its bound is kept, without one the bound is NaN, and skips nothing
-abbrev pub BestBound : Seed → Float → Type 0
-BestBound Nothing x = x ≡ nan
-BestBound (Found s) x = s.rms ≡ sqrt binary32 x
+abbrev pub BestBound : Option SeedCandidate → Float → Type 0
+BestBound None x = x ≡ nan
+BestBound (Some s) x = s.rms ≡ sqrt binary32 x
 
 pub record BestKept (b : Best) : Type 0 where
   pub is : BestBound b.top b.bound

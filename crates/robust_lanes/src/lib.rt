@@ -6,10 +6,9 @@ ghost use Rattle.std.specs.Prelude.{◌≡◌, ◌<◌, length};
 ghost use Rattle.floats.specs.Ops.{nought};
 ghost use Rattle.floats.specs.Rows.{count};
 ghost use Rattle.floats.specs.Library.{max};
-ghost use Rattle.seed.specs.declared.Seed.TheVariants.{Nothing};
 ghost use Rattle.robust_lanes.specs.Lanes as L;
 
-use seed::Seed;
+use seed::SeedCandidate;
 
 // A sample's places in the grid's rows.
 pub const GRID_PLACES: usize = 24;
@@ -166,30 +165,29 @@ pub fn mean_squares(m: Models, samples: usize, n: f32, centered_ss: f32) -> [f32
 // The best seed so far, and what the root of its residual was taken of: NaN where there is none.
 #[derive(Drop)]
 pub struct Best {
-    pub top: Seed,
+    pub top: Option<SeedCandidate>,
     pub bound: f32,
 }
 
 pub fn none_yet() -> Best
-    ensures { (result.top ≡ Nothing) × L.BestKept result }
+    ensures { (result.top ≡ None) × L.BestKept result }
 {
     Best {
-        top: Seed::Nothing,
+        top: None,
         bound: 0.0 / 0.0,
     }
 }
 
 // A candidate whose mean square is x.
-pub fn tried(best: Best, x: f32, c: Seed) -> Best
+pub fn tried(best: Best, x: f32, c: Option<SeedCandidate>) -> Best
     requires { L.BestKept best × L.Squared x c }
     ensures { (result.top ≡ L.inserted best.top c) × L.BestKept result }
 {
     let next = Best { top: c, bound: x };
-    let Seed::Found(s) = c else {
+    let Some(s) = c else {
         return best;
     };
-    let top = best.top;
-    let Seed::Found(d) = top else {
+    let Some(d) = best.top else {
         return next;
     };
     if s.rms < d.rms {

@@ -1,6 +1,6 @@
 -- Seeds of the ring fit: ring_fit/seed.rs, second_harmonic, score_seed_pair and insert_seed_candidate. Definitions only.
 -- valid_seed_pair and line_separation, with their two constants, are those of geometry.rs. `n` is the number of samples throughout.
-use Rattle.std.specs.Prelude.{Bool, cond, not, ◌&&◌, ◌||◌, ℕ, ◌/◌, Float}
+use Rattle.std.specs.Prelude.{Bool, cond, not, ◌&&◌, ◌||◌, ℕ, ◌/◌, Option, Some, None, Float}
 use Rattle.std.specs.Float.{binary32}
 use Rattle.std.specs.Float.Ieee.{lt, le}
 use Rattle.std.specs.Float.Ieee.Scale.{finite}
@@ -13,8 +13,6 @@ use Rattle.seed.specs.declared.Harmonic.{Harmonic}
 use Rattle.seed.specs.declared.Waves.{Waves}
 use Rattle.seed.specs.declared.Sums.{Sums}
 use Rattle.seed.specs.declared.SeedCandidate.{SeedCandidate}
-use Rattle.seed.specs.declared.Seed.{Seed}
-use Rattle.seed.specs.declared.Seed.TheVariants.{Found, Nothing}
 
 -- ---- seed.rs: ROBUST_GRID_STEP_DEG and ROBUST_GRID_STEPS; ROBUST_TOP_SEEDS is 1
 abbrev pub robust_grid_step_deg : Float
@@ -64,15 +62,15 @@ unfoldable pub pair_sums : ℕ → Row → Row → Row → Sums
 pair_sums n centered h1 h2 = iter (λ i. summed_by (at centered i) (at h1 i) (at h2 i)) zeros n
 
 -- a seed is kept where all of it is finite
-unfoldable pub kept : SeedCandidate → Seed
-kept s = cond (finite s.rms && (finite s.amp && finite s.mu)) (Found s) Nothing
+unfoldable pub kept : SeedCandidate → Option SeedCandidate
+kept s = cond (finite s.rms && (finite s.amp && finite s.mu)) (Some s) None
 
 -- not finite, or at most 1e-6: such a denominator has no seed, and such a sum of squares no grid
 unfoldable pub flat : Float → Bool
 flat x = not (finite x) || le x (lit 0x3586_37bd)
 
 -- from num on both scores are made alike: n is the number of samples as a float
-unfoldable pub seed_from : Float → Float → Float → Float → Float → Float → Float → Float → Seed
+unfoldable pub seed_from : Float → Float → Float → Float → Float → Float → Float → Float → Option SeedCandidate
 seed_from n centered_ss mean num q_mean denom theta1 theta2 =
     let amp = num ⊘ denom in
     let mu = mean ⊖ amp ⊗ q_mean in
@@ -80,20 +78,20 @@ seed_from n centered_ss mean num q_mean denom theta1 theta2 =
     let rms = sqrt binary32 (ssr ⊘ n) in
     kept (record { theta1 = theta1; theta2 = theta2; mu = mu; amp = amp; rms = rms })
 
-unfoldable pub scored_from : Float → Float → Float → Float → Float → Float → Float → Float → Seed
+unfoldable pub scored_from : Float → Float → Float → Float → Float → Float → Float → Float → Option SeedCandidate
 scored_from n centered_ss mean num q_mean denom theta1 theta2 =
-    cond (flat denom) Nothing (seed_from n centered_ss mean num q_mean denom theta1 theta2)
+    cond (flat denom) None (seed_from n centered_ss mean num q_mean denom theta1 theta2)
 
-unfoldable pub scored : Float → Float → Float → Sums → Float → Float → Seed
+unfoldable pub scored : Float → Float → Float → Sums → Float → Float → Option SeedCandidate
 scored n centered_ss mean s theta1 theta2 =
     let q_mean = s.q_sum ⊘ n in
     let denom = s.q2_sum ⊖ s.q_sum ⊗ q_mean in
     scored_from n centered_ss mean s.num q_mean denom theta1 theta2
 
-unfoldable pub score_seed_pair : ℕ → Row → Float → Float → Row → Row → Float → Float → Seed
+unfoldable pub score_seed_pair : ℕ → Row → Float → Float → Row → Row → Float → Float → Option SeedCandidate
 score_seed_pair n centered centered_ss mean h1 h2 theta1 theta2 = scored (count n) centered_ss mean (pair_sums n centered h1 h2) theta1 theta2
 
 -- ---- seed.rs: insert_seed_candidate, ROBUST_TOP_SEEDS being 1: the earlier stays on a tie
-unfoldable pub insert_seed_candidate : Seed → SeedCandidate → Seed
-insert_seed_candidate Nothing c = Found c
-insert_seed_candidate (Found s) c = cond (lt c.rms s.rms) (Found c) (Found s)
+unfoldable pub insert_seed_candidate : Option SeedCandidate → SeedCandidate → Option SeedCandidate
+insert_seed_candidate None c = Some c
+insert_seed_candidate (Some s) c = cond (lt c.rms s.rms) (Some c) (Some s)

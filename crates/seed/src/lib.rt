@@ -38,13 +38,6 @@ pub struct SeedCandidate {
     pub rms: f32,
 }
 
-// A seed, or nothing.
-#[derive(Clone, Copy)]
-pub enum Seed {
-    Found(SeedCandidate),
-    Nothing,
-}
-
 fn double_near(ring_phi: &[f32], turned: &mut [f32])
     requires { length turned.old ≡ length ring_phi.now }
     ensures { turned.new ≡ B.doubled_near (length ring_phi.now) ring_phi.now }
@@ -145,13 +138,13 @@ fn pair_sums(centered: &[f32], h1: &[f32], h2: &[f32]) -> Sums
     s
 }
 
-fn kept(s: SeedCandidate) -> Seed
+fn kept(s: SeedCandidate) -> Option<SeedCandidate>
     ensures { result ≡ S.kept s }
 {
     if floats::is_finite(s.rms) && floats::is_finite(s.amp) && floats::is_finite(s.mu) {
-        return Seed::Found(s);
+        return Some(s);
     }
-    Seed::Nothing
+    None
 }
 
 pub fn is_flat(denom: f32) -> bool
@@ -173,7 +166,7 @@ pub fn seed_from(
     denom: f32,
     theta1: f32,
     theta2: f32,
-) -> Seed
+) -> Option<SeedCandidate>
     ensures { result ≡ S.seed_from n centered_ss mean num q_mean denom theta1 theta2 }
 {
     let amp = num / denom;
@@ -198,17 +191,24 @@ pub fn scored_from(
     denom: f32,
     theta1: f32,
     theta2: f32,
-) -> Seed
+) -> Option<SeedCandidate>
     ensures { result ≡ S.scored_from n centered_ss mean num q_mean denom theta1 theta2 }
 {
     if is_flat(denom) {
-        return Seed::Nothing;
+        return None;
     }
     seed_from(n, centered_ss, mean, num, q_mean, denom, theta1, theta2)
 }
 
 // The score of a pair from its sums.
-fn score_sums(n: f32, centered_ss: f32, mean: f32, s: Sums, theta1: f32, theta2: f32) -> Seed
+fn score_sums(
+    n: f32,
+    centered_ss: f32,
+    mean: f32,
+    s: Sums,
+    theta1: f32,
+    theta2: f32,
+) -> Option<SeedCandidate>
     ensures { result ≡ S.scored n centered_ss mean s theta1 theta2 }
 {
     let q_mean = s.q_sum / n;
@@ -224,7 +224,7 @@ pub fn score_seed_pair(
     h2: &[f32],
     theta1: f32,
     theta2: f32,
-) -> Seed
+) -> Option<SeedCandidate>
     requires { (length h1.now ≡ length centered.now) × (length h2.now ≡ length centered.now) × (length centered.now ≤ max_samples) }
     ensures { result ≡ S.score_seed_pair (length centered.now) centered.now centered_ss mean
         h1.now h2.now theta1 theta2 }
@@ -235,16 +235,13 @@ pub fn score_seed_pair(
 }
 
 // One place: the candidate takes it where it is empty, or where its residual is lower.
-pub fn insert_seed_candidate(top: Seed, c: SeedCandidate) -> Seed
+#[tactic(auto, unfolding(crate::specs::Seed::insert_seed_candidate))]
+pub fn insert_seed_candidate(top: Option<SeedCandidate>, c: SeedCandidate) -> Option<SeedCandidate>
     ensures { result ≡ S.insert_seed_candidate top c }
 {
     match top {
-        Seed::Nothing => Seed::Found(c),
-        Seed::Found(s) => {
-            if c.rms < s.rms {
-                return Seed::Found(c);
-            }
-            top
-        }
+        None => Some(c),
+        Some(s) if c.rms < s.rms => Some(c),
+        Some(_) => top,
     }
 }

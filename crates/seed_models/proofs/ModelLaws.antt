@@ -1,6 +1,6 @@
 -- A walk over the blocks of a table scores its models in their order: a lane that has no pair, or whose denominator is flat, is no model and changes
 -- nothing. And the first table is found by looking at one after the other. Assumes nothing.
-use Rattle.std.specs.Prelude.{◌≡◌, Bool, cond, leb, length, take, drop, Float}
+use Rattle.std.specs.Prelude.{◌≡◌, Bool, cond, leb, length, take, drop, Option, Some, None, Float}
 use Rattle.std.proofs.Math.Path.{refl, sym}
 use Rattle.std.proofs.Common.{◌∙◌, subst, lit≤, take-take}
 use Rattle.std.proofs.Math.Bool.{true, false}
@@ -15,8 +15,7 @@ use Rattle.loops.specs.Loops.{iter, tab}
 use Rattle.loops.proofs.IterLaws.{iter_zero, iter_next, iter_same, iter_through, iter_related}
 use Rattle.loops.proofs.TabLaws.{tab_at, tab_length}
 use Rattle.seed.specs.Seed.{flat, scored_from}
-use Rattle.seed.specs.declared.Seed.{Seed}
-use Rattle.seed.specs.declared.Seed.TheVariants.{Nothing}
+use Rattle.seed.specs.declared.SeedCandidate.{SeedCandidate}
 use Rattle.robust_lanes.specs.Lanes.{four, inserted}
 use Rattle.robust_lanes.specs.LaneLaws.{four_at, sixteen}
 use Rattle.robust_lanes.specs.declared.Models.{Models}
@@ -26,7 +25,6 @@ use Rattle.robust_grid.specs.PairLaws.{blocks_all}
 use Rattle.robust_grid.specs.BlockLaws.{grid_lanes}
 use Rattle.robust_grid.specs.declared.Pair.{Pair}
 use Rattle.seed_models.specs.declared.QSums.{QSums}
-use Rattle.seed_models.specs.declared.Matched.TheVariants.{At, Missing}
 use Rattle.seed_models.specs.Models.{Table, table_at, is_ring_phi, first_from, first_table, no_qSums, q_summed, model_of}
 use Rattle.seed_models.specs.Models.{SeedModel, model_pushed, num_of, score_cached_seed_model, best_from, best_cached}
 use Rattle.seed_models.specs.Words.{table_size, held_in, table_in, tables_in, lane_word}
@@ -46,21 +44,21 @@ module _ (block centered : Row) where
       sum k = iter_next _ nought i
 
 -- ---- the models behind one another
-best_append : (score : SeedModel → Seed) (top : Seed) (models : List SeedModel) (m : SeedModel)
+best_append : (score : SeedModel → Option SeedCandidate) (top : Option SeedCandidate) (models : List SeedModel) (m : SeedModel)
     → best_from score top (models ++ (m ∷ [])) ≡ inserted (best_from score top models) (score m)
 unfolding best_from
 best_append score top [] m = refl
 best_append score top (x ∷ models) m = best_append score (inserted top (score x)) models m
 
 module _ (centered : Row) (centered_ss mean : Float) where
-  abbrev best : List SeedModel → Seed
+  abbrev best : List SeedModel → Option SeedCandidate
   best = best_cached ring_samples centered centered_ss mean
 
   abbrev n : Float
   n = count ring_samples
 
   module _ (block : Row) (p : Pair) where
-    abbrev step : ℕ → Seed → Seed
+    abbrev step : ℕ → Option SeedCandidate → Option SeedCandidate
     step k top = cond (leb (p.b + k) (last_of p.a)) (inserted top (lane_score n centered_ss mean (lanes_in ring_samples block centered) p k)) top
 
     num_is : (k : ℕ) → num_of ring_samples centered (at (model_in block p k).q_centered) ≡ num_in ring_samples block centered k
@@ -78,15 +76,15 @@ module _ (centered : Row) (centered_ss mean : Float) where
           ← num_is k,
         ) (go (flat (at block (4 + k))))
       where
-        score : SeedModel → Seed
+        score : SeedModel → Option SeedCandidate
         score = score_cached_seed_model ring_samples centered centered_ss mean
 
-        go : (f : Bool) → best_from score Nothing (cond f models (models ++ (model_in block p k ∷ [])))
-            ≡ inserted (best_from score Nothing models) (cond f Nothing (score (model_in block p k)))
+        go : (f : Bool) → best_from score None (cond f models (models ++ (model_in block p k ∷ [])))
+            ≡ inserted (best_from score None models) (cond f None (score (model_in block p k)))
         go true = refl
-        go false = best_append score Nothing models (model_in block p k)
+        go false = best_append score None models (model_in block p k)
 
-    lane_same : (k : ℕ) → k < 4 → (models : List SeedModel) (top : Seed) → best models ≡ top
+    lane_same : (k : ℕ) → k < 4 → (models : List SeedModel) (top : Option SeedCandidate) → best models ≡ top
         → best (cond (leb (p.b + k) (last_of p.a)) (model_pushed models (model_in block p k)) models) ≡ step k top
     lane_same k l models top e = go (leb (p.b + k) (last_of p.a))
       where
@@ -101,7 +99,7 @@ module _ (centered : Row) (centered_ss mean : Float) where
     block_best models = iter_related (λ ms top. best ms ≡ top) _ step models (best models) 4 refl (λ k ms top l e. lane_same k l ms top e)
 
   pub models_best : (table : Row)
-      → iter (λ j. lanes_tried n centered_ss mean (lanes_in ring_samples (block_part table j) centered) (block_pair j)) Nothing blocks ≡ best (models_in table)
+      → iter (λ j. lanes_tried n centered_ss mean (lanes_in ring_samples (block_part table j) centered) (block_pair j)) None blocks ≡ best (models_in table)
   unfolding models_in best_cached best_from
   models_best table = sym (iter_through best _ _ [] blocks (λ j models. block_best (block_part table j) (block_pair j) models))
 
@@ -133,7 +131,7 @@ module _ (h : Row) (a b : ℕ) (s : QSums) (e : s ≡ q_sums_at ring_samples h a
 
 -- ---- the first that passes
 module _ (p : ℕ → Bool) (k t : ℕ) where
-  pub first_here : t < k → p t ≡ true → At t ≡ first_from p (k - t) t
+  pub first_here : t < k → p t ≡ true → Some t ≡ first_from p (k - t) t
   unfolding first_from
   first_here l e = let z : k - t ≡ suc (k - (t + 1)) = omega arith in rw (z, e)
 
@@ -141,7 +139,7 @@ module _ (p : ℕ → Bool) (k t : ℕ) where
   unfolding first_from
   first_skip l e = let z : k - t ≡ suc (k - (t + 1)) = omega arith in rw (z, e)
 
-  pub first_none : k ≤ t → Missing ≡ first_from p (k - t) t
+  pub first_none : k ≤ t → None ≡ first_from p (k - t) t
   unfolding first_from
   first_none l = let z : k - t ≡ 0 = omega arith in rw z
 
@@ -181,10 +179,10 @@ rows_few rows centered false room = room.few
 
 module _ (rows centered : Row) (centered_ss mean n : Float) (e : n ≡ count (length centered)) where
   pub walk_is : (stored : Bool) → RowsOf stored rows centered
-      → iter (λ j. lanes_tried n centered_ss mean (lanes_of stored rows centered n j) (block_pair j)) Nothing blocks ≡
+      → iter (λ j. lanes_tried n centered_ss mean (lanes_of stored rows centered n j) (block_pair j)) None blocks ≡
       seed_of stored rows centered centered_ss mean
   unfolding best_of
   walk_is true room = rw (e, room.1) (models_best centered centered_ss mean rows)
   walk_is false room =
-      rw e (iter_same _ _ Nothing blocks (λ j l top. grid_lanes rows centered centered_ss mean (block_pair j) top))
-      ∙ blocks_all (tries (score_at (length centered) rows centered centered_ss mean)) Nothing
+      rw e (iter_same _ _ None blocks (λ j l top. grid_lanes rows centered centered_ss mean (block_pair j) top))
+      ∙ blocks_all (tries (score_at (length centered) rows centered centered_ss mean)) None

@@ -1,7 +1,7 @@
 -- Seed models for a ring that does not move: ring_fit/seed.rs, and robust_grid_fit_cached of robust.rs up to the best seed, both under the feature `std`.
 -- The Rust has the models of its own ring, RING5; here they are of angles that a caller supplies, and several tables stand side by side. What both ways
 -- share, the tail from num to a kept seed and the insertion, is crates/seed/specs/Seed.antt. Definitions only. `n` is the number of samples throughout.
-use Rattle.std.specs.Prelude.{Bool, true, cond, ◌&&◌, List, [], ◌∷◌, ◌++◌, ℕ, zero, suc, ◌+◌, length, get_or, Float}
+use Rattle.std.specs.Prelude.{Bool, true, cond, ◌&&◌, List, [], ◌∷◌, ◌++◌, ℕ, zero, suc, ◌+◌, length, get_or, Option, Some, None, Float}
 use Rattle.std.specs.Float.Ieee.{le}
 use Rattle.floats.specs.Ops.{◌⊕◌, ◌⊖◌, ◌⊗◌, ◌⊘◌, lit, nought}
 use Rattle.floats.specs.Rows.{Row, at, count}
@@ -9,13 +9,10 @@ use Rattle.floats.specs.Library.{abs}
 use Rattle.loops.specs.Loops.{iter, tab}
 use Rattle.solver.specs.Solver.{sines, cosines}
 use Rattle.seed.specs.Seed.{flat, seed_from}
-use Rattle.seed.specs.declared.Seed.{Seed}
-use Rattle.seed.specs.declared.Seed.TheVariants.{Nothing}
+use Rattle.seed.specs.declared.SeedCandidate.{SeedCandidate}
 use Rattle.robust_lanes.specs.Lanes.{inserted}
 use Rattle.robust_grid.specs.Grid.{grid_angle, grid_row, all_pairs}
 use Rattle.seed_models.specs.declared.QSums.{QSums}
-use Rattle.seed_models.specs.declared.Matched.{Matched}
-use Rattle.seed_models.specs.declared.Matched.TheVariants.{At, Missing}
 
 -- ---- seed.rs: SeedModel
 pub record SeedModel : Type 0 where
@@ -56,17 +53,17 @@ seed_models n ring_phi = all_pairs (λ a b models. model_pushed models (model_at
 abbrev pub num_of : ℕ → Row → (ℕ → Float) → Float
 num_of n centered q = iter (λ i num. num ⊕ at centered i ⊗ q i) nought n
 
-unfoldable pub score_cached_seed_model : ℕ → Row → Float → Float → SeedModel → Seed
+unfoldable pub score_cached_seed_model : ℕ → Row → Float → Float → SeedModel → Option SeedCandidate
 score_cached_seed_model n centered centered_ss mean m =
     seed_from (count n) centered_ss mean (num_of n centered (at m.q_centered)) m.q_mean m.denom m.theta1 m.theta2
 
 -- ---- robust.rs: robust_grid_fit_cached, the seed of least residual over the models, the earlier on a tie
-unfoldable pub best_from : (SeedModel → Seed) → Seed → List SeedModel → Seed
+unfoldable pub best_from : (SeedModel → Option SeedCandidate) → Option SeedCandidate → List SeedModel → Option SeedCandidate
 best_from score top [] = top
 best_from score top (m ∷ models) = best_from score (inserted top (score m)) models
 
-unfoldable pub best_cached : ℕ → Row → Float → Float → List SeedModel → Seed
-best_cached n centered centered_ss mean models = best_from (score_cached_seed_model n centered centered_ss mean) Nothing models
+unfoldable pub best_cached : ℕ → Row → Float → Float → List SeedModel → Option SeedCandidate
+best_cached n centered centered_ss mean models = best_from (score_cached_seed_model n centered centered_ss mean) None models
 
 -- ---- seed.rs: is_canonical_ring_phi; 1e-6
 abbrev pub angle_near : Float → Float → Bool
@@ -90,9 +87,9 @@ abbrev pub table_at : List Table → ℕ → Table
 table_at tables t = get_or tables t no_table
 
 -- the first of `left` numbers from i on that passes
-unfoldable pub first_from : (ℕ → Bool) → ℕ → ℕ → Matched
-first_from p zero i = Missing
-first_from p (suc left) i = cond (p i) (At i) (first_from p left (i + 1))
+unfoldable pub first_from : (ℕ → Bool) → ℕ → ℕ → Option ℕ
+first_from p zero i = None
+first_from p (suc left) i = cond (p i) (Some i) (first_from p left (i + 1))
 
-unfoldable pub first_table : ℕ → List Table → Row → Matched
+unfoldable pub first_table : ℕ → List Table → Row → Option ℕ
 first_table n tables ring_phi = first_from (λ t. is_ring_phi n ring_phi (table_at tables t).angles) (length tables) 0

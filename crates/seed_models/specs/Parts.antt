@@ -1,16 +1,14 @@
 -- What the contracts of crates/seed_models speak of besides the definitions: a model from the grid's buffer, and the lanes of a block. Definitions only.
-use Rattle.std.specs.Prelude.{◌≡◌, Bool, true, false, ℕ, ◌+◌, ◌*◌, ◌≤◌, ◌<◌, length, Float}
+use Rattle.std.specs.Prelude.{◌≡◌, Bool, true, false, ℕ, ◌+◌, ◌*◌, ◌≤◌, ◌<◌, length, Option, Some, None, Float}
 use Rattle.floats.specs.Ops.{◌⊗◌}
 use Rattle.floats.specs.Rows.{Row, at}
 use Rattle.loops.specs.Loops.{iter}
 use Rattle.robust_lanes.specs.Lanes.{grid_places, GridRoom, four, times, plus, lane_sums, models_of}
 use Rattle.robust_lanes.specs.declared.Models.{Models}
-use Rattle.seed.specs.declared.Seed.{Seed}
+use Rattle.seed.specs.declared.SeedCandidate.{SeedCandidate}
 use Rattle.robust_grid.specs.Grid.{grid_angle, best_of}
 use Rattle.robust_grid.specs.Places.{block_pair, score_at}
 use Rattle.seed_models.specs.declared.QSums.{QSums}
-use Rattle.seed_models.specs.declared.Matched.{Matched}
-use Rattle.seed_models.specs.declared.Matched.TheVariants.{At, Missing}
 use Rattle.seed_models.specs.Models.{SeedModel, no_qSums, q_summed, model_of, num_of, best_cached}
 use Rattle.seed_models.specs.Words.{ring_samples, table_size, block_part, models_in}
 
@@ -44,11 +42,11 @@ abbrev pub lanes_of : Bool → Row → Row → Float → ℕ → Models
 lanes_of true rows centered n j = lanes_in ring_samples (block_part rows j) centered
 lanes_of false rows centered n j = let p = block_pair j in models_of (lane_sums (length centered) centered rows p.a p.b) n
 
-abbrev pub seed_of : Bool → Row → Row → Float → Float → Seed
+abbrev pub seed_of : Bool → Row → Row → Float → Float → Option SeedCandidate
 seed_of true rows centered centered_ss mean = best_cached ring_samples centered centered_ss mean (models_in rows)
 seed_of false rows centered centered_ss mean = best_of (score_at (length centered) rows centered centered_ss mean)
 
 -- the number of a table that is found is below k
-abbrev pub FoundBelow : ℕ → Matched → Type 0
-FoundBelow k (At t) = t < k
-FoundBelow k Missing = 0 ≤ k
+abbrev pub FoundBelow : ℕ → Option ℕ → Type 0
+FoundBelow k (Some t) = t < k
+FoundBelow k None = 0 ≤ k

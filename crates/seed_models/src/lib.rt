@@ -13,7 +13,7 @@ ghost use Rattle.seed_models.specs.Parts as P;
 
 use robust_grid::Pair;
 use robust_lanes::Models;
-use seed::Seed;
+use seed::SeedCandidate;
 
 // The samples of a ring that has a table.
 pub const RING_SAMPLES: usize = 16;
@@ -39,13 +39,6 @@ pub struct QSums {
     pub q2_sum: f32,
 }
 
-// The number of a table, or that there is none.
-#[derive(Drop)]
-pub enum Matched {
-    At(usize),
-    Missing,
-}
-
 // ---- the score of one model
 
 fn num_of(centered: &[f32], q_centered: &[f32]) -> f32
@@ -69,7 +62,7 @@ pub fn score_cached_seed_model(
     q_mean: f32,
     q_centered: &[f32],
     denom: f32,
-) -> Seed
+) -> Option<SeedCandidate>
     requires { (length q_centered.now ≡ length centered.now) × (length centered.now ≤ max_samples) }
     ensures { result ≡ M.score_cached_seed_model (length centered.now) centered.now centered_ss mean
         (record { theta1 = theta1; theta2 = theta2; q_mean = q_mean; q_centered = q_centered.now; denom = denom }) }
@@ -126,8 +119,8 @@ pub fn held(words: &[f32]) -> usize
     0
 }
 
-// The first table whose angles are all within 1e-6 of the ring's.
-pub fn first_table(words: &[f32], ring_phi: &[f32]) -> Matched
+// The number of the first table whose angles are all within 1e-6 of the ring's.
+pub fn first_table(words: &[f32], ring_phi: &[f32]) -> Option<usize>
     requires { (length words.now ≡ W.state_size) × (length ring_phi.now ≡ W.ring_samples) }
     ensures { (result ≡ M.first_table W.ring_samples (W.tables_in words.now) ring_phi.now)
         × P.FoundBelow (W.held_in words.now) result }
@@ -136,10 +129,10 @@ pub fn first_table(words: &[f32], ring_phi: &[f32]) -> Matched
     for t in 0..k {
         let b = 1 + t * TABLE_SIZE;
         if is_ring_phi(ring_phi, &words[b..b + RING_SAMPLES]) {
-            return Matched::At(t);
+            return Some(t);
         }
     }
-    Matched::Missing
+    None
 }
 
 // ---- the search over a table's models
@@ -202,7 +195,13 @@ fn lanes_of(
 // The seed of least residual over all allowed pairs, the earlier on a tie: of the grid's rows, or of a table's words where
 // they are stored. One walk serves both, so that what it does with a block has one caller and is compiled into it: with two
 // callers a ring of two starts took two fifths longer.
-pub fn best_seed(rows: &[f32], stored: bool, centered: &[f32], centered_ss: f32, mean: f32) -> Seed
+pub fn best_seed(
+    rows: &[f32],
+    stored: bool,
+    centered: &[f32],
+    centered_ss: f32,
+    mean: f32,
+) -> Option<SeedCandidate>
     requires { P.RowsOf stored rows.now centered.now }
     ensures { result ≡ P.seed_of stored rows.now centered.now centered_ss mean }
 {

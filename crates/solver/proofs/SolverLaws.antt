@@ -1,6 +1,6 @@
 -- A pass by rows first and sums after is the pass sample by sample, since the rows are the samples' own and a product commutes; and each way out of
 -- the update loop is one unfolding of the definition. Assumes nothing.
-use Rattle.std.specs.Prelude.{◌≡◌, refl, true, false, length, set, pos, Float}
+use Rattle.std.specs.Prelude.{◌≡◌, refl, true, false, length, set, pos, Option, Some, Float}
 use Rattle.std.proofs.Common.{sym, ap, ◌∙◌, inl, inr, eq-or-lt_of_le, length-set, get_or-set_same, get_or-set_other}
 use Prim.Native.Nat.{ℕ, suc, ◌+◌, ◌-◌, ◌*◌, ◌≤◌, ◌<◌}
 use native.Mathlib.Omega.{arith}
@@ -18,8 +18,6 @@ use Rattle.loops.proofs.IterLaws.{iter_same, iter_through}
 use Rattle.loops.proofs.TabLaws.{tab_at, tab_length, tab_same}
 use Rattle.solver_elimination.specs.Solve.{Matrix, solve4x4}
 use Rattle.floats.specs.Rows.{Row, at}
-use Rattle.solver_elimination.specs.declared.Solved.{Solved}
-use Rattle.solver_elimination.specs.declared.Solved.TheVariants.{Values}
 use Rattle.solver_record.specs.declared.Params.{Params}
 use Rattle.solver.specs.declared.Sample.{Sample}
 use Rattle.solver.specs.declared.Sums.{Sums}
@@ -171,25 +169,25 @@ module _ (n : ℕ) (samples sphi cphi : Row) where
   unfolding updates_from
   run_full k p l e h = let z : 6 - k ≡ 0 = omega arith in rw (z, e)
 
-  pub run_stay : (k : ℕ) (p : Params) (l : Normal) (s : Solved) → l ≡ pass n p samples sphi cphi → s ≡ solve4x4 l.m l.v → k < 6 →
+  pub run_stay : (k : ℕ) (p : Params) (l : Normal) (s : Option Row) → l ≡ pass n p samples sphi cphi → s ≡ solve4x4 l.m l.v → k < 6 →
       step_of p s ≡ stay → record { p = p; last = l; updates = k } ≡ left k p
   unfolding updates_from
   run_stay k p l s el es h e = let z : 6 - k ≡ suc (6 - (k + 1)) = omega arith in rw (z, ← el, ← es, e)
 
-  pub run_to : (k : ℕ) (p q : Params) (l : Normal) (s : Solved) → l ≡ pass n p samples sphi cphi → s ≡ solve4x4 l.m l.v → k < 6 →
+  pub run_to : (k : ℕ) (p q : Params) (l : Normal) (s : Option Row) → l ≡ pass n p samples sphi cphi → s ≡ solve4x4 l.m l.v → k < 6 →
       step_of p s ≡ to q → left (k + 1) q ≡ left k p
   unfolding updates_from
   run_to k p q l s el es h e = let z : 6 - k ≡ suc (6 - (k + 1)) = omega arith in rw (z, ← el, ← es, e)
 
-module _ (p : Params) (s : Solved) (d0 d1 d2 d3 c2 c3 : Float) (e : s ≡ Values d0 d1 d2 d3) (e2 : c2 ≡ cut d2) (e3 : c3 ≡ cut d3) where
-  pub step_stay : small d1 c2 c3 ≡ true → step_of p s ≡ stay
+module _ (p : Params) (s : Option Row) (d : Row) (c2 c3 : Float) (e : s ≡ Some d) (e2 : c2 ≡ cut (at d 2)) (e3 : c3 ≡ cut (at d 3)) where
+  pub step_stay : small (at d 1) c2 c3 ≡ true → step_of p s ≡ stay
   step_stay h = rw (e, ← e2, ← e3, h)
 
-  pub step_to : (q : Params) → small d1 c2 c3 ≡ false → q ≡ moved p d0 d1 c2 c3 → step_of p s ≡ to q
+  pub step_to : (q : Params) → small (at d 1) c2 c3 ≡ false → q ≡ moved p (at d 0) (at d 1) c2 c3 → step_of p s ≡ to q
   step_to q h eq = rw (e, ← e2, ← e3, h, eq)
 
 -- the elimination was handed the matrix and the right-hand side of l
-pub solved_by : (l : Normal) (m : Matrix) (v : Row) (s : Solved) → m ≡ l.m → v ≡ l.v → s ≡ solve4x4 m v → s ≡ solve4x4 l.m l.v
+pub solved_by : (l : Normal) (m : Matrix) (v : Row) (s : Option Row) → m ≡ l.m → v ≡ l.v → s ≡ solve4x4 m v → s ≡ solve4x4 l.m l.v
 solved_by l m v s em ev e = rw (← em, ← ev) e
 
 -- ---- the start, from where the updates stopped

@@ -1,13 +1,11 @@
 -- Every start's fit is sound, whatever went in: its axes and errors lie in their ranges and its amplitude is NaN or not below zero.
 -- A start makes at most six updates, and its last pass is that of its final parameters. Assumes nothing.
-use Rattle.std.specs.Prelude.{◌≡◌, refl, Bool, true, false, cond, ℕ, zero, suc, ◌+◌, ◌≤◌, Float}
+use Rattle.std.specs.Prelude.{◌≡◌, refl, Bool, true, false, cond, ℕ, zero, suc, ◌+◌, ◌≤◌, Option, Some, None, Float}
 use Rattle.std.proofs.Common.{arith}
 use Rattle.std.specs.Float.{binary32}
 use Rattle.std.specs.Float.Ieee.Fits.{add-fits}
 use Rattle.solver_elimination.specs.Solve.{solve4x4}
-use Rattle.floats.specs.Rows.{Row}
-use Rattle.solver_elimination.specs.declared.Solved.{Solved}
-use Rattle.solver_elimination.specs.declared.Solved.TheVariants.{Values, Failed}
+use Rattle.floats.specs.Rows.{Row, at}
 use Rattle.solver_record.specs.Fit.{degenerate_fit, degenerate}
 use Rattle.solver_record.specs.Record.{refused}
 use Rattle.solver_record.specs.FitLaws.{ParamsHeld, Sound, finished_sound, degenerate_sound}
@@ -65,14 +63,14 @@ updates_own n samples sphi cphi p = from_own n samples sphi cphi 6 0 p
 moved_held : (p : Params) (d0 d1 d2 d3 : Float) → ParamsHeld (moved p d0 d1 d2 d3)
 moved_held p d0 d1 d2 d3 = record { amp = add-fits binary32 p.amp d1; one = add-fits binary32 p.theta1 d2; two = add-fits binary32 p.theta2 d3 }
 
-after_held : (p : Params) (s : Solved) (a : Final) (f : Params → Final) → ParamsHeld a.p → ((q : Params) → ParamsHeld q → ParamsHeld (f q).p) →
+after_held : (p : Params) (s : Option Row) (a : Final) (f : Params → Final) → ParamsHeld a.p → ((q : Params) → ParamsHeld q → ParamsHeld (f q).p) →
     ParamsHeld (after (step_of p s) a f).p
-after_held p Failed a f h g = h
-after_held p (Values d0 d1 d2 d3) a f h g = go (small d1 (cut d2) (cut d3))
+after_held p None a f h g = h
+after_held p (Some d) a f h g = go (small (at d 1) (cut (at d 2)) (cut (at d 3)))
   where
-    go : (b : Bool) → ParamsHeld (after (cond b stay (to (moved p d0 d1 (cut d2) (cut d3)))) a f).p
+    go : (b : Bool) → ParamsHeld (after (cond b stay (to (moved p (at d 0) (at d 1) (cut (at d 2)) (cut (at d 3))))) a f).p
     go true = h
-    go false = g (moved p d0 d1 (cut d2) (cut d3)) (moved_held p d0 d1 (cut d2) (cut d3))
+    go false = g _ (moved_held p (at d 0) (at d 1) (cut (at d 2)) (cut (at d 3)))
 
 from_held : (n : ℕ) (samples sphi cphi : Row) (fuel k : ℕ) (p : Params) → ParamsHeld p → ParamsHeld (updates_from n samples sphi cphi fuel k p).p
 unfolding updates_from

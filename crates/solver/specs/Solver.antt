@@ -1,7 +1,7 @@
 -- The Gauss-Newton fit from a seed as the Rust has it: ring_fit/solver.rs, fit_with_seed. Definitions only.
 -- What it answers where the updates stopped is crates/solver_record/specs/Fit.antt; the start of ours, which keeps the mean, is Record.antt.
 -- `n` is the number of samples throughout, and `ring_phi` has their angles on the ring; `sphi` and `cphi` are the angles' sines and cosines.
-use Rattle.std.specs.Prelude.{Bool, cond, ◌&&◌, [], ◌∷◌, ℕ, zero, suc, ◌+◌, get_or, set, replicate, Float}
+use Rattle.std.specs.Prelude.{Bool, cond, ◌&&◌, [], ◌∷◌, ℕ, zero, suc, ◌+◌, get_or, set, replicate, Option, Some, None, Float}
 use Rattle.std.specs.Float.Ieee.{neg, lt}
 use Rattle.floats.specs.Ops.{◌⊕◌, ◌⊖◌, ◌⊗◌, lit, nought, one}
 use Rattle.floats.specs.Library.{abs, signum}
@@ -10,8 +10,6 @@ use Rattle.elementary.specs.declared.SinCos.{SinCos}
 use Rattle.loops.specs.Loops.{iter, tab}
 use Rattle.solver_elimination.specs.Solve.{Matrix, solve4x4}
 use Rattle.floats.specs.Rows.{Row, at}
-use Rattle.solver_elimination.specs.declared.Solved.{Solved}
-use Rattle.solver_elimination.specs.declared.Solved.TheVariants.{Values, Failed}
 use Rattle.solver_record.specs.Fit.{RustFit, degenerate_fit, degenerate, finished}
 use Rattle.solver_record.specs.declared.Params.{Params}
 use Rattle.solver.specs.declared.Sample.{Sample}
@@ -99,9 +97,10 @@ small d1 d2 d3 = lt (abs d2) gn_tol && (lt (abs d3) gn_tol && lt (abs d1) amp_to
 abbrev pub moved : Params → Float → Float → Float → Float → Params
 moved p d0 d1 d2 d3 = record { mu = p.mu ⊕ d0; amp = p.amp ⊕ d1; theta1 = p.theta1 ⊕ d2; theta2 = p.theta2 ⊕ d3 }
 
-abbrev pub step_of : Params → Solved → Step
-step_of p Failed = stay
-step_of p (Values d0 d1 d2 d3) = cond (small d1 (cut d2) (cut d3)) stay (to (moved p d0 d1 (cut d2) (cut d3)))
+abbrev pub step_of : Params → Option Row → Step
+step_of p None = stay
+step_of p (Some d) =
+    cond (small (at d 1) (cut (at d 2)) (cut (at d 3))) stay (to (moved p (at d 0) (at d 1) (cut (at d 2)) (cut (at d 3))))
 
 abbrev pub after : {A : Type 0} → Step → A → (Params → A) → A
 after stay a f = a

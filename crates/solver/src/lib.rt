@@ -8,7 +8,6 @@ ghost use Rattle.elementary.specs.Elementary.{turn};
 ghost use Rattle.solver.specs.Buffers as B;
 
 use elementary::SinCos;
-use solver_elimination::Solved;
 use solver_record::{Params, Started};
 
 pub const TANH_BETA: f32 = 4.0;
@@ -307,15 +306,15 @@ fn run_updates(
         if count >= GN_MAX_ITERS {
             break;
         }
-        let Solved::Values(d0, d1, d2, d3) = solver_elimination::solve_4x4(jtj, &jtr) else {
+        let Some(d) = solver_elimination::solve_4x4(jtj, &jtr) else {
             break;
         };
-        let c2 = cut(d2);
-        let c3 = cut(d3);
-        if is_small(d1, c2, c3) {
+        let c2 = cut(d[2]);
+        let c3 = cut(d[3]);
+        if is_small(d[1], c2, c3) {
             break;
         }
-        p = moved(p, d0, d1, c2, c3);
+        p = moved(p, d[0], d[1], c2, c3);
         count += 1;
         s = pass(samples, sphi, cphi, p, js);
     }

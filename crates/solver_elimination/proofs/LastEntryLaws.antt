@@ -1,6 +1,6 @@
 -- A factor is a NaN, which makes its whole row NaN, or no larger than its pivot, so that a column grows the right side by a factor of 4 at most: the last
 -- row, which is not all NaN since its pivot is no NaN, comes out finite. Assumes nothing.
-use Rattle.std.specs.Prelude.{◌≡◌, ◌⊎◌, Bool, true, false, not, cond, List, [], pos, T, eqb, length, get_or, set, Float}
+use Rattle.std.specs.Prelude.{◌≡◌, ◌⊎◌, Bool, true, false, not, cond, List, [], pos, T, eqb, length, get_or, set, Option, Some, None, Float}
 use Rattle.std.proofs.Math.Path.{refl, ap}
 use Rattle.std.proofs.Common.{sym, ◌∙◌, subst, true≢false, le_refl, le_of_lt, eq-or-lt_of_le, arith, T_not, eqb→eq, lit≤, get_or-set_same, pow_mono, ne_eqb}
 use Rattle.std.proofs.Math.Logic.{inl, inr}
@@ -21,8 +21,6 @@ use Rattle.floats.specs.NanLaws.{add_nan}
 use Rattle.floats.specs.FiniteLaws.{zero32}
 use Rattle.floats.specs.WithinLaws.{Within, within_finite, within_more, rep_pow, mul_within, div_within, sub_within}
 use Rattle.loops.specs.Loops.{iter}
-use Rattle.solver_elimination.specs.declared.Solved.{Solved}
-use Rattle.solver_elimination.specs.declared.Solved.TheVariants.{Values, Failed}
 use Rattle.solver_elimination.specs.Solve as S
 use Rattle.solver_elimination.specs.Solve.{Matrix, Elim, gone, going, entry}
 use Rattle.solver_elimination.specs.Wide.{failed}
@@ -253,19 +251,19 @@ start m h = record { len = refl; rows = λ k g l. rows k l; last = λ k e. absur
     rows (suc (suc (suc zero))) l = unit_row (get_or m 3 []) one (λ j g. h 3 j l g) (of_bits-fits binary32 0x3f80_0000) one_within
     rows (suc (suc (suc (suc k)))) l = absurd (omega arith)
 
-abbrev fourth : Solved → Float
-fourth Failed = nan
-fourth (Values b0 b1 b2 b3) = b3
+abbrev fourth : Option Row → Float
+fourth None = nan
+fourth (Some d) = at d 3
 
 -- Whatever the matrix holds, NaN and infinities included: the last entry of its inverse is finite, where it has one.
 pub last_entry_finite :
-    (m : Matrix) → ((k j : ℕ) → k < 4 → j < 4 → T (fits binary32 (entry m k j))) → (b0 b1 b2 b3 : Float) →
-    S.solve4x4 m S.unit3 ≡ Values b0 b1 b2 b3 → finite b3 ≡ true
+    (m : Matrix) → ((k j : ℕ) → k < 4 → j < 4 → T (fits binary32 (entry m k j))) → (d : Row) →
+    S.solve4x4 m S.unit3 ≡ Some d → finite (at d 3) ≡ true
 unfolding S.solve4x4
-last_entry_finite m h b0 b1 b2 b3 s =
+last_entry_finite m h d s =
     let e = going (S.augmented m S.unit3) in
-    is_true (finite b3) (go (iter S.column e 4) (stays e (on (start m h)) 4 (lit≤ tt)) s)
+    is_true (finite (at d 3)) (go (iter S.column e 4) (stays e (on (start m h)) 4 (lit≤ tt)) s)
   where
-    go : (e : Elim) → Stays 4 e → S.last_column e ≡ Values b0 b1 b2 b3 → T (finite b3)
+    go : (e : Elim) → Stays 4 e → S.last_column e ≡ Some d → T (finite (at d 3))
     go gone t q = absurd (true≢false (ap failed q))
     go (going n) (on w) q = rw (ap fourth q) at (w.last 3 refl)

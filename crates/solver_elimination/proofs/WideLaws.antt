@@ -1,6 +1,6 @@
 -- Pivots, exchanges, skipped factors and failure look at the left side alone, and each entry is made of entries in its own column:
 -- so a system that a wider one carries is carried by it after every column, and both fail together. Assumes nothing.
-use Rattle.std.specs.Prelude.{◌≡◌, Bool, cond, ℕ, zero, suc, ◌+◌, ◌<◌, get_or, drop, set, eqb, Float}
+use Rattle.std.specs.Prelude.{◌≡◌, Bool, cond, ℕ, zero, suc, ◌+◌, ◌<◌, get_or, drop, set, eqb, Option, Some, None, Float}
 use Rattle.std.proofs.Math.Path.{refl, sym, ap}
 use Rattle.std.proofs.Common.{◌∙◌, arith}
 use Rattle.std.proofs.Math.Bool.{true, false}
@@ -15,8 +15,6 @@ use Rattle.loops.specs.Loops.{iter, range}
 use Rattle.floats.specs.Rows.{Row, at}
 use Rattle.floats.specs.NanLaws.{add_nan, mul_nan}
 use Rattle.loops.proofs.IterLaws.{iter_related, range_same}
-use Rattle.solver_elimination.specs.declared.Solved.{Solved}
-use Rattle.solver_elimination.specs.declared.Solved.TheVariants.{Values, Failed}
 use Rattle.solver_elimination.specs.Solve as S
 use Rattle.solver_elimination.specs.Solve.{Matrix, Elim, gone, going}
 use Rattle.solver_elimination.specs.Wide.{RowCarried, Carried, widened_row, widened, right_side, eliminated, failed, sides, first_side}
@@ -26,7 +24,7 @@ abbrev turned : Matrix
 turned = (nought ∷ nought ∷ nought ∷ one ∷ []) ∷ (nought ∷ one ∷ nought ∷ nought ∷ []) ∷ (nought ∷ nought ∷ one ∷ nought ∷ []) ∷
     (lit 0x4000_0000 ∷ nought ∷ nought ∷ nought ∷ []) ∷ []
 
-pub second_side_case : S.column_of 5 (eliminated (widened turned S.unit2 S.unit3)) ≡ Values (lit 0x3f00_0000) nought nought nought
+pub second_side_case : S.column_of 5 (eliminated (widened turned S.unit2 S.unit3)) ≡ Some (lit 0x3f00_0000 ∷ nought ∷ nought ∷ nought ∷ [])
 unfolding widened iter range S.larger S.pivot_row S.unusable S.reduced S.cleared S.clear S.top_row S.columned S.stopped zip_with abs add sub mul div
     neg lt eq of_bits round size
 second_side_case = refl
@@ -198,7 +196,7 @@ pub first_by : (a : Matrix) (b c : Row) → S.solve4x4 a b ≡ first_side (sides
 unfolding sides
 first_by a b c = go (S.solve4x4 a b) (S.solve4x4 a c) (fail_together a b c)
   where
-    go : (s t : Solved) → failed s ≡ failed t → s ≡ first_side (sides s t)
-    go Failed t e = refl
-    go (Values a0 a1 a2 a3) Failed e = absurd (false≢true e)
-    go (Values a0 a1 a2 a3) (Values b0 b1 b2 b3) e = refl
+    go : (s t : Option Row) → failed s ≡ failed t → s ≡ first_side (sides s t)
+    go None t e = refl
+    go (Some x) None e = absurd (false≢true e)
+    go (Some x) (Some y) e = refl

@@ -1,5 +1,5 @@
 -- Elimination of a 4 by 4 system: ring_fit/solver.rs. A matrix is the list of its rows. Definitions only.
-use Rattle.std.specs.Prelude.{Bool, cond, not, ◌||◌, ℕ, ◌+◌, get_or, set, eqb, Float}
+use Rattle.std.specs.Prelude.{Bool, cond, not, ◌||◌, ℕ, ◌+◌, get_or, set, eqb, Option, Some, None, Float}
 use mathlib.Core.List.{List, [], ◌∷◌, map, zip_with}
 use Rattle.std.specs.Float.{nan}
 use Rattle.std.specs.Float.Ieee.{lt, eq}
@@ -8,8 +8,6 @@ use Rattle.floats.specs.Ops.{◌⊖◌, ◌⊗◌, ◌⊘◌, lit, nought, one}
 use Rattle.floats.specs.Library.{abs}
 use Rattle.floats.specs.Rows.{Row, at}
 use Rattle.loops.specs.Loops.{iter, range}
-use Rattle.solver_elimination.specs.declared.Solved.{Solved}
-use Rattle.solver_elimination.specs.declared.Solved.TheVariants.{Values, Failed}
 
 abbrev pub Matrix : Type 0
 Matrix = List Row
@@ -75,14 +73,15 @@ abbrev pub column : ℕ → Elim → Elim
 column i gone = gone
 column i (going m) = cond (stopped m i) gone (going (columned m i))
 
-abbrev pub column_of : ℕ → Elim → Solved
-column_of c gone = Failed
-column_of c (going m) = Values (entry m 0 c) (entry m 1 c) (entry m 2 c) (entry m 3 c)
+-- a solution has four values; an elimination that failed has none
+abbrev pub column_of : ℕ → Elim → Option Row
+column_of c gone = None
+column_of c (going m) = Some (entry m 0 c ∷ entry m 1 c ∷ entry m 2 c ∷ entry m 3 c ∷ [])
 
-abbrev pub last_column : Elim → Solved
+abbrev pub last_column : Elim → Option Row
 last_column = column_of 4
 
-unfoldable pub solve4x4 : Matrix → Row → Solved
+unfoldable pub solve4x4 : Matrix → Row → Option Row
 solve4x4 a b = last_column (iter column (going (augmented a b)) 4)
 
 -- ---- the two right sides of axis_std_errors

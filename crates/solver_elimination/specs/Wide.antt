@@ -1,14 +1,12 @@
 -- What the code's elimination carries: the matrix with two right sides beside it, and how it carries a system with one.
 -- Definitions only.
-use Rattle.std.specs.Prelude.{◌≡◌, Bool, true, false, ℕ, ◌<◌, get_or, Float}
+use Rattle.std.specs.Prelude.{◌≡◌, Bool, ℕ, ◌<◌, get_or, Option, Some, None, is_none, Float}
+use Rattle.std.specs.Option.{option_map}
 use mathlib.Core.List.{[], ◌∷◌, Forall₂}
 use Rattle.floats.specs.Ops.{nought}
 use Rattle.floats.specs.Rows.{Row, at}
 use Rattle.loops.specs.Loops.{iter}
-use Rattle.solver_elimination.specs.declared.Solved.{Solved}
-use Rattle.solver_elimination.specs.declared.Solved.TheVariants.{Values, Failed}
 use Rattle.solver_elimination.specs.declared.Sides.{Sides}
-use Rattle.solver_elimination.specs.declared.Sides.TheVariants.{Both, Neither}
 use Rattle.solver_elimination.specs.Solve.{Matrix, Elim, going, column}
 
 -- a row of the matrix, its entries of two right sides, and two places that lie idle
@@ -27,19 +25,17 @@ right_side b0 b1 b2 b3 = b0 ∷ b1 ∷ b2 ∷ b3 ∷ []
 abbrev pub eliminated : Matrix → Elim
 eliminated m = iter column (going m) 4
 
-abbrev pub failed : Solved → Bool
-failed Failed = true
-failed (Values a0 a1 a2 a3) = false
+abbrev pub failed : Option Row → Bool
+failed = is_none
 
 -- two solutions side by side
-unfoldable pub sides : Solved → Solved → Sides
-sides Failed t = Neither
-sides (Values a0 a1 a2 a3) Failed = Neither
-sides (Values a0 a1 a2 a3) (Values b0 b1 b2 b3) = Both a0 a1 a2 a3 b0 b1 b2 b3
+unfoldable pub sides : Option Row → Option Row → Option Sides
+sides None t = None
+sides (Some x) None = None
+sides (Some x) (Some y) = Some (record { first = x; second = y })
 
-abbrev pub first_side : Sides → Solved
-first_side Neither = Failed
-first_side (Both a0 a1 a2 a3 b0 b1 b2 b3) = Values a0 a1 a2 a3
+abbrev pub first_side : Option Sides → Option Row
+first_side = option_map (λ s. s.first)
 
 -- ---- a system that a wider one carries: behind the same left side its column c stands there as column d
 module _ (c d : ℕ) where

@@ -7,19 +7,11 @@ ghost use Rattle.floats.specs.Rows.{at};
 ghost use Rattle.solver_elimination.specs.Solve as S;
 ghost use Rattle.solver_elimination.specs.Wide as W;
 
-// The four values of a solution, or that the elimination failed.
-#[derive(Drop)]
-pub enum Solved {
-    Values(f32, f32, f32, f32),
-    Failed,
-}
-
-// What one elimination gives for two right sides: the four values of the first solution and then of the second, or that it
-// failed, which it does for both or for neither.
-#[derive(Drop)]
-pub enum Sides {
-    Both(f32, f32, f32, f32, f32, f32, f32, f32),
-    Neither,
+// The solutions for two right sides. One elimination succeeds for both or for neither.
+#[derive(Clone, Copy)]
+pub struct Sides {
+    pub first: [f32; 4],
+    pub second: [f32; 4],
 }
 
 fn widened_row(r: [f32; 4], b: f32, c: f32) -> [f32; 8]
@@ -150,7 +142,7 @@ pub fn eliminate(
     c1: f32,
     c2: f32,
     c3: f32,
-) -> Sides
+) -> Option<Sides>
     ensures { result ≡ W.sides (S.solve4x4 a.now (W.right_side b0 b1 b2 b3)) (S.solve4x4 a.now (W.right_side c0 c1 c2 c3)) }
 {
     let r0 = widened_row(a[0], b0, c0);
@@ -160,25 +152,22 @@ pub fn eliminate(
     let mut m = [r0, r1, r2, r3];
     for i in 0..4 {
         if column_stops(&mut m, i) {
-            return Sides::Neither;
+            return None;
         }
     }
-    Sides::Both(
-        m[0][4], m[1][4], m[2][4], m[3][4], m[0][5], m[1][5], m[2][5], m[3][5],
-    )
+    let first = [m[0][4], m[1][4], m[2][4], m[3][4]];
+    let second = [m[0][5], m[1][5], m[2][5], m[3][5]];
+    Some(Sides { first, second })
 }
 
 // One right side is carried twice.
-pub fn solve_4x4(a: &[[f32; 4]; 4], b: &[f32; 4]) -> Solved
+pub fn solve_4x4(a: &[[f32; 4]; 4], b: &[f32; 4]) -> Option<[f32; 4]>
     ensures { result ≡ S.solve4x4 a.now b.now }
 {
     let b0 = b[0];
     let b1 = b[1];
     let b2 = b[2];
     let b3 = b[3];
-    let sides = eliminate(a, b0, b1, b2, b3, b0, b1, b2, b3);
-    let Sides::Both(x0, x1, x2, x3, _, _, _, _) = sides else {
-        return Solved::Failed;
-    };
-    Solved::Values(x0, x1, x2, x3)
+    let sides = eliminate(a, b0, b1, b2, b3, b0, b1, b2, b3)?;
+    Some(sides.first)
 }

@@ -1,20 +1,18 @@
 -- What is asked of errors that are known (docs/RULES.md, Known), said by the eliminations, their entries and the residual sum, and not by `standing`;
 -- and what a known error then is: an estimate. Definitions only.
-use Rattle.std.specs.Prelude.{◌≡◌, ℕ, ◌-◌, ◌<◌, T, pos, Float}
+use Rattle.std.specs.Prelude.{◌≡◌, ℕ, ◌-◌, ◌<◌, T, pos, Option, Some, Float}
 use Rattle.std.specs.Float.{binary32}
 use Rattle.std.specs.Float.Ieee.{le, of_int}
 use Rattle.std.specs.Float.Ieee.Scale.{finite}
 use Rattle.floats.specs.Ops.{◌⊗◌, ◌⊘◌, nought, pi}
 use Rattle.floats.specs.Library.{max, min, sqrt}
 use Rattle.floats.specs.Rows.{Row, at}
-use Rattle.solver_elimination.specs.declared.Solved.{Solved}
-use Rattle.solver_elimination.specs.declared.Solved.TheVariants.{Values}
 use Rattle.solver_elimination.specs.Solve.{Matrix, solve4x4, unit2, unit3}
 
 -- an elimination that succeeded, and a finite value k of its solution
-pub record FiniteAt (k : ℕ) (s : Solved) : Type 0 where
+pub record FiniteAt (k : ℕ) (s : Option Row) : Type 0 where
   pub solution : Row
-  pub solved : s ≡ Values (at solution 0) (at solution 1) (at solution 2) (at solution 3)
+  pub solved : s ≡ Some solution
   pub value : T (finite (at solution k))
 
 -- more than four samples, a finite residual sum, and both eliminations with their entry on the diagonal

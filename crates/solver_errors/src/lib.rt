@@ -7,8 +7,6 @@ ghost use Rattle.solver_elimination.specs.Solve.{solve4x4, unit2, unit3};
 ghost use Rattle.solver_errors.specs.StdErrors as S;
 ghost use Rattle.solver_errors.specs.Parts as P;
 
-use solver_elimination::Sides;
-
 // The standard errors of the two axes.
 #[derive(Clone, Copy)]
 pub struct Errors {
@@ -67,9 +65,11 @@ fn both_errors(jtj: &[[f32; 4]; 4], ssr: f32, v: f32) -> Estimate
     ensures { result ≡ P.both_estimated ssr v (solve4x4 jtj.now unit2) (solve4x4 jtj.now unit3) }
 {
     let sides = solver_elimination::eliminate(jtj, 0.0, 0.0, 1.0, 0.0, 0.0, 0.0, 0.0, 1.0);
-    let Sides::Both(_, _, c2, _, _, _, _, c3) = sides else {
+    let Some(sides) = sides else {
         return no_estimate();
     };
+    let c2 = sides.first[2];
+    let c3 = sides.second[3];
     let error1 = axis_error(v, c2);
     let error2 = axis_error(v, c3);
     let errors = Errors { error1, error2 };

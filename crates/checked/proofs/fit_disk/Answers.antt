@@ -1,6 +1,8 @@
 -- The number of pixels, the lengths, and then the values. Assumes nothing.
-use Rattle.std.proofs.Common.{◌≡◌, refl, true, ℕ, eqb, eq-eqb, ne_eqb, lt-ltb, le-ltb}
+use Rattle.std.proofs.Common.{◌≡◌, refl, ◌∙◌, true, ℕ, eqb, eq-eqb, ne_eqb, lt-ltb, le-ltb}
+use Rattle.std.proofs.lemmas.Result.{err_from_is_err_and}
 use Rattle.checked.specs.Checked as C
+use Rattle.checked.specs.CheckedLaws.{disk_refused, disk_passed}
 use Rattle.checked.proofs.fit_disk.Goals as goal
 use Rattle.checked.proofs.fit_disk.Goals.{then-n-eq0-via-then-n-eq0, then-n-eq0-via-else-n-eq0+then-n-gt-MAX_TANH_PIXELS}
 use Rattle.checked.proofs.fit_disk.Goals.{then-ys-n-via-then-ys-n, then-ys-n-via-else-ys-n+then-vals_centered-n}
@@ -43,8 +45,8 @@ returns-then-ys-n c =
           )
     ]
 
-pub disk_looked-requires : goal.disk_looked-requires
-disk_looked-requires c =
+pub check_disk_values-requires : goal.check_disk_values-requires
+check_disk_values-requires c =
     record {
       most = c.if-n-gt-MAX_TANH_PIXELS.false;
       y = c.if-ys-n.false;
@@ -52,6 +54,22 @@ disk_looked-requires c =
       a = c.if-grad_angles-n.false;
       w = c.if-grad_weights-n.false;
     }
+
+pub returns-in_err-check_disk_values : goal.returns-in_err-check_disk_values
+unfolding C.checked_disk C.same_lengths
+returns-in_err-check_disk_values c =
+    let p = err_from_is_err_and c.from_residual.result c.from_residual.ensures.1 in
+    rw (
+      p.1,
+      p.2,
+      ne_eqb _ _ c.if-n-eq0.false,
+      le-ltb _ _ c.if-n-gt-MAX_TANH_PIXELS.false,
+      xs_same _,
+      eq-eqb _ _ c.if-ys-n.false,
+      eq-eqb _ _ c.if-vals_centered-n.false,
+      eq-eqb _ _ c.if-grad_angles-n.false,
+      eq-eqb _ _ c.if-grad_weights-n.false,
+    ) (disk_refused _ _ _ _ _ c.in_err-check_disk_values.ensures)
 
 pub returns : goal.returns
 unfolding C.checked_disk C.same_lengths
@@ -64,4 +82,4 @@ returns c =
       eq-eqb _ _ c.if-vals_centered-n.false,
       eq-eqb _ _ c.if-grad_angles-n.false,
       eq-eqb _ _ c.if-grad_weights-n.false,
-    ) c.disk_looked.ensures
+    ) (c.disk_fitted.ensures ∙ disk_passed _ _ _ _ _ c.in_ok-check_disk_values.ensures)

@@ -5,7 +5,7 @@ use Rattle.frames.proofs.answer_line.Goals as goal
 
 pub returns-then-out-lt98 : goal.returns-then-out-lt98
 unfolding reply_of
-returns-then-out-lt98 c = rw (lt-ltb _ _ c.if-out-lt98.true)
+returns-then-out-lt98 c = rw (lt-ltb _ _ c.if-out-lt98.true, c.from.ensures, c.number.ensures)
 
 pub returns : goal.returns
 unfolding reply_of

@@ -1,5 +1,5 @@
 -- Two writes side by side are one. Assumes nothing.
-use Rattle.std.proofs.Common.{◌+◌, refl, arith}
+use Rattle.std.proofs.Common.{◌+◌, arith}
 use Rattle.hexadecimal.specs.Hex.{count_text, byte_text, words_text}
 use Rattle.hexadecimal.specs.HexLaws.{put_put, words_length}
 use Rattle.frames.specs.Frames as F
@@ -7,12 +7,7 @@ use Rattle.frames.proofs.write_ring.Goals as goal
 
 pub returns : goal.returns
 unfolding F.ring_text count_text byte_text
-returns c = (
-  refl,
-  rw (
-    c.put_words.ensures,
-    c.put_count.ensures,
-    c.ring_words-ws.ensures.0,
-  ) (put_put c.args.out.now c.args.at _ (words_text (F.ring_words c.args.r) 7)
-      (c.args.at + 4) (omega arith) (omega (arith, words_length (F.ring_words c.args.r) 7))),
-)
+returns c =
+    rw (c.put_words.ensures, c.put_count.ensures, c.ring_words.ensures.0, c.from.ensures, c.answer_type.ensures.1)
+    (put_put c.args.out.now c.args.at _ (words_text (F.ring_words c.args.r) 7) (c.args.at + 4) (omega arith)
+    (omega (arith, words_length (F.ring_words c.args.r) 7)))

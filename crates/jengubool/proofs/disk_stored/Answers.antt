@@ -2,10 +2,10 @@
 use Rattle.jengubool.specs.Calls as J
 use Rattle.jengubool.proofs.disk_stored.Goals as goal
 
-pub returns-in-Fitted : goal.returns-in-Fitted
+pub returns-in-Ok : goal.returns-in-Ok
 unfolding J.disk_stored
-returns-in-Fitted c = rw (c.in-Fitted.is, c.put_disk.ensures, c.put_trials.ensures)
+returns-in-Ok c = rw (c.in-Ok.is, c.put.ensures, c.disk_values.ensures.0, c.put-in-Ok.ensures, c.disk_counts.ensures.0)
 
-pub returns-in-Refused : goal.returns-in-Refused
+pub returns-in-Err : goal.returns-in-Err
 unfolding J.disk_stored
-returns-in-Refused c = rw c.in-Refused.is
+returns-in-Err c = rw (c.in-Err.is, c.code.ensures)

@@ -1,16 +1,16 @@
 -- Both buffers are long enough, or nothing is touched. Assumes nothing.
+use Rattle.std.proofs.Common.{sym, ◌∙◌}
 use Rattle.jengubool.specs.Calls as J
-use Rattle.std.proofs.Common.{lt-ltb, le-ltb}
+use Rattle.jengubool.proofs.CallLaws.{short_call, room_call}
 use Rattle.jengubool.proofs.jb_fit_disk.Goals as goal
 
-pub returns-then-fit-lt11 : goal.returns-then-fit-lt11
+pub returns-then-is_short : goal.returns-then-is_short
 unfolding J.disk_call
-returns-then-fit-lt11 c = rw (lt-ltb _ _ c.if-fit-lt11.true)
-
-pub returns-then-counts-lt2 : goal.returns-then-counts-lt2
-unfolding J.disk_call
-returns-then-counts-lt2 c = rw (le-ltb _ _ c.if-fit-lt11.false, lt-ltb _ _ c.if-counts-lt2.true)
+returns-then-is_short c =
+    rw c.code.ensures (short_call c.args.fit.now c.args.counts.now 11 2 _ (sym c.is_short.ensures ∙ c.if-is_short.true))
 
 pub returns : goal.returns
 unfolding J.disk_call
-returns c = rw (le-ltb _ _ c.if-fit-lt11.false, le-ltb _ _ c.if-counts-lt2.false, ← c.fit_disk.ensures) c.disk_stored.ensures
+returns c =
+    c.disk_stored.ensures ∙ rw c.fit_disk.ensures
+    (room_call c.args.fit.now c.args.counts.now 11 2 _ (sym c.is_short.ensures ∙ c.if-is_short.false))

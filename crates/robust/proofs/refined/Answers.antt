@@ -1,10 +1,11 @@
 -- Nothing without a seed, and with one the start from it. Assumes nothing.
+use Rattle.std.proofs.Common.{◌∙◌}
 use Rattle.robust.proofs.RobustLaws.{refined_missing, refined_made}
 use Rattle.robust.proofs.refined.Goals as goal
 
-pub returns-in_default : goal.returns-in_default
-returns-in_default c = refined_missing _ _ _ _ _ c.in_default.is
+pub returns-in_err-s : goal.returns-in_err-s
+returns-in_err-s c = c.from_residual.ensures ∙ refined_missing _ _ _ _ _ c.in_err-s.was
 
 pub returns : goal.returns
 returns c =
-    refined_made _ _ _ _ _ _ _ c.in-Found.is c.started-f.ensures
+    refined_made _ _ _ _ _ _ _ c.in_ok-s.was c.started-f.ensures

@@ -16,13 +16,13 @@ returns-in_default c =
 
 pub with_table-requires : goal.with_table-requires
 with_table-requires c =
-    let few = rw c.in-At.is at c.first_table.ensures.1 in
+    let few = rw c.in-Some.is at c.first_table.ensures.1 in
     (c.requires.0, omega (arith, few, held_most (at c.args.words.now 0)), c.requires.1, c.requires.2)
 
 pub returns : goal.returns
 returns c =
     let a = c.args in
-    let told = c.in-At.is in
+    let told = c.in-Some.is in
     let first = c.first_table.ensures in
     let few = rw told at first.1 in
     let near = one_near a.words.now a.samples.now a.ring_phi.now a.f.mean a.f.centered_var _ c.requires.1 first.0 _ told few in

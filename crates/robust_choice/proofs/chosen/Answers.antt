@@ -6,4 +6,4 @@ returns-in_default c = rw c.in_default.is c.alone.ensures
 
 pub returns : goal.returns
 returns c =
-    rw (c.in-Made.is, c.lower-answered.ensures)
+    rw (c.in-Some.is, c.lower-answered.ensures)

@@ -7,13 +7,13 @@ returns-in_default c = (tried_nothing _ _ c.in_default.is, c.requires.0)
 
 pub returns-in_default-top : goal.returns-in_default-top
 returns-in_default-top c =
-    (tried_first _ _ _ c.in-Found.is c.in_default-top.is, taken_kept c.args.best.top _ _ c.in-Found.is _ c.requires.1)
+    (tried_first _ _ _ c.in-Some.is c.in_default-top.is, taken_kept c.args.best.top _ _ c.in-Some.is _ c.requires.1)
 
 pub returns-then-s-d : goal.returns-then-s-d
 returns-then-s-d c =
-    let found = c.in-Found.is in
-    (tried_lower _ _ _ found _ c.in-Found-top.is c.if-s-d.true, taken_kept c.args.best.top _ _ found _ c.requires.1)
+    let found = c.in-Some.is in
+    (tried_lower _ _ _ found _ c.in-Some-top.is c.if-s-d.true, taken_kept c.args.best.top _ _ found _ c.requires.1)
 
 pub returns : goal.returns
 returns c =
-    (tried_not _ _ _ c.in-Found.is _ c.in-Found-top.is c.if-s-d.false, c.requires.0)
+    (tried_not _ _ _ c.in-Some.is _ c.in-Some-top.is c.if-s-d.false, c.requires.0)

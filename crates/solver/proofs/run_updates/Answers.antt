@@ -21,7 +21,7 @@ pub loop-count-preserved : goal.loop-count-preserved
 loop-count-preserved c = let l = spread c.loop-count.s in
     let e = solved_by l _ _ _ c.matrix_of-m.ensures c.right_of-jtr.ensures c.solve_4x4.ensures in
     let big = sym c.is_small.ensures ∙ c.if-is_small.false in
-    let s = step_to _ _ _ _ _ _ _ _ c.in-Values.is c.cut-c2.ensures c.cut-c3.ensures _ big c.moved-p.ensures in (
+    let s = step_to _ _ _ _ _ c.in-Some.is c.cut-c2.ensures c.cut-c3.ensures _ big c.moved-p.ensures in (
       search rules,
       search rules,
       c.pass-s-in-loop-count.ensures,
@@ -42,5 +42,5 @@ pub returns-then-is_small : goal.returns-then-is_small
 returns-then-is_small c = let l = spread c.loop-count.s in
     let e = solved_by l _ _ _ c.matrix_of-m.ensures c.right_of-jtr.ensures c.solve_4x4.ensures in
     let little = sym c.is_small.ensures ∙ c.if-is_small.true in
-    let s = step_stay _ _ _ _ _ _ _ _ c.in-Values.is c.cut-c2.ensures c.cut-c3.ensures little in
+    let s = step_stay _ _ _ _ _ c.in-Some.is c.cut-c2.ensures c.cut-c3.ensures little in
     stopped_at _ l _ _ _ _ c.matrix_of-m.ensures refl (run_stay _ _ _ _ _ _ l _ c.loop-count.invariant.2 e (search rules) s ∙ c.loop-count.invariant.3)

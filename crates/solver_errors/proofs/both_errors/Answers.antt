@@ -11,4 +11,4 @@ returns-in_default c =
 
 pub returns : goal.returns
 returns c = rw (c.axis_error-error1.ensures, c.axis_error-error2.ensures, c.standing_by-standing.ensures)
-    (ap (estimate_by _ _) (sym c.in-Both.is ∙ c.eliminate-sides.ensures) ∙ sym (estimate_by_lem _ _ _ _))
+    (ap (estimate_by _ _) (sym c.in-Some.is ∙ c.eliminate-sides.ensures) ∙ sym (estimate_by_lem _ _ _ _))
