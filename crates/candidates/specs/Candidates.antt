@@ -1,5 +1,5 @@
 -- Candidate angles and the pool of pairs: disk_sector/candidates.rs. Definitions only.
-use Rattle.std.specs.Prelude.{Bool, true, false, cond, ◌||◌, ◌&&◌, List, [], ◌∷◌, ℕ, ◌+◌, ◌-◌, ◌*◌, ◌/◌, get_or, set, replicate, eqb, leb, ltb, Float}
+use Rattle.std.specs.Prelude.{Bool, true, false, cond, ◌||◌, ◌&&◌, List, [], ◌∷◌, ℕ, ◌+◌, ◌-◌, ◌*◌, ◌/◌, get_or, set, replicate, eqb, leb, ltb, Float, Option, Some, None}
 use Rattle.std.specs.Float.{inf}
 use Rattle.std.specs.Float.Ieee.{lt, le}
 use Rattle.floats.specs.Ops.{◌⊕◌, ◌⊗◌, ◌⊘◌, lit, nought, one, pi}
@@ -9,10 +9,6 @@ use Rattle.data.specs.Data.{DiskData}
 use Rattle.geometry.specs.Geometry.{wrap_pi, line_delta, valid_pair}
 use Rattle.loops.specs.Loops.{iter, range, tab}
 use Rattle.candidates.specs.declared.CandidateSet.{CandidateSet}
-use Rattle.candidates.specs.declared.Closest.{Closest}
-use Rattle.candidates.specs.declared.Closest.TheVariants.{At, Nobody}
-use Rattle.candidates.specs.declared.Forced.{Forced}
-use Rattle.candidates.specs.declared.Forced.TheVariants.{Pair, Nothing}
 use Rattle.candidates.specs.declared.Nearby.{Nearby}
 use Rattle.candidates.specs.declared.Tops.{Tops}
 use Rattle.candidates.specs.declared.PairScore.{PairScore}
@@ -78,14 +74,16 @@ smoothed hist = tab (smooth_at hist) hist_bins
 unfoldable pub greatest : Row → Float
 greatest smooth = iter (λ i max_v. max max_v (at smooth i)) nought hist_bins
 
--- the greatest unused bin, found upwards by strict >; histBins stands for none
-unfoldable pub better_bin : Row → List Bool → ℕ → ℕ → ℕ
-better_bin smooth used i best =
-    cond (get_or used i false) best
-    (cond (leb hist_bins best) i (cond (lt (at smooth best) (at smooth i)) i best))
+-- the greatest unused bin, found upwards by strict >
+unfoldable pub greater_bin : Row → ℕ → Option ℕ → Option ℕ
+greater_bin smooth i None = Some i
+greater_bin smooth i (Some b) = cond (lt (at smooth b) (at smooth i)) (Some i) (Some b)
 
-unfoldable pub best_bin : Row → List Bool → ℕ
-best_bin smooth used = iter (better_bin smooth used) hist_bins hist_bins
+unfoldable pub better_bin : Row → List Bool → ℕ → Option ℕ → Option ℕ
+better_bin smooth used i best = cond (get_or used i false) best (greater_bin smooth i best)
+
+unfoldable pub best_bin : Row → List Bool → Option ℕ
+best_bin smooth used = iter (better_bin smooth used) None hist_bins
 
 -- the picks so far, and whether the loop was left
 pub record Picking : Type 0 where
@@ -97,9 +95,9 @@ pub record Picking : Type 0 where
 unfoldable pub bin_angle : ℕ → Float
 bin_angle best_i = (count best_i ⊕ lit 0x3f00_0000) ⊗ pi ⊘ count hist_bins
 
--- no bin is left, or its value is below 0.12 of the maximum
+-- its value is below 0.12 of the maximum
 unfoldable pub too_low : Row → Float → ℕ → Bool
-too_low smooth max_v best_i = leb hist_bins best_i || lt (at smooth best_i) (max_v ⊗ lit 0x3df5_c28f)
+too_low smooth max_v best_i = lt (at smooth best_i) (max_v ⊗ lit 0x3df5_c28f)
 
 -- 4 and 1 degrees
 abbrev pub degrees4 : Float
@@ -114,10 +112,13 @@ picked best_i s = record { used = set s.used best_i true; found = push_unique s.
 unfoldable pub picking_over : Picking → Picking
 picking_over s = record { used = s.used; found = s.found; over = true }
 
+-- no bin is left, or it is too low
+unfoldable pub pick_bin : Row → Float → Option ℕ → Picking → Picking
+pick_bin smooth max_v None s = picking_over s
+pick_bin smooth max_v (Some best_i) s = cond (too_low smooth max_v best_i) (picking_over s) (picked best_i s)
+
 unfoldable pub pick : Row → Float → ℕ → Picking → Picking
-pick smooth max_v k s =
-    let best_i = best_bin smooth s.used in
-    cond s.over s (cond (too_low smooth max_v best_i) (picking_over s) (picked best_i s))
+pick smooth max_v k s = cond s.over s (pick_bin smooth max_v (best_bin smooth s.used) s)
 
 abbrev pub unpicked : Picking
 unpicked = record { used = replicate hist_bins false; found = new_set; over = false }
@@ -171,22 +172,25 @@ nearer angles target_w c best = nearer_of c (line_delta (at angles c) target_w) 
 unfoldable pub nearest : Row → Float → ℕ → Nearby
 nearest angles target_w n = iter (nearer angles target_w) (record { best_i = 0; best_d = inf false }) n
 
-unfoldable pub closest_candidate : CandidateSet → Float → Closest
+unfoldable pub closest_candidate : CandidateSet → Float → Option ℕ
 closest_candidate candidates target =
-    cond (eqb candidates.n 0) Nobody (At (nearest candidates.angles (wrap_pi target) candidates.n).best_i)
+    cond (eqb candidates.n 0) None (Some (nearest candidates.angles (wrap_pi target) candidates.n).best_i)
 
--- ---- forced_seed_pair
+-- ---- forced_seed_pair: the candidates of a pair that is kept whatever its score, or none
+abbrev pub Forced : Type 0
+Forced = Option (ℕ × ℕ)
+
 unfoldable pub ordered : ℕ → ℕ → Forced
-ordered i j = cond (eqb i j) Nothing (cond (ltb i j) (Pair i j) (Pair j i))
+ordered i j = cond (eqb i j) None (cond (ltb i j) (Some (i, j)) (Some (j, i)))
 
-unfoldable pub both_closest : Closest → Closest → Forced
-both_closest Nobody c = Nothing
-both_closest (At i) Nobody = Nothing
-both_closest (At i) (At j) = ordered i j
+unfoldable pub both_closest : Option ℕ → Option ℕ → Forced
+both_closest None c = None
+both_closest (Some i) None = None
+both_closest (Some i) (Some j) = ordered i j
 
 unfoldable pub forced_seed_pair : CandidateSet → Float → Float → Forced
 forced_seed_pair candidates base0 base1 =
-    cond (ltb candidates.n 2) Nothing (both_closest (closest_candidate candidates base0) (closest_candidate candidates base1))
+    cond (ltb candidates.n 2) None (both_closest (closest_candidate candidates base0) (closest_candidate candidates base1))
 
 -- ---- forced_histogram_pair: the two greatest edge sums
 unfoldable pub first_tops : Row → Tops
@@ -203,12 +207,12 @@ tops_of edge_align n = range (raised_tops edge_align) (first_tops edge_align) 2 
 unfoldable pub forced_histogram_pair : CandidateSet → Row → Forced
 forced_histogram_pair candidates edge_align =
     let t = tops_of edge_align candidates.n in
-    cond (ltb candidates.n 2) Nothing (ordered t.top0 t.top1)
+    cond (ltb candidates.n 2) None (ordered t.top0 t.top1)
 
 -- ---- matches_pair
 unfoldable pub matches_pair : Forced → ℕ → ℕ → Bool
-matches_pair Nothing i j = false
-matches_pair (Pair fi fj) i j = eqb fi i && eqb fj j
+matches_pair None i j = false
+matches_pair (Some f) i j = eqb f.0 i && eqb f.1 j
 
 -- ---- combine_edge_pair; 0x3089_705f is 1e-9
 unfoldable pub combine_edge_pair : Float → Float → Float → Float

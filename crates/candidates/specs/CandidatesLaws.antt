@@ -1,11 +1,12 @@
 -- How many candidates and pairs there can be, and what an early exit leaves. Assumes nothing.
-use Rattle.std.specs.Prelude.{◌≡◌, refl, Bool, cond, ◌||◌, List, ℕ, zero, suc, ◌+◌, ◌-◌, ◌≤◌, ◌<◌, set, replicate, leb, Float}
+use Rattle.std.specs.Prelude.{◌≡◌, refl, Bool, cond, List, ◌∷◌, ℕ, zero, suc, ◌+◌, ◌-◌, ◌≤◌, ◌<◌, length, drop, get_or, set, replicate, leb, Float, Option}
+use Rattle.std.specs.Prelude.{Some, None}
 use Rattle.std.proofs.Math.Path.{sym}
-use Rattle.std.proofs.Common.{ap, leb-false}
+use Rattle.std.proofs.Common.{ap, ◌∙◌, length-drop, get_or-drop, drop-drop}
 use Rattle.std.proofs.Math.Bool.{true, false}
 use native.Mathlib.Omega.{arith}
-use Rattle.std.specs.Float.Ieee.{lt, le}
-use Rattle.floats.specs.Ops.{◌⊗◌, lit, nought}
+use Rattle.std.specs.Float.Ieee.{nan, lt, le}
+use Rattle.floats.specs.Ops.{nought}
 use Rattle.floats.specs.Rows.{Row, at}
 use Rattle.floats.specs.Library.{hist_bins}
 use Rattle.data.specs.Data.{DiskData}
@@ -15,7 +16,7 @@ use Rattle.loops.proofs.IterLaws.{iter_zero, iter_next, iter_stuck}
 use Rattle.candidates.specs.declared.CandidateSet.{CandidateSet}
 use Rattle.candidates.specs.declared.Nearby.{Nearby}
 use Rattle.candidates.specs.Candidates.{max_candidates, max_paired, max_pairs, near_at, is_near, appended, push_unique}
-use Rattle.candidates.specs.Candidates.{Picking, best_bin, bin_angle, too_low, degrees4, picked, picking_over, pick, unpicked, max_picks, peaks}
+use Rattle.candidates.specs.Candidates.{Picking, best_bin, pick_bin, bin_angle, too_low, degrees4, picked, picking_over, pick, unpicked, max_picks, peaks}
 use Rattle.candidates.specs.Candidates.{histogram, smoothed, greatest, histogram_peaks, offset, around, gridded, coarse}
 use Rattle.candidates.specs.Candidates.{gradient_candidates, histogram_candidates, nearer_of}
 
@@ -32,25 +33,20 @@ module _ (angles : Row) (a min_sep : Float) (i : ℕ) (e : is_near angles i a mi
       let z : n ≡ (i + 1) + (n - (i + 1)) = omega arith in
       rw (z, iter_stuck (near_at angles a min_sep) false true (i + 1) (n - (i + 1)) (λ _. refl) next)
 
--- ---- the picks: a bin that is high enough is one of the bins, and is taken; one that is too low ends the picking with what was found
-pub high_bin : (smooth : Row) (max_v : Float) (b : ℕ) → too_low smooth max_v b ≡ false → b < hist_bins
-unfolding too_low
-high_bin smooth max_v b e = leb-false hist_bins b (first (leb hist_bins b) (lt (at smooth b) (max_v ⊗ lit 0x3df5_c28f)) e)
-  where
-    first : (x y : Bool) → (x || y) ≡ false → x ≡ false
-    first true y e = e
-    first false y e = refl
-
+-- ---- the picks: a bin that is high enough is taken; where none is left or it is too low, the picking ends with what was found
 module _ (smooth : Row) (max_v : Float) (used : List Bool) (found : CandidateSet) (k : ℕ)
     (e : ◌≡◌ {A = Picking} (record { used = used; found = found; over = false }) (iter (pick smooth max_v) unpicked k)) where
   pub picks_next :
       (b : ℕ) (a d : Float) (s : CandidateSet) →
-      b ≡ best_bin smooth used → too_low smooth max_v b ≡ false → a ≡ bin_angle b → d ≡ degrees4 → s ≡ push_unique found a d →
+      Some b ≡ best_bin smooth used → too_low smooth max_v b ≡ false → a ≡ bin_angle b → d ≡ degrees4 → s ≡ push_unique found a d →
       ◌≡◌ {A = Picking} (record { used = set used b true; found = s; over = false }) (iter (pick smooth max_v) unpicked (k + 1))
-  unfolding pick picked
+  unfolding pick pick_bin picked
   picks_next b a d s eb et ea ed es = rw (iter_next, ← e, ← eb, et, es, ea, ed)
 
-  pub picks_end : k < max_picks → too_low smooth max_v (best_bin smooth used) ≡ true → found ≡ peaks smooth max_v
+  abbrev pub now : Picking
+  now = record { used = used; found = found; over = false }
+
+  pub picks_end : k < max_picks → pick_bin smooth max_v (best_bin smooth used) now ≡ picking_over now → found ≡ peaks smooth max_v
   unfolding peaks pick picking_over
   picks_end h t =
       let out : Picking = record { used = used; found = found; over = true } in
@@ -59,6 +55,14 @@ module _ (smooth : Row) (max_v : Float) (used : List Bool) (found : CandidateSet
       let all : iter (pick smooth max_v) unpicked max_picks ≡ out =
       rw z (iter_stuck (pick smooth max_v) unpicked out (k + 1) (max_picks - (k + 1)) (λ _. refl) next) in
       sym (ap (λ (p : Picking). p.found) all)
+
+  pub picks_none : k < max_picks → best_bin smooth used ≡ None → found ≡ peaks smooth max_v
+  unfolding pick_bin
+  picks_none h t = picks_end h (rw t)
+
+  pub picks_low : (b : ℕ) → k < max_picks → best_bin smooth used ≡ Some b → too_low smooth max_v b ≡ true → found ≡ peaks smooth max_v
+  unfolding pick_bin
+  picks_low b h t low = picks_end h (rw (t, low))
 
 -- ---- the nearest place stays within the set
 pub nearer_place : (c : ℕ) (d : Float) (s : Nearby) (n : ℕ) → c ≤ n → s.best_i ≤ n → (nearer_of c d s).best_i ≤ n
@@ -87,17 +91,21 @@ turns_most f s zero h = omega arith
 turns_most f s (suc n) h = let a = h n (iter f s n) in let b = turns_most f s n h in omega arith
 
 picks_most : (smooth : Row) (max_v : Float) (n : ℕ) → (iter (pick smooth max_v) unpicked n).found.n ≤ n
-unfolding iter pick picked picking_over
+unfolding iter pick pick_bin picked picking_over
 picks_most smooth max_v zero = omega arith
 picks_most smooth max_v (suc n) = go (iter (pick smooth max_v) unpicked n) (picks_most smooth max_v n)
   where
     go : (s : Picking) → s.found.n ≤ n → (pick smooth max_v n s).found.n ≤ suc n
-    go s h = by s.over (too_low smooth max_v (best_bin smooth s.used))
+    go s h = by s.over (best_bin smooth s.used)
       where
-        by : (a b : Bool) → (cond a s (cond b (picking_over s) (picked (best_bin smooth s.used) s))).found.n ≤ suc n
+        bin : (b : ℕ) (a : Bool) → (cond a (picking_over s) (picked b s)).found.n ≤ suc n
+        bin b true = omega arith
+        bin b false = let p = push_most s.found (bin_angle b) degrees4 in omega arith
+
+        by : (a : Bool) (b : Option ℕ) → (cond a s (pick_bin smooth max_v b s)).found.n ≤ suc n
         by true b = omega arith
-        by false true = omega arith
-        by false false = let p = push_most s.found (bin_angle (best_bin smooth s.used)) degrees4 in omega arith
+        by false None = omega arith
+        by false (Some b) = bin b (too_low smooth max_v b)
 
 peaks_most : (smooth : Row) → (histogram_peaks smooth).n ≤ max_picks
 unfolding histogram_peaks peaks
@@ -165,3 +173,13 @@ rows_most n i h l =
 -- those before row i and those of row i are no more than there are places
 pub row_room : (n i : ℕ) → n ≤ max_paired → i < n → rows_before n i + (n - 1 - i) ≤ max_pairs
 row_room n i h l = let a = rows_most n (i + 1) h (omega arith) in let b = rows_next n i in omega arith
+
+-- ---- what an iterator has left of a list after k items: the next item is the list's own at k
+pub left_first : (l r : Row) (k : ℕ) (x : Float) → x ∷ r ≡ drop k l → (x ≡ at l k) × (r ≡ drop (k + 1) l) × (k < length l)
+left_first l r k x e =
+    let z : k + 0 ≡ k = omega arith in
+    let n : suc (length r) ≡ length l - k = ap length e ∙ length-drop k l in
+    (rw z at (ap (λ (s : Row). get_or s 0 nan) e ∙ get_or-drop k l 0 nan), ap (drop 1) e ∙ drop-drop 1 k l, omega arith)
+
+pub left_none : (l r : Row) (k : ℕ) → r ≡ drop k l → length r ≡ 0 → length l ≤ k
+left_none l r k e z = let n : length r ≡ length l - k = ap length e ∙ length-drop k l in omega arith

@@ -1,7 +1,7 @@
 // Candidate angles and the pool of pairs: disk_sector/candidates.rs.
 #![tactic(auto)]
 
-ghost use Rattle.std.specs.Prelude.{◌≡◌, false, ◌+◌, ◌≤◌, ◌<◌, length, replicate};
+ghost use Rattle.std.specs.Prelude.{◌≡◌, false, ◌+◌, ◌≤◌, ◌<◌, length, replicate, IfSome};
 ghost use Rattle.floats.specs.Library.{hist_bins};
 ghost use Rattle.candidates.specs.Candidates as C;
 
@@ -23,25 +23,15 @@ const OFF_DEGS: [f32; 5] = [-8.0, -4.0, 0.0, 4.0, 8.0];
 const GRID_DEG: usize = 30;
 
 // Candidate line angles: their number and their places.
+// That n is at most 64 is asked and no ghost field: each definition that builds a set would carry the proof (tried: "missing field").
 #[derive(Clone, Copy)]
 pub struct CandidateSet {
     pub n: usize,
     pub angles: [f32; MAX_CANDIDATES],
 }
 
-// The place of a candidate, or none in an empty set.
-#[derive(Drop)]
-pub enum Closest {
-    At(usize),
-    Nobody,
-}
-
-// A pair that is kept whatever its score, or none.
-#[derive(Clone, Copy)]
-pub enum Forced {
-    Pair(usize, usize),
-    Nothing,
-}
+// A pair of candidates that is kept whatever its score, or none.
+pub type Forced = Option<(usize, usize)>;
 
 // The places of the two greatest edge sums.
 #[derive(Drop)]
@@ -50,7 +40,7 @@ pub struct Tops {
     pub top1: usize,
 }
 
-#[derive(Clone, Copy)]
+#[derive(Clone, Copy, Default)]
 pub struct PairScore {
     pub i: u16,
     pub j: u16,
@@ -59,6 +49,7 @@ pub struct PairScore {
 }
 
 // The allowed pairs in the order in which they are found: n of the places for all pairs.
+// That n is at most MAX_PAIRS is asked and no ghost field, for the reason of CandidateSet's n.
 #[derive(Drop)]
 pub struct Pool {
     pub n: usize,
@@ -80,9 +71,8 @@ impl CandidateSet {
         requires { self.n ≤ C.max_candidates }
         ensures { result ≡ C.is_near self.angles self.n a min_sep }
     {
-        let n = self.n;
-        for i in 0..n {
-            if geometry::line_delta(a, self.angles[i]) <= min_sep {
+        for kept in &self.angles[..self.n] {
+            if geometry::line_delta(a, *kept) <= min_sep {
                 return true;
             }
         }
@@ -115,14 +105,12 @@ fn histogram(grad_angles: &[f32], grad_weights: &[f32], hist: &mut [f32])
         × (hist.new
         ≡ C.histogram (length grad_angles.now) grad_angles.now grad_weights.now hist.old) }
 {
-    let n = grad_angles.len();
-    for i in 0..n {
-        let weight = grad_weights[i];
-        if weight <= 0.0 {
+    for (angle, weight) in grad_angles.iter().zip(grad_weights) {
+        if *weight <= 0.0 {
             continue;
         }
-        let idx = floats::bin_of(grad_angles[i]);
-        hist[idx] = hist[idx] + weight;
+        let idx = floats::bin_of(*angle);
+        hist[idx] += *weight;
     }
 }
 
@@ -163,30 +151,37 @@ fn greatest(smooth: &[f32]) -> f32
     ensures { result ≡ C.greatest smooth.now }
 {
     let mut max_v = 0.0f32;
-    for i in 0..HIST_BINS {
-        max_v = floats::max(max_v, smooth[i]);
+    for v in smooth {
+        max_v = floats::max(max_v, *v);
     }
     max_v
 }
 
-// The greatest unused bin, the lower on a tie; HIST_BINS where every bin is used.
-fn best_bin(smooth: &[f32], used: &[bool]) -> usize
-    requires { (length smooth.now ≡ hist_bins) × (length used.now ≡ hist_bins) }
-    ensures { (result ≤ hist_bins) × (result ≡ C.best_bin smooth.now used.now) }
+// The greater of an unused bin and the best so far.
+fn better_bin(smooth: &[f32], i: usize, best: Option<usize>) -> Option<usize>
+    requires { (length smooth.now ≡ hist_bins) × (i < hist_bins) × IfSome best (λ b. b < hist_bins) }
+    ensures { IfSome result (λ b. b < hist_bins) × (result ≡ C.greater_bin smooth.now i best) }
 {
-    let mut best = HIST_BINS;
+    let Some(b) = best else {
+        return Some(i);
+    };
+    if smooth[i] > smooth[b] {
+        return Some(i);
+    }
+    best
+}
+
+// The greatest unused bin, the lower on a tie; none where every bin is used.
+fn best_bin(smooth: &[f32], used: &[bool]) -> Option<usize>
+    requires { (length smooth.now ≡ hist_bins) × (length used.now ≡ hist_bins) }
+    ensures { IfSome result (λ b. b < hist_bins) × (result ≡ C.best_bin smooth.now used.now) }
+{
+    let mut best = None;
     for i in 0..HIST_BINS {
         if used[i] {
             continue;
         }
-        if best >= HIST_BINS {
-            best = i;
-            continue;
-        }
-        if smooth[i] > smooth[best] {
-            best = i;
-            continue;
-        }
+        best = better_bin(smooth, i, best);
     }
     best
 }
@@ -198,25 +193,17 @@ fn bin_angle(best_i: usize) -> f32
     (floats::count_f32(best_i) + 0.5) * floats::PI / floats::count_f32(HIST_BINS)
 }
 
-fn is_too_low(smooth: &[f32], max_v: f32, best_i: usize) -> bool
-    requires { length smooth.now ≡ hist_bins }
-    ensures { result ≡ C.too_low smooth.now max_v best_i }
-{
-    if best_i >= HIST_BINS {
-        return true;
-    }
-    smooth[best_i] < max_v * 0.12
-}
-
 // At most MAX_PICKS, until one is below 0.12 of the maximum. A pick that is dropped counts.
 fn peaks(smooth: &[f32], max_v: f32, used: &mut [bool]) -> CandidateSet
     requires { (length smooth.now ≡ hist_bins) × (used.old ≡ replicate hist_bins false) }
     ensures { (result.n ≤ C.max_picks) × (result ≡ C.peaks smooth.now max_v) }
 {
     let mut candidates = CandidateSet::new();
-    for k in 0..MAX_PICKS {
-        let best_i = best_bin(smooth, used);
-        if is_too_low(smooth, max_v, best_i) {
+    for _ in 0..MAX_PICKS {
+        let Some(best_i) = best_bin(smooth, used) else {
+            break;
+        };
+        if smooth[best_i] < max_v * 0.12 {
             break;
         }
         used[best_i] = true;
@@ -243,8 +230,8 @@ fn around(set: CandidateSet, seed: f32) -> CandidateSet
     ensures { (result.n ≤ set.n + 5) × (result ≡ C.around set seed) }
 {
     let mut candidates = set;
-    for k in 0..5usize {
-        let off = floats::to_radians(OFF_DEGS[k]);
+    for off_deg in OFF_DEGS {
+        let off = floats::to_radians(off_deg);
         candidates = candidates.push_unique(seed + off, floats::to_radians(1.0));
     }
     candidates
@@ -319,27 +306,27 @@ fn nearest(candidates: CandidateSet, target_w: f32) -> Nearby
     best
 }
 
-pub fn closest_candidate(candidates: CandidateSet, target: f32) -> Closest
+pub fn closest_candidate(candidates: CandidateSet, target: f32) -> Option<usize>
     requires { candidates.n ≤ C.max_candidates }
     ensures { result ≡ C.closest_candidate candidates target }
 {
     if candidates.n == 0 {
-        return Closest::Nobody;
+        return None;
     }
     let best = nearest(candidates, geometry::wrap_pi(target));
-    Closest::At(best.best_i)
+    Some(best.best_i)
 }
 
 fn ordered(i: usize, j: usize) -> Forced
     ensures { result ≡ C.ordered i j }
 {
     if i == j {
-        return Forced::Nothing;
+        return None;
     }
     if i < j {
-        return Forced::Pair(i, j);
+        return Some((i, j));
     }
-    Forced::Pair(j, i)
+    Some((j, i))
 }
 
 // The pair closest to the seeds.
@@ -348,14 +335,10 @@ pub fn forced_seed_pair(candidates: CandidateSet, base0: f32, base1: f32) -> For
     ensures { result ≡ C.forced_seed_pair candidates base0 base1 }
 {
     if candidates.n < 2 {
-        return Forced::Nothing;
+        return None;
     }
-    let Closest::At(i) = closest_candidate(candidates, base0) else {
-        return Forced::Nothing;
-    };
-    let Closest::At(j) = closest_candidate(candidates, base1) else {
-        return Forced::Nothing;
-    };
+    let i = closest_candidate(candidates, base0)?;
+    let j = closest_candidate(candidates, base1)?;
     ordered(i, j)
 }
 
@@ -394,7 +377,7 @@ pub fn forced_histogram_pair(candidates: CandidateSet, edge_align: &[f32]) -> Fo
 {
     let n = candidates.n;
     if n < 2 {
-        return Forced::Nothing;
+        return None;
     }
     let mut t = first_tops(edge_align);
     for c in 2..n {
@@ -406,10 +389,7 @@ pub fn forced_histogram_pair(candidates: CandidateSet, edge_align: &[f32]) -> Fo
 pub fn matches_pair(forced: Forced, i: usize, j: usize) -> bool
     ensures { result ≡ C.matches_pair forced i j }
 {
-    let Forced::Pair(fi, fj) = forced else {
-        return false;
-    };
-    fi == i && fj == j
+    forced == Some((i, j))
 }
 
 pub fn combine_edge_pair(s_a: f32, s_b: f32, total: f32) -> f32
@@ -427,12 +407,7 @@ pub fn combine_edge_pair(s_a: f32, s_b: f32, total: f32) -> f32
 fn no_pairs() -> Pool
     ensures { result ≡ C.no_pairs }
 {
-    let p = PairScore {
-        i: 0,
-        j: 0,
-        edge_score: 0.0,
-        forced: false,
-    };
+    let p = PairScore::default();
     let pairs = [p; MAX_PAIRS];
     Pool { n: 0, pairs }
 }

@@ -36,21 +36,6 @@ abbrev pub lent_disk : Float → InSlice → InSlice → InSlice → InSlice →
 lent_disk val_energy xs ys vals_centered grad_angles grad_weights =
     disk_of val_energy xs.entry.now ys.entry.now vals_centered.entry.now grad_angles.entry.now grad_weights.entry.now
 
--- what a function that is handed some slices of a disk says: P, of every disk that has them
-abbrev pub OfPixels : Float → InSlice → InSlice → InSlice → (DiskData → Type 0) → Type 0
-OfPixels val_energy xs ys vals_centered P =
-    (angles weights : Row) → P (disk_of val_energy xs.entry.now ys.entry.now vals_centered.entry.now angles weights)
-
-abbrev pub OfValues : Float → InSlice → (DiskData → Type 0) → Type 0
-OfValues val_energy vals_centered P =
-    let vals = vals_centered.entry.now in
-    (xs ys angles weights : Row) → length xs ≡ length vals → P (disk_of val_energy xs ys vals angles weights)
-
-abbrev pub OfGradients : InSlice → InSlice → (DiskData → Type 0) → Type 0
-OfGradients grad_angles grad_weights P =
-    let angles = grad_angles.entry.now in
-    (val_energy : Float) (xs ys vals : Row) → length xs ≡ length angles → P (disk_of val_energy xs ys vals angles grad_weights.entry.now)
-
 -- ---- score.rs: MAX_TANH_PIXELS, the most pixels of a disk whose rows are kept
 abbrev pub max_tanh_pixels : ℕ
 max_tanh_pixels = 320

@@ -1,2 +1,3 @@
 pub mod Data
+pub mod Disk
 pub mod RowLaws

@@ -1,5 +1,5 @@
 -- The score of a pair of axes, the order of fits and the errors of a fit: disk_sector/score.rs. Definitions only.
-use Rattle.std.specs.Prelude.{Bool, true, false, cond, [], ◌∷◌, ℕ, pos, set, Float}
+use Rattle.std.specs.Prelude.{Bool, true, false, cond, [], ◌∷◌, ℕ, pos, set, Float, Option, Some, None}
 use Rattle.std.specs.Float.{binary32, binary64}
 use Rattle.std.specs.Float.Ieee.{neg, lt, le, of_int}
 use Rattle.floats.specs.Ops.{◌⊕◌, ◌⊖◌, ◌⊗◌, ◌⊘◌, ◌⊞◌, ◌⊟◌, ◌⊠◌, ◌⧄◌, lit, nought, one}
@@ -19,8 +19,6 @@ use Rattle.candidates.specs.declared.CandidateSet.{CandidateSet}
 use Rattle.score_edges.specs.Edges.{edge_weight_total, ranked_sum}
 use Rattle.loops.specs.Loops.{iter, tab}
 use Rattle.score.specs.declared.Fit.{Fit}
-use Rattle.score.specs.declared.Scored.{Scored}
-use Rattle.score.specs.declared.Scored.TheVariants.{Found, Nothing}
 use Rattle.score.specs.declared.Sums.{Sums}
 use Rattle.score.specs.declared.Slopes.{Slopes}
 use Rattle.score.specs.declared.Moments.{Moments}
@@ -73,19 +71,19 @@ fit_of val_energy n_inv dot denom theta0 theta1 width edge_score =
       objective = rel_rms ⊖ lit 0x3fa0_0000 ⊗ edge_score;
     }
 
-unfoldable pub scored_sums : Float → Float → Sums → Float → Float → Float → Float → Scored
+unfoldable pub scored_sums : Float → Float → Sums → Float → Float → Float → Float → Option Fit
 scored_sums val_energy n_inv s theta0 theta1 width edge_score =
     let denom = s.q2 ⊖ s.q ⊗ s.q ⊗ n_inv in
-    cond (le denom margin) Nothing (Found (fit_of val_energy n_inv s.dot denom theta0 theta1 width edge_score))
+    cond (le denom margin) None (Some (fit_of val_energy n_inv s.dot denom theta0 theta1 width edge_score))
 
 -- a pair that is not allowed, and a disk without energy, answer nothing
-unfoldable pub score_pair_cached : DiskData → Float → Float → Float → Float → Row → Row → Scored
+unfoldable pub score_pair_cached : DiskData → Float → Float → Float → Float → Row → Row → Option Fit
 score_pair_cached D theta0 theta1 width edge_score h0 h1 =
     let n_inv = one ⊘ count D.n in
     cond (valid_pair theta0 theta1)
-    (cond (le D.val_energy margin) Nothing
+    (cond (le D.val_energy margin) None
     (scored_sums D.val_energy n_inv (cached_sums D.n D.vals_centered h0 h1) theta0 theta1 width edge_score))
-    Nothing
+    None
 
 -- ---- precompute_edge_alignments: what is returned, and what stands in `out` then
 pub record Alignments : Type 0 where

@@ -1,7 +1,7 @@
 -- Every scored pair's axes lie in their ranges and its amplitude is NaN or not below zero, since both are canonical; its width is the
 -- one given; both errors of a fit lie from 0 to PI, as those of every matrix do. The candidates' edge sums are stored one by one, unless
 -- the weights' total is at most 1e-9. Assumes nothing.
-use Rattle.std.specs.Prelude.{◌≡◌, refl, Bool, true, false, cond, ℕ, T}
+use Rattle.std.specs.Prelude.{◌≡◌, refl, Bool, true, false, cond, ℕ, T, Option, Some, None}
 use Rattle.std.proofs.Common.{sym}
 use Rattle.std.proofs.Math.Path.{subst}
 use Rattle.std.specs.Float.Ieee.{Float, binary32, le, fits}
@@ -20,16 +20,14 @@ use Rattle.candidates.specs.declared.CandidateSet.{CandidateSet}
 use Rattle.score_edges.specs.Edges.{edge_weight_total, ranked_sum}
 use Rattle.loops.proofs.TabLaws.{Stores}
 use Rattle.score.specs.declared.Fit.{Fit}
-use Rattle.score.specs.declared.Scored.{Scored}
-use Rattle.score.specs.declared.Scored.TheVariants.{Found, Nothing}
 use Rattle.score.specs.declared.Sums.{Sums}
 use Rattle.score.specs.Score as S
 use Rattle.score.specs.Score.{margin, fit_of, cached_sums, scored_sums, score_pair_cached, Alignments, precompute_edge_alignments, fit_std_errors, error_sum}
 
 -- ---- what every fit has that a pair's score can answer: P of every fit made of the two axes at the width
-abbrev Every : (Fit → Type 0) → Scored → Type 0
-Every P Nothing = T true
-Every P (Found f) = P f
+abbrev Every : (Fit → Type 0) → Option Fit → Type 0
+Every P None = T true
+Every P (Some f) = P f
 
 module _ (P : Fit → Type 0) (theta0 theta1 width edge_score : Float) where
   sums_every :
@@ -41,21 +39,21 @@ module _ (P : Fit → Type 0) (theta0 theta1 width edge_score : Float) where
       denom : Float
       denom = s.q2 ⊖ s.q ⊗ s.q ⊗ n_inv
 
-      go : (b : Bool) → Every P (cond b Nothing (Found (fit_of val_energy n_inv s.dot denom theta0 theta1 width edge_score)))
+      go : (b : Bool) → Every P (cond b None (Some (fit_of val_energy n_inv s.dot denom theta0 theta1 width edge_score)))
       go true = tt
       go false = h val_energy n_inv s.dot denom
 
   scored_every :
       ((val_energy n_inv dot denom : Float) → P (fit_of val_energy n_inv dot denom theta0 theta1 width edge_score)) →
-      (D : DiskData) (h0 h1 : Row) (f : Fit) → score_pair_cached D theta0 theta1 width edge_score h0 h1 ≡ Found f → P f
+      (D : DiskData) (h0 h1 : Row) (f : Fit) → score_pair_cached D theta0 theta1 width edge_score h0 h1 ≡ Some f → P f
   unfolding score_pair_cached
   scored_every h D h0 h1 f e = subst (Every P) e (go (valid_pair theta0 theta1) (le D.val_energy margin))
     where
-      made : Scored
+      made : Option Fit
       made =
           scored_sums D.val_energy (one ⊘ count D.n) (cached_sums D.n D.vals_centered h0 h1) theta0 theta1 width edge_score
 
-      go : (b d : Bool) → Every P (cond b (cond d Nothing made) Nothing)
+      go : (b d : Bool) → Every P (cond b (cond d None made) None)
       go false d = tt
       go true true = tt
       go true false = sums_every h D.val_energy (one ⊘ count D.n) (cached_sums D.n D.vals_centered h0 h1)
@@ -67,14 +65,14 @@ SoundFit f = CanonicalRange f.theta1 f.theta2 f.amp
 -- where theta0 and theta1 are values that an f32 holds
 module _ (D : DiskData) (theta0 theta1 width edge_score : Float) (h0 h1 : Row) (f : Fit) where
   pub scored_sound :
-      T (fits binary32 theta0) → T (fits binary32 theta1) → score_pair_cached D theta0 theta1 width edge_score h0 h1 ≡ Found f → SoundFit f
+      T (fits binary32 theta0) → T (fits binary32 theta1) → score_pair_cached D theta0 theta1 width edge_score h0 h1 ≡ Some f → SoundFit f
   unfolding fit_of
   scored_sound p q =
       scored_every SoundFit theta0 theta1 width edge_score
       (λ val_energy n_inv dot denom. canonical_range theta0 theta1 (dot ⊘ denom) p q (div-fits binary32 dot denom)) D h0 h1 f
 
   -- a scored fit has the width that was given
-  pub scored_width : score_pair_cached D theta0 theta1 width edge_score h0 h1 ≡ Found f → f.width ≡ width
+  pub scored_width : score_pair_cached D theta0 theta1 width edge_score h0 h1 ≡ Some f → f.width ≡ width
   unfolding fit_of
   scored_width = scored_every (λ g. g.width ≡ width) theta0 theta1 width edge_score (λ val_energy n_inv dot denom. refl) D h0 h1 f
 

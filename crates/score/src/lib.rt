@@ -1,13 +1,16 @@
 // The score of a pair of axes, the order of fits and the errors of a fit: disk_sector/score.rs.
 #![tactic(auto)]
 
-ghost use Rattle.std.specs.Prelude.{◌≡◌, ◌≤◌, Float, length};
-ghost use Rattle.data.specs.Data.{OfPixels, OfValues, OfGradients, max_tanh_pixels};
+ghost use Rattle.std.specs.Prelude.{◌≡◌, ◌≤◌, length};
+ghost use Rattle.data.specs.Data.{max_tanh_pixels};
+ghost use Rattle.data.specs.Disk.{the_disk};
 ghost use Rattle.candidates.specs.Candidates.{max_candidates};
 ghost use Rattle.score.specs.Score as S;
 
 use candidates::CandidateSet;
+use data::Disk;
 use elementary::SinCos;
+use score_edges::Ranking;
 use solver_errors::Estimate;
 
 pub const WIDTHS_PX: [f32; 4] = [0.35, 0.70, 1.40, 2.80];
@@ -26,15 +29,17 @@ pub struct Fit {
     pub objective: f32,
 }
 
-// A scored pair, or nothing.
+// A pair of axes that is to be scored at one width, and how well the gradients agree with it.
 #[derive(Clone, Copy)]
-pub enum Scored {
-    Found(Fit),
-    Nothing,
+pub struct Trial {
+    pub theta0: f32,
+    pub theta1: f32,
+    pub width: f32,
+    pub edge_score: f32,
 }
 
 // The sums of a pair: of q, of its square, and of its product with the centred values.
-#[derive(Drop)]
+#[derive(Drop, Default)]
 pub struct Sums {
     pub q: f32,
     pub q2: f32,
@@ -51,7 +56,7 @@ pub struct Slopes {
 }
 
 // The sums over the pixels that the errors are made of.
-#[derive(Clone, Copy)]
+#[derive(Clone, Copy, Default)]
 pub struct Moments {
     pub sq: f64,
     pub sqq: f64,
@@ -70,12 +75,9 @@ pub fn axis_row(xs: &[f32], ys: &[f32], theta: f32, width: f32, row: &mut [f32])
     requires { (length ys.now ≡ length xs.now) × (length row.old ≡ length xs.now) }
     ensures { row.new ≡ S.axis_row (length xs.now) xs.now ys.now theta width }
 {
-    let n = xs.len();
     let t = elementary::sin_cos(theta);
-    let s = t.s;
-    let c = t.c;
-    for p in 0..n {
-        row[p] = elementary::tanh((-s * xs[p] + c * ys[p]) / width);
+    for p in 0..xs.len() {
+        row[p] = elementary::tanh((-t.s * xs[p] + t.c * ys[p]) / width);
     }
 }
 
@@ -84,13 +86,8 @@ fn cached_sums(vals_centered: &[f32], h0: &[f32], h1: &[f32]) -> Sums
     ensures { result
         ≡ S.cached_sums (length vals_centered.now) vals_centered.now h0.now h1.now }
 {
-    let n = vals_centered.len();
-    let mut s = Sums {
-        q: 0.0,
-        q2: 0.0,
-        dot: 0.0,
-    };
-    for p in 0..n {
+    let mut s = Sums::default();
+    for p in 0..vals_centered.len() {
         let q = h0[p] * h1[p];
         s.q += q;
         s.q2 += q * q;
@@ -101,105 +98,77 @@ fn cached_sums(vals_centered: &[f32], h0: &[f32], h1: &[f32]) -> Sums
 
 // At the least-squares optimum the residual is the energy less dot * dot / denom; rounding can push
 // it below 0.
-fn fit_of(
-    val_energy: f32,
-    n_inv: f32,
-    dot: f32,
-    denom: f32,
-    theta0: f32,
-    theta1: f32,
-    width: f32,
-    edge_score: f32,
-) -> Fit
-    ensures { result ≡ S.fit_of val_energy n_inv dot denom theta0 theta1 width edge_score }
+fn fit_of(val_energy: f32, n_inv: f32, dot: f32, denom: f32, t: Trial) -> Fit
+    ensures { result ≡ S.fit_of val_energy n_inv dot denom t.theta0 t.theta1 t.width t.edge_score }
 {
     let amp = dot / denom;
     let ssr = floats::max(val_energy - dot * dot / denom, 0.0);
     let rms = roots::sqrt(ssr * n_inv);
     let corr = floats::abs(dot) / roots::sqrt(denom * val_energy);
     let rel_rms = rms / floats::max(floats::abs(amp), 1.0);
-    let a = solver_axes::canonicalize_tracking_swap(theta0, theta1, amp);
+    let a = solver_axes::canonicalize_tracking_swap(t.theta0, t.theta1, amp);
     Fit {
         theta1: a.theta1,
         theta2: a.theta2,
-        width,
+        width: t.width,
         amp: a.amp,
         rms,
         rel_rms,
         corr,
-        edge_score,
-        objective: rel_rms - 1.25 * edge_score,
+        edge_score: t.edge_score,
+        objective: rel_rms - 1.25 * t.edge_score,
     }
 }
 
-fn scored_sums(
-    val_energy: f32,
-    n_inv: f32,
-    s: Sums,
-    theta0: f32,
-    theta1: f32,
-    width: f32,
-    edge_score: f32,
-) -> Scored
-    ensures { result ≡ S.scored_sums val_energy n_inv s theta0 theta1 width edge_score }
+fn scored_sums(val_energy: f32, n_inv: f32, s: Sums, t: Trial) -> Option<Fit>
+    ensures { result ≡ S.scored_sums val_energy n_inv s t.theta0 t.theta1 t.width t.edge_score }
 {
     let denom = s.q2 - s.q * s.q * n_inv;
     if denom <= 1e-9 {
-        return Scored::Nothing;
+        return None;
     }
-    Scored::Found(fit_of(
-        val_energy, n_inv, s.dot, denom, theta0, theta1, width, edge_score,
-    ))
+    Some(fit_of(val_energy, n_inv, s.dot, denom, t))
 }
 
-// The score of two axes from their rows of tanh.
-pub fn score_pair_cached(
-    val_energy: f32,
-    vals_centered: &[f32],
-    theta0: f32,
-    theta1: f32,
-    width: f32,
-    edge_score: f32,
-    h0: &[f32],
-    h1: &[f32],
-) -> Scored
-    requires { (length h0.now ≡ length vals_centered.now) × (length h1.now ≡ length vals_centered.now)
-        × (length vals_centered.now ≤ max_tanh_pixels) }
-    ensures { OfValues val_energy vals_centered
-        (λ D. result ≡ S.score_pair_cached D theta0 theta1 width edge_score h0.now h1.now) }
+// The score of two axes from their rows of tanh, or none.
+pub fn score_pair_cached(d: Disk, t: Trial, h0: &[f32], h1: &[f32]) -> Option<Fit>
+    requires { (length h0.now ≡ length d.xs.now) × (length h1.now ≡ length d.xs.now) }
+    ensures { result ≡ S.score_pair_cached (the_disk d.entry) t.theta0 t.theta1 t.width t.edge_score h0.now h1.now }
 {
-    if !geometry::valid_pair(theta0, theta1) {
-        return Scored::Nothing;
+    if !geometry::valid_pair(t.theta0, t.theta1) {
+        return None;
     }
-    if val_energy <= 1e-9 {
-        return Scored::Nothing;
+    if d.val_energy <= 1e-9 {
+        return None;
     }
-    let s = cached_sums(vals_centered, h0, h1);
-    let n_inv = 1.0 / floats::count_f32(vals_centered.len());
-    scored_sums(val_energy, n_inv, s, theta0, theta1, width, edge_score)
+    let s = cached_sums(d.vals_centered, h0, h1);
+    let n_inv = 1.0 / floats::count_f32(d.xs.len());
+    scored_sums(d.val_energy, n_inv, s, t)
 }
 
 // Step 1 of best_disk_fit: the candidates' edge sums into `out`, and the weights' total; `terms` is
 // lent as scratch.
 pub fn precompute_edge_alignments(
-    grad_angles: &[f32],
-    grad_weights: &[f32],
+    d: Disk,
     candidates: CandidateSet,
     terms: &mut [f32],
     out: &mut [f32],
 ) -> f32
-    requires { (length grad_weights.now ≡ length grad_angles.now) × (length terms.old ≡ length grad_angles.now)
-        × (candidates.n ≤ length out.old) × (length out.old ≤ max_candidates) }
-    ensures { OfGradients grad_angles grad_weights (λ D. ◌≡◌ {A = S.Alignments} (record { total = result; out = out.new })
-        (S.precompute_edge_alignments D candidates out.old)) }
+    requires { (length terms.old ≡ length d.xs.now) × (candidates.n ≤ length out.old) × (length out.old ≤ max_candidates) }
+    ensures { ◌≡◌ {A = S.Alignments} (record { total = result; out = out.new })
+        (S.precompute_edge_alignments (the_disk d.entry) candidates out.old) }
 {
-    let total = score_edges::edge_weight_total(grad_weights);
+    let total = score_edges::edge_weight_total(d.grad_weights);
     if total <= 1e-9 {
         return 0.0;
     }
-    let n = candidates.n;
-    for c in 0..n {
-        out[c] = score_edges::ranked_sum(grad_angles, grad_weights, candidates.angles[c], terms);
+    for c in 0..candidates.n {
+        out[c] = score_edges::edge_sum::<Ranking>(
+            d.grad_angles,
+            d.grad_weights,
+            candidates.angles[c],
+            terms,
+        );
     }
     total
 }
@@ -275,36 +244,15 @@ fn gathered(t: Slopes, m: Moments) -> Moments
     }
 }
 
-fn no_moments() -> Moments
-    ensures { result ≡ S.no_moments }
+fn moments_of(d: Disk, fit: Fit) -> Moments
+    ensures { result ≡ S.moments_of (length d.entry.xs.now) d.entry.xs.now d.entry.ys.now d.entry.vals_centered.now fit }
 {
-    Moments {
-        sq: 0.0,
-        sqq: 0.0,
-        sj1: 0.0,
-        sj2: 0.0,
-        sqj1: 0.0,
-        sqj2: 0.0,
-        sj1j1: 0.0,
-        sj1j2: 0.0,
-        sj2j2: 0.0,
-        see: 0.0,
-    }
-}
-
-fn moments_of(xs: &[f32], ys: &[f32], vals_centered: &[f32], fit: Fit) -> Moments
-    requires { (length ys.now ≡ length xs.now) × (length vals_centered.now ≡ length xs.now) }
-    ensures { result
-        ≡ S.moments_of (length xs.now) xs.now ys.now vals_centered.now fit }
-{
-    let n = xs.len();
-    let amp = fit.amp;
     let inv_w = 1.0 / fit.width;
     let t1 = elementary::sin_cos(fit.theta1);
     let t2 = elementary::sin_cos(fit.theta2);
-    let mut m = no_moments();
-    for p in 0..n {
-        let t = slopes_at(amp, inv_w, t1, t2, xs[p], ys[p], vals_centered[p]);
+    let mut m = Moments::default();
+    for p in 0..d.xs.len() {
+        let t = slopes_at(fit.amp, inv_w, t1, t2, d.xs[p], d.ys[p], d.vals_centered[p]);
         m = gathered(t, m);
     }
     m
@@ -342,14 +290,11 @@ fn normal(n: usize, m: Moments) -> [[f32; 4]; 4]
 }
 
 // The standard errors of a fit's two axes and their standing, from one pass at its own angles and width.
-pub fn fit_std_errors(xs: &[f32], ys: &[f32], vals_centered: &[f32], fit: Fit) -> Estimate
-    requires { (length ys.now ≡ length xs.now) × (length vals_centered.now ≡ length xs.now)
-        × (length xs.now ≤ max_tanh_pixels) }
-    ensures { (energy : Float) →
-        OfPixels energy xs ys vals_centered (λ D. result ≡ S.fit_estimate D fit) }
+pub fn fit_std_errors(d: Disk, fit: Fit) -> Estimate
+    ensures { result ≡ S.fit_estimate (the_disk d.entry) fit }
 {
-    let n = xs.len();
-    let m = moments_of(xs, ys, vals_centered, fit);
+    let n = d.xs.len();
+    let m = moments_of(d, fit);
     let jtj = normal(n, m);
     let ssr = narrowing::narrow(residual(n, fit.amp, m));
     solver_errors::axis_std_errors(&jtj, ssr, n)

@@ -26,18 +26,21 @@ ordered_sum n row = iter (λ p s. s ⊕ at row p) nought n
 unfoldable pub edge_weight_total : ℕ → Row → Float
 edge_weight_total n grad_weights = ordered_sum n grad_weights
 
+-- the sum by a Gaussian g: of the gradients' terms, in the order of the pixels
+unfoldable pub edge_sum : (Float → Float → Float) → ℕ → Row → Row → Float → Float
+edge_sum g n grad_angles grad_weights theta =
+    iter (λ p s. s ⊕ g (at grad_weights p) (signed_line_delta (at grad_angles p) theta)) nought n
+
 -- score.rs: w_p * (-d * d * inv_2sigma2).exp()
 unfoldable pub ranked_term : Float → Float → Float
 ranked_term w d = w ⊗ exp (neg d ⊗ d ⊗ inv2_sigma2)
 
-unfoldable pub ranked_sum : ℕ → Row → Row → Float → Float
-ranked_sum n grad_angles grad_weights theta =
-    iter (λ p s. s ⊕ ranked_term (at grad_weights p) (signed_line_delta (at grad_angles p) theta)) nought n
+abbrev pub ranked_sum : ℕ → Row → Row → Float → Float
+ranked_sum = edge_sum ranked_term
 
 -- search.rs: grad_weights[p] * (-0.5 * (dd / sigma) * (dd / sigma)).exp()
 unfoldable pub refined_term : Float → Float → Float
 refined_term w d = w ⊗ exp (minus 0x3f00_0000 ⊗ (d ⊘ sigma) ⊗ (d ⊘ sigma))
 
-unfoldable pub refined_sum : ℕ → Row → Row → Float → Float
-refined_sum n grad_angles grad_weights theta =
-    iter (λ p s. s ⊕ refined_term (at grad_weights p) (signed_line_delta (at grad_angles p) theta)) nought n
+abbrev pub refined_sum : ℕ → Row → Row → Float → Float
+refined_sum = edge_sum refined_term

@@ -3,7 +3,7 @@
 // order of the pixels: the same bits, and the terms become vector code.
 #![tactic(auto)]
 
-ghost use Rattle.std.specs.Prelude.{◌≡◌, true, length};
+ghost use Rattle.std.specs.Prelude.{◌≡◌, true, Float, length};
 ghost use Rattle.score_edges.specs.Edges as E;
 ghost use Rattle.score_edges.specs.NearLaws as N;
 
@@ -16,10 +16,9 @@ const INV_2SIGMA2: f32 = 102.5877;
 fn ordered_sum(row: &[f32]) -> f32
     ensures { result ≡ E.ordered_sum (length row.now) row.now }
 {
-    let n = row.len();
     let mut s = 0.0f32;
-    for p in 0..n {
-        s += row[p];
+    for term in row {
+        s += *term;
     }
     s
 }
@@ -30,17 +29,35 @@ pub fn edge_weight_total(grad_weights: &[f32]) -> f32
     ordered_sum(grad_weights)
 }
 
-// A negated square is not above 0, where `exp` and `exp_neg` are one.
-fn ranked_term(w: f32, d: f32) -> f32
-    ensures { result ≡ E.ranked_term w d }
-{
-    w * elementary::exp_neg(-d * d * INV_2SIGMA2)
+// How a gradient of weight w counts for a line from whose direction it differs by d.
+pub trait Gaussian {
+    ghost term: { Float → Float → Float };
+
+    fn term(w: f32, d: f32) -> f32
+        ensures { result ≡ term w d };
 }
 
-fn refined_term(w: f32, d: f32) -> f32
-    ensures { result ≡ E.refined_term w d }
-{
-    w * elementary::exp_neg(-0.5 * (d / SIGMA) * (d / SIGMA))
+// The Gaussian of the ranking.
+pub struct Ranking;
+
+impl Gaussian for Ranking {
+    ghost term = { E.ranked_term };
+
+    // A negated square is not above 0, where `exp` and `exp_neg` are one.
+    fn term(w: f32, d: f32) -> f32 {
+        w * elementary::exp_neg(-d * d * INV_2SIGMA2)
+    }
+}
+
+// The Gaussian of the refinement: of the same value in exact arithmetic, but rounded apart.
+pub struct Refinement;
+
+impl Gaussian for Refinement {
+    ghost term = { E.refined_term };
+
+    fn term(w: f32, d: f32) -> f32 {
+        w * elementary::exp_neg(-0.5 * (d / SIGMA) * (d / SIGMA))
+    }
 }
 
 fn less_pi(x: f32) -> f32
@@ -75,104 +92,54 @@ fn near_delta(x: f32) -> f32
 fn far(x: f32) -> usize
     ensures { result ≡ N.far_count x }
 {
-    if -floats::TAU < x && x < floats::TAU {
-        return 0;
-    }
-    1
+    usize::from(!((-floats::TAU < x) & (x < floats::TAU)))
 }
 
 // Whether every difference can be found without `%`.
 fn all_near(grad_angles: &[f32], theta: f32) -> bool
     ensures { result ≡ true → N.AllNear (length grad_angles.now) grad_angles.now theta }
 {
-    let n = grad_angles.len();
     let mut count = 0usize;
-    for p in 0..n {
-        count += far(grad_angles[p] - theta + floats::HALF_PI);
+    for angle in grad_angles {
+        count += far(*angle - theta + floats::HALF_PI);
     }
     count == 0
 }
 
-fn ranked_near(grad_angles: &[f32], grad_weights: &[f32], theta: f32, terms: &mut [f32])
+fn near_terms<G: Gaussian>(grad_angles: &[f32], grad_weights: &[f32], theta: f32, terms: &mut [f32])
     requires { (length grad_weights.now ≡ length grad_angles.now) × (length terms.old ≡ length grad_angles.now) }
-    ensures { terms.new
-        ≡ N.near_terms E.ranked_term (length grad_angles.now) grad_angles.now grad_weights.now theta }
+    ensures { terms.new ≡ N.near_terms G.term (length grad_angles.now) grad_angles.now grad_weights.now theta }
 {
-    let n = grad_angles.len();
-    for p in 0..n {
-        terms[p] = ranked_term(
-            grad_weights[p],
-            near_delta(grad_angles[p] - theta + floats::HALF_PI),
-        );
+    for p in 0..grad_angles.len() {
+        let d = near_delta(grad_angles[p] - theta + floats::HALF_PI);
+        terms[p] = G::term(grad_weights[p], d);
     }
 }
 
-fn ranked_far(grad_angles: &[f32], grad_weights: &[f32], theta: f32, terms: &mut [f32])
+fn far_terms<G: Gaussian>(grad_angles: &[f32], grad_weights: &[f32], theta: f32, terms: &mut [f32])
     requires { (length grad_weights.now ≡ length grad_angles.now) × (length terms.old ≡ length grad_angles.now) }
-    ensures { terms.new
-        ≡ N.far_terms E.ranked_term (length grad_angles.now) grad_angles.now grad_weights.now theta }
+    ensures { terms.new ≡ N.far_terms G.term (length grad_angles.now) grad_angles.now grad_weights.now theta }
 {
-    let n = grad_angles.len();
-    for p in 0..n {
-        terms[p] = ranked_term(
-            grad_weights[p],
-            geometry::signed_line_delta(grad_angles[p], theta),
-        );
+    for p in 0..grad_angles.len() {
+        let d = geometry::signed_line_delta(grad_angles[p], theta);
+        terms[p] = G::term(grad_weights[p], d);
     }
 }
 
-// The edge sum that the ranking uses; `terms` is lent as scratch.
-pub fn ranked_sum(grad_angles: &[f32], grad_weights: &[f32], theta: f32, terms: &mut [f32]) -> f32
+// The edge sum of a line at theta; `terms` is lent as scratch.
+pub fn edge_sum<G: Gaussian>(
+    grad_angles: &[f32],
+    grad_weights: &[f32],
+    theta: f32,
+    terms: &mut [f32],
+) -> f32
     requires { (length grad_weights.now ≡ length grad_angles.now) × (length terms.old ≡ length grad_angles.now) }
-    ensures { result
-        ≡ E.ranked_sum (length grad_angles.now) grad_angles.now grad_weights.now theta }
+    ensures { result ≡ E.edge_sum G.term (length grad_angles.now) grad_angles.now grad_weights.now theta }
 {
     if all_near(grad_angles, theta) {
-        ranked_near(grad_angles, grad_weights, theta, terms);
-        return ordered_sum(terms);
+        near_terms::<G>(grad_angles, grad_weights, theta, terms);
+    } else {
+        far_terms::<G>(grad_angles, grad_weights, theta, terms);
     }
-    ranked_far(grad_angles, grad_weights, theta, terms);
-    ordered_sum(terms)
-}
-
-fn refined_near(grad_angles: &[f32], grad_weights: &[f32], theta: f32, terms: &mut [f32])
-    requires { (length grad_weights.now ≡ length grad_angles.now) × (length terms.old ≡ length grad_angles.now) }
-    ensures { terms.new
-        ≡ N.near_terms E.refined_term (length grad_angles.now) grad_angles.now grad_weights.now theta }
-{
-    let n = grad_angles.len();
-    for p in 0..n {
-        terms[p] = refined_term(
-            grad_weights[p],
-            near_delta(grad_angles[p] - theta + floats::HALF_PI),
-        );
-    }
-}
-
-fn refined_far(grad_angles: &[f32], grad_weights: &[f32], theta: f32, terms: &mut [f32])
-    requires { (length grad_weights.now ≡ length grad_angles.now) × (length terms.old ≡ length grad_angles.now) }
-    ensures { terms.new
-        ≡ N.far_terms E.refined_term (length grad_angles.now) grad_angles.now grad_weights.now theta }
-{
-    let n = grad_angles.len();
-    for p in 0..n {
-        terms[p] = refined_term(
-            grad_weights[p],
-            geometry::signed_line_delta(grad_angles[p], theta),
-        );
-    }
-}
-
-// The edge sum that the refinement uses; `terms` is lent as scratch.
-pub fn refined_sum(grad_angles: &[f32], grad_weights: &[f32], theta: f32, terms: &mut [f32]) -> f32
-    requires { (length grad_weights.now ≡ length grad_angles.now) × (length terms.old ≡ length grad_angles.now) }
-    ensures { result
-        ≡ E.refined_sum (length grad_angles.now) grad_angles.now grad_weights.now theta }
-{
-    if all_near(grad_angles, theta) {
-        refined_near(grad_angles, grad_weights, theta, terms);
-        return ordered_sum(terms);
-    }
-    refined_far(grad_angles, grad_weights, theta, terms);
     ordered_sum(terms)
 }

@@ -3,7 +3,7 @@
 -- and every refinement counts its 24 scorings. Assumes nothing.
 use Rattle.std.proofs.Math.Path.{◌≡◌, refl, ap}
 use Rattle.std.proofs.Common.{sym, ◌∙◌, ltb-true, eqb-true}
-use Rattle.std.specs.Prelude.{Bool, List, [], length, eqb, ltb, Float}
+use Rattle.std.specs.Prelude.{Bool, List, [], length, eqb, ltb, Float, Option, Some, None, Ok, Err}
 use Rattle.std.proofs.Math.Bool.{true, false, cond}
 use Prim.Native.Nat.{ℕ, zero, suc, ◌+◌, ◌-◌, ◌*◌, ◌≤◌, ◌<◌, min}
 use native.Mathlib.Omega.{arith}
@@ -12,23 +12,19 @@ use Rattle.geometry.specs.Geometry.{valid_pair}
 use Rattle.loops.specs.Loops.{iter, range}
 use Rattle.loops.proofs.IterLaws.{range_start, iter_through}
 use Rattle.data.specs.Data.{DiskData}
-use Rattle.candidates.specs.Candidates.{no_pairs, pooled_pair, pooled_from, pooled, pair_score, build_pair_pool}
+use Rattle.candidates.specs.Candidates.{Forced, no_pairs, pooled_pair, pooled_from, pooled, pair_score, build_pair_pool}
 use Rattle.candidates.specs.declared.CandidateSet.{CandidateSet}
-use Rattle.candidates.specs.declared.Forced.{Forced}
 use Rattle.candidates.specs.declared.PairScore.{PairScore}
 use Rattle.candidates.specs.declared.Pool.{Pool}
 use Rattle.search_ranking.specs.Ranking.{max_top_pairs, ranked}
 use Rattle.search_ranking.specs.SinkLaws.{ranked_length}
 use Rattle.score.specs.Score.{widths_px, fit_is_better}
 use Rattle.score.specs.declared.Fit.{Fit}
-use Rattle.score.specs.declared.Scored.{Scored}
-use Rattle.score.specs.declared.Scored.TheVariants.{Found, Nothing}
 use Rattle.search_refine.proofs.TurnLaws.{refine_trials}
 use Rattle.search_refine.specs.declared.Refined.{Refined}
 use Rattle.search.specs.declared.Top.{Top}
 use Rattle.search.specs.declared.Leaders.{Leaders}
-use Rattle.search.specs.declared.DiskFit.TheVariants.{Best, Missing}
-use Rattle.search.specs.Search.{top_fits, behind, insert_at, insert_top, entered, no_leaders, tried_at, tried_all, lead, second_led, first_led, led}
+use Rattle.search.specs.Search.{DiskFit, top_fits, behind, insert_at, insert_top, entered, no_leaders, tried_at, tried_all, lead, second_led, first_led, led}
 use Rattle.search.specs.Search.{candidates_of, pool_of, searched, best_disk_fit}
 use Rattle.search.specs.Bill.{trials_of, fit_count, allowed_from, allowed_of, allowed_pairs, pool_here, pairs_tried, pairs_kept}
 use Rattle.search.specs.Bill.{trial, answered_at, answered_trials, leaders_of, leaders_kept}
@@ -43,38 +39,38 @@ pub record LeadersCounted (l : Leaders) (t c : ℕ) : Type 0 where
   pub top : Placed l.top c
 
 -- what is put behind the first fills the second place
-behind_filled : (b : Scored) (f : Fit) → fit_count (behind b f) ≡ 1
+behind_filled : (b : Option Fit) (f : Fit) → fit_count (behind b f) ≡ 1
 unfolding behind
-behind_filled Nothing f = refl
-behind_filled (Found w) f = go (fit_is_better f w)
+behind_filled None f = refl
+behind_filled (Some w) f = go (fit_is_better f w)
   where
-    go : (t : Bool) → fit_count (cond t (Found f) (Found w)) ≡ 1
+    go : (t : Bool) → fit_count (cond t (Some f) (Some w)) ≡ 1
     go true = refl
     go false = refl
 
-insert_placed : (a b : Scored) (f : Fit) (c : ℕ) → fit_count a + fit_count b ≡ min top_fits c → fit_count b ≤ fit_count a
+insert_placed : (a b : Option Fit) (f : Fit) (c : ℕ) → fit_count a + fit_count b ≡ min top_fits c → fit_count b ≤ fit_count a
     → Placed (insert_at a b f) (c + 1)
 unfolding insert_at
-insert_placed Nothing b f c e o = record { places = omega arith; order = omega arith }
-insert_placed (Found v) b f c e o = go (fit_is_better f v) (behind_filled b f)
+insert_placed None b f c e o = record { places = omega arith; order = omega arith }
+insert_placed (Some v) b f c e o = go (fit_is_better f v) (behind_filled b f)
   where
     go :
         (t : Bool) → fit_count (behind b f) ≡ 1 →
-        Placed (cond t (record { first = Found f; second = Found v }) (record { first = Found v; second = behind b f })) (c + 1)
+        Placed (cond t (record { first = Some f; second = Some v }) (record { first = Some v; second = behind b f })) (c + 1)
     go true h = record { places = omega arith; order = omega arith }
     go false h = record { places = omega arith; order = omega arith }
 
-entered_counted : (l : Leaders) (x : Scored) (t c : ℕ) → LeadersCounted l t c → LeadersCounted (entered l x) (t + 1) (c + fit_count x)
+entered_counted : (l : Leaders) (x : Option Fit) (t c : ℕ) → LeadersCounted l t c → LeadersCounted (entered l x) (t + 1) (c + fit_count x)
 unfolding entered insert_top
-entered_counted l Nothing t c h =
+entered_counted l None t c h =
     let z : c + 0 ≡ c = omega arith in
     record { trials = ap (λ n. n + 1) h.trials; top = rw z h.top }
-entered_counted l (Found f) t c h =
+entered_counted l (Some f) t c h =
     let p = insert_placed l.top.first l.top.second f c h.top.places h.top.order in
     record { trials = ap (λ n. n + 1) h.trials; top = p }
 
 turns_counted :
-    (g : ℕ → Scored) (l : Leaders) (t c n : ℕ) → LeadersCounted l t c →
+    (g : ℕ → Option Fit) (l : Leaders) (t c n : ℕ) → LeadersCounted l t c →
     LeadersCounted (iter (λ r l. entered l (g r)) l n) (t + n) (iter (λ r c. c + fit_count (g r)) c n)
 unfolding iter
 turns_counted g l t c zero h = let z : t + 0 ≡ t = omega arith in rw z h
@@ -88,17 +84,17 @@ lead_trials : (D : DiskData) (v : Fit) (s : Refined) → (lead D v s).trials ≡
 unfolding lead
 lead_trials D v s = ap (◌+◌ s.trials) (refine_trials D v)
 
-places_billed : (D : DiskData) (t : ℕ) (a b : Scored) → fit_count b ≤ fit_count a → trials_of (first_led D t a b) ≡ t + 24 * (fit_count a + fit_count b)
+places_billed : (D : DiskData) (t : ℕ) (a b : Option Fit) → fit_count b ≤ fit_count a → trials_of (first_led D t a b) ≡ t + 24 * (fit_count a + fit_count b)
 unfolding first_led second_led
-places_billed D t Nothing b o = omega arith
-places_billed D t (Found v) Nothing o = let e = lead_trials D v (record { best = v; trials = t }) in omega arith
-places_billed D t (Found v) (Found w) o =
+places_billed D t None b o = omega arith
+places_billed D t (Some v) None o = let e = lead_trials D v (record { best = v; trials = t }) in omega arith
+places_billed D t (Some v) (Some w) o =
     let s : Refined = lead D v (record { best = v; trials = t }) in
     let e = lead_trials D v (record { best = v; trials = t }) in
     let g = lead_trials D w s in
     omega arith
 
-none_led : (D : DiskData) (candidates : CandidateSet) → Missing 0 ≡ led D (tried_all D candidates [])
+none_led : (D : DiskData) (candidates : CandidateSet) → Err 0 ≡ led D (tried_all D candidates [])
 unfolding led first_led tried_all tried_at iter
 none_led D candidates = refl
 
@@ -157,7 +153,7 @@ module _ (D : DiskData) (base0 base1 : Float) where
       after ps = tried_all D candidates ps
 
       go :
-          (a b : Bool) → cond a (Missing 0) (cond b (Missing 0) (led D (after (ranked pool))))
+          (a b : Bool) → cond a (Err 0) (cond b (Err 0) (led D (after (ranked pool))))
           ≡ led D (after (cond a [] (cond b [] (ranked pool))))
       go true b = none_led D candidates
       go false true = none_led D candidates
@@ -232,28 +228,28 @@ module _ (D : DiskData) (base0 base1 : Float) where
   disk_bill_most = let e = disk_bill in let k = pairs_most in let m = leaders_most in omega arith
 
   -- where nothing is found there was no leader
-  pub missing_leaders : (t : ℕ) → best_disk_fit D base0 base1 ≡ Missing t → leaders_kept D base0 base1 ≡ 0
+  pub missing_leaders : (t : ℕ) → best_disk_fit D base0 base1 ≡ Err t → leaders_kept D base0 base1 ≡ 0
   unfolding leaders_kept led first_led second_led
   missing_leaders t e =
       go (leaders_of D base0 base1).top.first (leaders_of D base0 base1).top.second leaders_in_order (sym best_is_led ∙ e)
     where
-      never : {f : Fit} {n : ℕ} → Best f n ≡ Missing t → ⊥
+      never : {r : Refined} → ◌≡◌ {A = DiskFit} (Ok r) (Err t) → ⊥
       never e = let z : ◌≡◌ {A = ℕ} 0 1 = cc in omega arith
 
-      second : (b : Scored) (s : Refined) → second_led D b s ≡ Missing t → ⊥
-      second Nothing s e = never e
-      second (Found w) s e = never e
+      second : (b : Option Fit) (s : Refined) → second_led D b s ≡ Err t → ⊥
+      second None s e = never e
+      second (Some w) s e = never e
 
       go :
-          (a b : Scored) → fit_count b ≤ fit_count a → first_led D (leaders_of D base0 base1).trials a b ≡ Missing t → fit_count a + fit_count b ≡ 0
-      go Nothing b o e = omega arith
-      go (Found v) b o e = absurd (second b _ e)
+          (a b : Option Fit) → fit_count b ≤ fit_count a → first_led D (leaders_of D base0 base1).trials a b ≡ Err t → fit_count a + fit_count b ≡ 0
+      go None b o e = omega arith
+      go (Some v) b o e = absurd (second b _ e)
 
-  pub missing_bill : (t : ℕ) → best_disk_fit D base0 base1 ≡ Missing t → t ≡ 4 * pairs_kept D base0 base1
+  pub missing_bill : (t : ℕ) → best_disk_fit D base0 base1 ≡ Err t → t ≡ 4 * pairs_kept D base0 base1
   missing_bill t e =
       let b : t ≡ 4 * pairs_kept D base0 base1 + 24 * leaders_kept D base0 base1 = sym (ap trials_of e) ∙ disk_bill in
       let m = missing_leaders t e in
       omega arith
 
-  pub missing_trials : (t : ℕ) → best_disk_fit D base0 base1 ≡ Missing t → t ≤ 96
+  pub missing_trials : (t : ℕ) → best_disk_fit D base0 base1 ≡ Err t → t ≤ 96
   missing_trials t e = let b = missing_bill t e in let k = pairs_most in omega arith

@@ -1,6 +1,6 @@
 -- Every candidate's angle is a value that an f32 holds, whatever the disk and the seeds: each is a sum, a product or a quotient, reduced by PI.
 -- Assumes nothing.
-use Rattle.std.specs.Prelude.{Bool, true, false, cond, [], ◌∷◌, ℕ, zero, suc, ◌*◌, ◌/◌, set, replicate, T, leb, Float}
+use Rattle.std.specs.Prelude.{Bool, true, false, cond, [], ◌∷◌, ℕ, zero, suc, ◌*◌, ◌/◌, set, replicate, T, leb, Float, Option, Some, None}
 use Rattle.std.specs.Float.{binary32}
 use Rattle.std.specs.Float.Ieee.{rem, lt, fits}
 use Rattle.std.specs.Float.Ieee.Bits.{of_bits-fits}
@@ -12,7 +12,7 @@ use Rattle.geometry.specs.Geometry.{wrap_pi}
 use Rattle.loops.proofs.IterLaws.{iter_keeps}
 use Rattle.data.specs.Data.{DiskData}
 use Rattle.candidates.specs.Candidates.{max_candidates, new_set, is_near, appended, push_unique, Picking, best_bin, bin_angle, too_low, degrees4, degree1}
-use Rattle.candidates.specs.Candidates.{picked, picking_over, pick, unpicked, max_picks, peaks, greatest, histogram_peaks}
+use Rattle.candidates.specs.Candidates.{picked, picking_over, pick_bin, pick, unpicked, max_picks, peaks, greatest, histogram_peaks}
 use Rattle.candidates.specs.Candidates.{off_degs, offset, around, grid_deg, gridded, coarse, gradient_candidates}
 use Rattle.candidates.specs.declared.CandidateSet.{CandidateSet}
 use Rattle.search.specs.Search.{candidates_of}
@@ -57,13 +57,17 @@ new_fits : Fitting new_set
 new_fits = record { each = replicate_fits max_candidates nought (of_bits-fits binary32 0) }
 
 pick_fits : (smooth : Row) (max_v : Float) (k : ℕ) (s : Picking) → Fitting s.found → Fitting (pick smooth max_v k s).found
-unfolding pick picked picking_over bin_angle
-pick_fits smooth max_v k s h = go s.over (too_low smooth max_v (best_bin smooth s.used))
+unfolding pick pick_bin picked picking_over bin_angle
+pick_fits smooth max_v k s h = go s.over (best_bin smooth s.used)
   where
-    go : (a b : Bool) → Fitting (cond a s (cond b (picking_over s) (picked (best_bin smooth s.used) s))).found
+    bin : (b : ℕ) (a : Bool) → Fitting (cond a (picking_over s) (picked b s)).found
+    bin b true = h
+    bin b false = push_fits s.found (bin_angle b) degrees4 (div-fits binary32 _ (count hist_bins)) h
+
+    go : (a : Bool) (b : Option ℕ) → Fitting (cond a s (pick_bin smooth max_v b s)).found
     go true b = h
-    go false true = h
-    go false false = push_fits s.found (bin_angle (best_bin smooth s.used)) degrees4 (div-fits binary32 _ (count hist_bins)) h
+    go false None = h
+    go false (Some b) = bin b (too_low smooth max_v b)
 
 peaks_fit : (smooth : Row) → Fitting (histogram_peaks smooth)
 unfolding histogram_peaks peaks

@@ -1,5 +1,5 @@
 -- The bill of a disk search: k ranked pairs tried at each of the four widths, and m leaders refined by 24 trials each. Definitions only.
-use Rattle.std.specs.Prelude.{cond, List, [], ℕ, ◌+◌, length, get_or, eqb, ltb, Float}
+use Rattle.std.specs.Prelude.{cond, List, [], ℕ, ◌+◌, length, get_or, eqb, ltb, Float, Option, Some, None, Ok, Err}
 use Rattle.floats.specs.Rows.{at}
 use Rattle.geometry.specs.Geometry.{valid_pair}
 use Rattle.loops.specs.Loops.{iter, range}
@@ -9,22 +9,19 @@ use Rattle.candidates.specs.declared.PairScore.{PairScore}
 use Rattle.candidates.specs.declared.Pool.{Pool}
 use Rattle.search_ranking.specs.Ranking.{blank, ranked}
 use Rattle.score.specs.Score.{widths_px}
-use Rattle.score.specs.declared.Scored.{Scored}
-use Rattle.score.specs.declared.Scored.TheVariants.{Found, Nothing}
+use Rattle.score.specs.declared.Fit.{Fit}
 use Rattle.search.specs.declared.Leaders.{Leaders}
-use Rattle.search.specs.declared.DiskFit.{DiskFit}
-use Rattle.search.specs.declared.DiskFit.TheVariants.{Best, Missing}
-use Rattle.search.specs.Search.{pair_scored, tried_all, candidates_of, pool_of}
+use Rattle.search.specs.Search.{DiskFit, pair_scored, tried_all, candidates_of, pool_of}
 
 -- the trials that an answer reports
 abbrev pub trials_of : DiskFit → ℕ
-trials_of (Best fit trials) = trials
-trials_of (Missing trials) = trials
+trials_of (Ok r) = r.trials
+trials_of (Err trials) = trials
 
 -- 1 where a fit stands, 0 where none does
-abbrev pub fit_count : Scored → ℕ
-fit_count Nothing = 0
-fit_count (Found fit) = 1
+abbrev pub fit_count : Option Fit → ℕ
+fit_count None = 0
+fit_count (Some fit) = 1
 
 -- ---- the allowed pairs of candidates, counted over i < j
 unfoldable pub allowed_from : CandidateSet → ℕ → ℕ → ℕ
@@ -50,7 +47,7 @@ module _ (D : DiskData) (base0 base1 : Float) where
   pairs_kept = length pairs_tried
 
   -- one trial: a ranked pair at a width
-  unfoldable pub trial : Float → ℕ → Scored
+  unfoldable pub trial : Float → ℕ → Option Fit
   trial width r = pair_scored D (candidates_of D base0 base1) width (get_or pairs_tried r blank)
 
   -- of the 4 k trials, those that answered a fit

@@ -1,5 +1,5 @@
 -- What the code's cache of rows holds in steps 4 and 5 of best_disk_fit. Definitions only.
-use Rattle.std.specs.Prelude.{◌≡◌, Bool, true, false, List, ℕ, ◌*◌, ◌≤◌, length, get_or, take, Float}
+use Rattle.std.specs.Prelude.{◌≡◌, Bool, true, false, List, ℕ, ◌*◌, ◌≤◌, length, get_or, take, Float, Option}
 use Rattle.floats.specs.Rows.{Row, at}
 use Rattle.data.specs.Data.{DiskData, max_tanh_pixels, row_of}
 use Rattle.candidates.specs.Candidates.{max_paired}
@@ -9,24 +9,18 @@ use Rattle.search_ranking.specs.Ranking.{max_top_pairs}
 use Rattle.search_ranking.specs.WithinLaws.{PairsWithin}
 use Rattle.search_ranking.specs.declared.Ranked.{Ranked}
 use Rattle.score.specs.Score.{axis_row, score_pair_cached}
-use Rattle.score.specs.declared.Scored.{Scored}
-
--- three slices of one length, which is not above 320
-pub record Pixels (xs ys vals_centered : Row) : Type 0 where
-  pub most : length xs ≤ max_tanh_pixels
-  pub y : length ys ≡ length xs
-  pub v : length vals_centered ≡ length xs
+use Rattle.score.specs.declared.Fit.{Fit}
 
 -- a row for each of the candidates that are paired
 abbrev pub cache_room : ℕ
 cache_room = max_paired * max_tanh_pixels
 
 -- the rows that are marked as filled are the candidates' own
-pub record Cached (xs ys : Row) (candidates : CandidateSet) (width : Float) (filled : List Bool) (cache : Row) : Type 0 where
+pub record Cached (D : DiskData) (candidates : CandidateSet) (width : Float) (filled : List Bool) (cache : Row) : Type 0 where
   pub marks : length filled ≡ max_paired
   pub room : length cache ≡ cache_room
   pub row :
-      (c : ℕ) → get_or filled c false ≡ true → row_of (length xs) cache c ≡ axis_row (length xs) xs ys (at candidates.angles c) width
+      (c : ℕ) → get_or filled c false ≡ true → row_of D.n cache c ≡ axis_row D.n D.xs D.ys (at candidates.angles c) width
 
 -- row c is filled, and so is every row that was
 pub record Keeps (old new : List Bool) (c : ℕ) : Type 0 where
@@ -40,7 +34,7 @@ pub record Listed (r : Ranked) : Type 0 where
   pub within : PairsWithin max_paired (take r.n r.pairs)
 
 -- a pair scored from what the cache holds
-unfoldable pub cached_score : DiskData → CandidateSet → Float → PairScore → Row → Scored
+unfoldable pub cached_score : DiskData → CandidateSet → Float → PairScore → Row → Option Fit
 cached_score D candidates width p cache =
     let a0 = at candidates.angles p.i in
     let a1 = at candidates.angles p.j in

@@ -3,13 +3,14 @@
 #![tactic(auto)]
 
 ghost use Rattle.std.specs.Prelude.{◌≡◌, ◌+◌, ◌*◌, ◌≤◌, ◌<◌, length, take};
-ghost use Rattle.data.specs.Data.{lent_disk, OfPixels, OfValues, OfGradients, DiskSized, max_tanh_pixels};
+ghost use Rattle.data.specs.Disk.{the_disk};
 ghost use Rattle.candidates.specs.Candidates.{max_paired, max_pairs};
 ghost use Rattle.search.specs.Search as S;
 ghost use Rattle.search.specs.Cache as K;
 
 use candidates::{CandidateSet, PairScore, Pool};
-use score::{Fit, Scored};
+use data::Disk;
+use score::{Fit, Trial};
 use search_ranking::Ranked;
 use search_refine::Refined;
 
@@ -17,14 +18,14 @@ use search_refine::Refined;
 const CACHE: usize = candidates::MAX_PAIRED * data::MAX_TANH_PIXELS;
 
 // The better TOP_FITS = 2 so far, in the order of their arrival among equals.
-#[derive(Drop)]
+#[derive(Clone, Copy, Default)]
 pub struct Top {
-    pub first: Scored,
-    pub second: Scored,
+    pub first: Option<Fit>,
+    pub second: Option<Fit>,
 }
 
 // The leaders, and how many pairs were scored.
-#[derive(Drop)]
+#[derive(Drop, Default)]
 pub struct Leaders {
     pub top: Top,
     pub trials: usize,
@@ -37,83 +38,71 @@ pub struct Pass {
     pub filled: [bool; candidates::MAX_PAIRED],
 }
 
-// The best fit with the number of trials, or that number alone.
-#[derive(Drop)]
-pub enum DiskFit {
-    Best(Fit, usize),
-    Missing(usize),
+// The best fit with the number of trials, or that number alone where nothing is found.
+pub type DiskFit = Result<Refined, usize>;
+
+// Whether a fit goes before what stands in a place: a fit that it beats, or none.
+fn beats(fit: Fit, place: Option<Fit>) -> bool
+    ensures { result ≡ S.beats fit place }
+{
+    match place {
+        Some(v) => score::fit_is_better(fit, v),
+        None => true,
+    }
 }
 
 pub fn insert_top(top: Top, fit: Fit) -> Top
     ensures { result ≡ S.insert_top top fit }
 {
-    let first = top.first;
-    let Scored::Found(v) = first else {
+    if beats(fit, top.first) {
         return Top {
-            first: Scored::Found(fit),
-            second: Scored::Nothing,
-        };
-    };
-    if score::fit_is_better(fit, v) {
-        return Top {
-            first: Scored::Found(fit),
-            second: first,
+            first: Some(fit),
+            second: top.first,
         };
     }
-    let second = top.second;
-    let Scored::Found(w) = second else {
+    if beats(fit, top.second) {
         return Top {
-            first,
-            second: Scored::Found(fit),
-        };
-    };
-    if score::fit_is_better(fit, w) {
-        return Top {
-            first,
-            second: Scored::Found(fit),
+            first: top.first,
+            second: Some(fit),
         };
     }
     top
 }
 
 // A trial that answers nothing counts too.
-fn entered(s: Leaders, answer: Scored) -> Leaders
+fn entered(s: Leaders, answer: Option<Fit>) -> Leaders
     requires { s.trials < 1000 }
     ensures { (result.trials ≡ s.trials + 1) × (result ≡ S.entered s answer) }
 {
-    let top = s.top;
-    let trials = s.trials + 1;
-    let Scored::Found(fit) = answer else {
-        return Leaders { top, trials };
+    let top = match answer {
+        Some(fit) => insert_top(s.top, fit),
+        None => s.top,
     };
     Leaders {
-        top: insert_top(top, fit),
-        trials,
+        top,
+        trials: s.trials + 1,
     }
 }
 
 // Step 4: the row of candidate c at one width, unless it stands in the cache already. The Rust first
 // marks the candidates of all kept pairs; here a row is made when a pair first asks for it.
 fn ensure_row(
+    d: Disk,
     candidates: CandidateSet,
-    xs: &[f32],
-    ys: &[f32],
     width: f32,
     c: usize,
     filled: [bool; candidates::MAX_PAIRED],
     cache: &mut [f32],
 ) -> [bool; candidates::MAX_PAIRED]
-    requires { (c < max_paired) × (length ys.now ≡ length xs.now) × (length xs.now ≤ max_tanh_pixels)
-        × K.Cached xs.now ys.now candidates width filled cache.old }
-    ensures { K.Cached xs.now ys.now candidates width result cache.new × K.Keeps filled result c }
+    requires { (c < max_paired) × K.Cached (the_disk d) candidates width filled cache.old }
+    ensures { K.Cached (the_disk d.entry) candidates width result cache.new × K.Keeps filled result c }
 {
     if filled[c] {
         return filled;
     }
-    let n = xs.len();
     let b = c * data::MAX_TANH_PIXELS;
-    let e = b + n;
-    score::axis_row(xs, ys, candidates.angles[c], width, &mut cache[b..e]);
+    let e = b + d.xs.len();
+    score::axis_row(d.xs, d.ys, candidates.angles[c], width, &mut cache[b..e]);
     let mut marked = filled;
     marked[c] = true;
     marked
@@ -121,271 +110,147 @@ fn ensure_row(
 
 // A pair scored from the rows in the cache.
 fn score_cached(
-    val_energy: f32,
-    vals_centered: &[f32],
+    d: Disk,
     candidates: CandidateSet,
     p: PairScore,
     width: f32,
     cache: &[f32],
-) -> Scored
-    requires { (p.i < max_paired) × (p.j < max_paired) × (length vals_centered.now ≤ max_tanh_pixels) × (length cache.now ≡ K.cache_room) }
-    ensures { OfValues val_energy vals_centered (λ D. result ≡ K.cached_score D candidates width p cache.now) }
+) -> Option<Fit>
+    requires { (p.i < max_paired) × (p.j < max_paired) × (length cache.now ≡ K.cache_room) }
+    ensures { result ≡ K.cached_score (the_disk d.entry) candidates width p cache.now }
 {
     let i = p.i as usize;
     let j = p.j as usize;
-    let n = vals_centered.len();
+    let n = d.xs.len();
     let a = i * data::MAX_TANH_PIXELS;
     let ae = a + n;
     let b = j * data::MAX_TANH_PIXELS;
     let be = b + n;
-    score::score_pair_cached(
-        val_energy,
-        vals_centered,
-        candidates.angles[i],
-        candidates.angles[j],
+    let t = Trial {
+        theta0: candidates.angles[i],
+        theta1: candidates.angles[j],
         width,
-        p.edge_score,
-        &cache[a..ae],
-        &cache[b..be],
-    )
+        edge_score: p.edge_score,
+    };
+    score::score_pair_cached(d, t, &cache[a..ae], &cache[b..be])
 }
 
 // Step 5: one ranked pair at one width.
 fn try_pair(
+    d: Disk,
     pass: Pass,
-    val_energy: f32,
-    xs: &[f32],
-    ys: &[f32],
-    vals_centered: &[f32],
     candidates: CandidateSet,
     p: PairScore,
     width: f32,
     cache: &mut [f32],
 ) -> Pass
     requires { (pass.leaders.trials < 1000) × (p.i < max_paired) × (p.j < max_paired)
-        × K.Pixels xs.now ys.now vals_centered.now × K.Cached xs.now ys.now candidates width pass.filled cache.old }
-    ensures { K.Cached xs.now ys.now candidates width result.filled cache.new
+        × K.Cached (the_disk d) candidates width pass.filled cache.old }
+    ensures { let D = the_disk d.entry in K.Cached D candidates width result.filled cache.new
         × (result.leaders.trials ≡ pass.leaders.trials + 1)
-        × OfPixels val_energy xs ys vals_centered (λ D. result.leaders ≡ S.entered pass.leaders (S.pair_scored D candidates width p)) }
+        × (result.leaders ≡ S.entered pass.leaders (S.pair_scored D candidates width p)) }
 {
-    let i = p.i as usize;
-    let j = p.j as usize;
     let before = pass.filled;
-    let one = ensure_row(candidates, xs, ys, width, i, before, cache);
-    let filled = ensure_row(candidates, xs, ys, width, j, one, cache);
-    let answer = score_cached(val_energy, vals_centered, candidates, p, width, cache);
+    let one = ensure_row(d, candidates, width, p.i as usize, before, cache);
+    let filled = ensure_row(d, candidates, width, p.j as usize, one, cache);
+    let answer = score_cached(d, candidates, p, width, cache);
     let leaders = entered(pass.leaders, answer);
     Pass { leaders, filled }
 }
 
 // Step 5: the ranked pairs in their order at one width.
 fn try_width(
+    d: Disk,
     leaders: Leaders,
-    val_energy: f32,
-    xs: &[f32],
-    ys: &[f32],
-    vals_centered: &[f32],
     candidates: CandidateSet,
     ranked: Ranked,
     width: f32,
     cache: &mut [f32],
 ) -> Leaders
-    requires { (leaders.trials ≤ 72) × K.Listed ranked × K.Pixels xs.now ys.now vals_centered.now
-        × (length cache.old ≡ K.cache_room) }
+    requires { (leaders.trials ≤ 72) × K.Listed ranked × (length cache.old ≡ K.cache_room) }
     ensures { (length cache.new ≡ K.cache_room) × (result.trials ≡ leaders.trials + ranked.n)
-        × OfPixels val_energy xs ys vals_centered (λ D. result ≡ S.tried_at D candidates (take ranked.n ranked.pairs) width leaders) }
+        × (result ≡ S.tried_at (the_disk d.entry) candidates (take ranked.n ranked.pairs) width leaders) }
 {
-    let k = ranked.n;
     let filled = [false; candidates::MAX_PAIRED];
     let mut pass = Pass { leaders, filled };
-    for r in 0..k {
-        let p = ranked.pairs[r];
-        pass = try_pair(
-            pass,
-            val_energy,
-            xs,
-            ys,
-            vals_centered,
-            candidates,
-            p,
-            width,
-            cache,
-        );
+    for p in &ranked.pairs[..ranked.n] {
+        pass = try_pair(d, pass, candidates, *p, width, cache);
     }
     pass.leaders
 }
 
 // Step 5: all widths, the widths outermost; `cache` is lent as scratch.
-fn try_widths(
-    val_energy: f32,
-    xs: &[f32],
-    ys: &[f32],
-    vals_centered: &[f32],
-    candidates: CandidateSet,
-    ranked: Ranked,
-    cache: &mut [f32],
-) -> Leaders
-    requires { K.Listed ranked × K.Pixels xs.now ys.now vals_centered.now × (length cache.old ≡ K.cache_room) }
+fn try_widths(d: Disk, candidates: CandidateSet, ranked: Ranked, cache: &mut [f32]) -> Leaders
+    requires { K.Listed ranked × (length cache.old ≡ K.cache_room) }
     ensures { (result.trials ≡ 4 * ranked.n)
-        × OfPixels val_energy xs ys vals_centered (λ D. result ≡ S.tried_all D candidates (take ranked.n ranked.pairs)) }
+        × (result ≡ S.tried_all (the_disk d.entry) candidates (take ranked.n ranked.pairs)) }
 {
-    let mut leaders = Leaders {
-        top: Top {
-            first: Scored::Nothing,
-            second: Scored::Nothing,
-        },
-        trials: 0,
-    };
-    for w in 0..4usize {
-        let width = score::WIDTHS_PX[w];
-        leaders = try_width(
-            leaders,
-            val_energy,
-            xs,
-            ys,
-            vals_centered,
-            candidates,
-            ranked,
-            width,
-            cache,
-        );
+    let mut leaders = Leaders::default();
+    for width in score::WIDTHS_PX {
+        leaders = try_width(d, leaders, candidates, ranked, width, cache);
     }
     leaders
 }
 
 // Step 5, with the cache on this call's stack.
-fn try_all(
-    val_energy: f32,
-    xs: &[f32],
-    ys: &[f32],
-    vals_centered: &[f32],
-    candidates: CandidateSet,
-    ranked: Ranked,
-) -> Leaders
-    requires { K.Listed ranked × K.Pixels xs.now ys.now vals_centered.now }
+fn try_all(d: Disk, candidates: CandidateSet, ranked: Ranked) -> Leaders
+    requires { K.Listed ranked }
     ensures { (result.trials ≡ 4 * ranked.n)
-        × OfPixels val_energy xs ys vals_centered (λ D. result ≡ S.tried_all D candidates (take ranked.n ranked.pairs)) }
+        × (result ≡ S.tried_all (the_disk d.entry) candidates (take ranked.n ranked.pairs)) }
 {
     let mut cache = [0.0f32; CACHE];
-    try_widths(
-        val_energy,
-        xs,
-        ys,
-        vals_centered,
-        candidates,
-        ranked,
-        &mut cache,
-    )
+    try_widths(d, candidates, ranked, &mut cache)
 }
 
 // Step 6: a leader refined, and the better of it and what was found so far.
-fn lead(
-    s: Refined,
-    seed: Fit,
-    val_energy: f32,
-    xs: &[f32],
-    ys: &[f32],
-    vals_centered: &[f32],
-    grad_angles: &[f32],
-    grad_weights: &[f32],
-) -> Refined
-    requires { (s.trials < 1000) × DiskSized xs.now ys.now vals_centered.now grad_angles.now grad_weights.now }
-    ensures { (result.trials ≡ s.trials + 24)
-        × (result ≡ S.lead (lent_disk val_energy xs ys vals_centered grad_angles grad_weights) seed s) }
+fn lead(d: Disk, s: Refined, seed: Fit) -> Refined
+    requires { s.trials < 1000 }
+    ensures { (result.trials ≡ s.trials + 24) × (result ≡ S.lead (the_disk d.entry) seed s) }
 {
-    let best = s.best;
     let mut rows = [0.0f32; search_rows::ROWS];
-    let refined = search_refine::refine_fit_cached(
-        seed,
-        val_energy,
-        xs,
-        ys,
-        vals_centered,
-        grad_angles,
-        grad_weights,
-        &mut rows,
-    );
-    let fit = refined.best;
+    let refined = search_refine::refine_fit_cached(d, seed, &mut rows);
     let trials = s.trials + refined.trials;
-    if score::fit_is_better(fit, best) {
-        return Refined { best: fit, trials };
+    if score::fit_is_better(refined.best, s.best) {
+        return Refined {
+            best: refined.best,
+            trials,
+        };
     }
-    Refined { best, trials }
+    Refined {
+        best: s.best,
+        trials,
+    }
 }
 
 // Step 6: the leaders, as many as there are.
-fn led(
-    leaders: Leaders,
-    val_energy: f32,
-    xs: &[f32],
-    ys: &[f32],
-    vals_centered: &[f32],
-    grad_angles: &[f32],
-    grad_weights: &[f32],
-) -> DiskFit
-    requires { (leaders.trials ≤ 96) × DiskSized xs.now ys.now vals_centered.now grad_angles.now grad_weights.now }
-    ensures { result ≡ S.led (lent_disk val_energy xs ys vals_centered grad_angles grad_weights)
-        leaders }
+fn led(d: Disk, leaders: Leaders) -> DiskFit
+    requires { leaders.trials ≤ 96 }
+    ensures { result ≡ S.led (the_disk d.entry) leaders }
 {
+    let trials = leaders.trials;
     let top = leaders.top;
-    let first = top.first;
-    let second = top.second;
-    let Scored::Found(v) = first else {
-        return DiskFit::Missing(leaders.trials);
+    let Some(v) = top.first else {
+        return Err(trials);
     };
-    let start = Refined {
-        best: v,
-        trials: leaders.trials,
+    let a = lead(d, Refined { best: v, trials }, v);
+    let Some(w) = top.second else {
+        return Ok(a);
     };
-    let a = lead(
-        start,
-        v,
-        val_energy,
-        xs,
-        ys,
-        vals_centered,
-        grad_angles,
-        grad_weights,
-    );
-    let Scored::Found(w) = second else {
-        let best = a.best;
-        return DiskFit::Best(best, a.trials);
-    };
-    let b = lead(
-        a,
-        w,
-        val_energy,
-        xs,
-        ys,
-        vals_centered,
-        grad_angles,
-        grad_weights,
-    );
-    let best = b.best;
-    DiskFit::Best(best, b.trials)
+    Ok(lead(d, a, w))
 }
 
 // Steps 1 and 2: the allowed pairs of the candidates, with their edge scores.
-fn pool_of(
-    base0: f32,
-    base1: f32,
-    grad_angles: &[f32],
-    grad_weights: &[f32],
-    candidates: CandidateSet,
-) -> Pool
-    requires { (candidates.n ≤ max_paired) × (length grad_weights.now ≡ length grad_angles.now)
-        × (length grad_angles.now ≤ max_tanh_pixels) }
-    ensures { (result.n ≤ max_pairs) × OfGradients grad_angles grad_weights (λ D. result ≡ S.pool_of D candidates base0 base1) }
+fn pool_of(d: Disk, base0: f32, base1: f32, candidates: CandidateSet) -> Pool
+    requires { candidates.n ≤ max_paired }
+    ensures { (result.n ≤ max_pairs) × (result ≡ S.pool_of (the_disk d.entry) candidates base0 base1) }
 {
     let mut edge_align = [0.0f32; candidates::MAX_CANDIDATES];
     let mut terms = [0.0f32; data::MAX_TANH_PIXELS];
-    let from = 0usize;
-    let n = grad_angles.len();
+    let n = d.xs.len();
     let grad_total = score::precompute_edge_alignments(
-        grad_angles,
-        grad_weights,
+        d,
         candidates,
-        &mut terms[from..n],
+        &mut terms[..n],
         &mut edge_align,
     );
     let force_seed = candidates::forced_seed_pair(candidates, base0, base1);
@@ -394,69 +259,27 @@ fn pool_of(
 }
 
 // Steps 1 to 6, for two candidates or more.
-fn search_set(
-    val_energy: f32,
-    base0: f32,
-    base1: f32,
-    xs: &[f32],
-    ys: &[f32],
-    vals_centered: &[f32],
-    grad_angles: &[f32],
-    grad_weights: &[f32],
-    candidates: CandidateSet,
-) -> DiskFit
-    requires { (2 ≤ candidates.n) × (candidates.n ≤ max_paired)
-        × DiskSized xs.now ys.now vals_centered.now grad_angles.now grad_weights.now }
-    ensures { result ≡ S.searched (lent_disk val_energy xs ys vals_centered grad_angles grad_weights)
-        candidates base0 base1 }
+fn search_set(d: Disk, base0: f32, base1: f32, candidates: CandidateSet) -> DiskFit
+    requires { (2 ≤ candidates.n) × (candidates.n ≤ max_paired) }
+    ensures { result ≡ S.searched (the_disk d.entry) candidates base0 base1 }
 {
-    let pool = pool_of(base0, base1, grad_angles, grad_weights, candidates);
+    let pool = pool_of(d, base0, base1, candidates);
     if pool.n == 0 {
-        return DiskFit::Missing(0);
+        return Err(0);
     }
     let ranked = search_ranking::rank(pool);
-    let leaders = try_all(val_energy, xs, ys, vals_centered, candidates, ranked);
-    led(
-        leaders,
-        val_energy,
-        xs,
-        ys,
-        vals_centered,
-        grad_angles,
-        grad_weights,
-    )
+    led(d, try_all(d, candidates, ranked))
 }
 
 // The search over any disk of at most MAX_TANH_PIXELS pixels.
-pub fn best_disk_fit(
-    val_energy: f32,
-    base0: f32,
-    base1: f32,
-    xs: &[f32],
-    ys: &[f32],
-    vals_centered: &[f32],
-    grad_angles: &[f32],
-    grad_weights: &[f32],
-) -> DiskFit
-    requires { DiskSized xs.now ys.now vals_centered.now grad_angles.now grad_weights.now }
-    ensures { result ≡ S.best_disk_fit (lent_disk val_energy xs ys vals_centered grad_angles grad_weights)
-        base0 base1 }
+pub fn best_disk_fit(d: Disk, base0: f32, base1: f32) -> DiskFit
+    ensures { result ≡ S.best_disk_fit (the_disk d.entry) base0 base1 }
 {
     let b0 = geometry::wrap_pi(base0);
     let b1 = geometry::wrap_pi(base1);
-    let candidates = candidates::histogram_candidates(grad_angles, grad_weights, b0, b1);
+    let candidates = candidates::histogram_candidates(d.grad_angles, d.grad_weights, b0, b1);
     if candidates.n < 2 {
-        return DiskFit::Missing(0);
+        return Err(0);
     }
-    search_set(
-        val_energy,
-        base0,
-        base1,
-        xs,
-        ys,
-        vals_centered,
-        grad_angles,
-        grad_weights,
-        candidates,
-    )
+    search_set(d, base0, base1, candidates)
 }

@@ -15,10 +15,9 @@ use Rattle.floats.specs.Rows.{Row, at}
 use Rattle.floats.specs.DiscreteLaws.{float_discrete}
 use Rattle.geometry.specs.Geometry.{valid_pair}
 use Rattle.loops.specs.Loops.{iter, range}
-use Rattle.candidates.specs.Candidates.{max_paired, max_pairs, no_pairs, pair_score, pooled, pooled_pair, pooled_from, build_pair_pool}
+use Rattle.candidates.specs.Candidates.{Forced, max_paired, max_pairs, no_pairs, pair_score, pooled, pooled_pair, pooled_from, build_pair_pool}
 use Rattle.candidates.specs.CandidatesLaws.{rows_before, rows_next, rows_most, row_room}
 use Rattle.candidates.specs.declared.CandidateSet.{CandidateSet}
-use Rattle.candidates.specs.declared.Forced.{Forced}
 use Rattle.candidates.specs.declared.PairScore.{PairScore}
 use Rattle.candidates.specs.declared.Pool.{Pool}
 

@@ -7,13 +7,15 @@ use Rattle.std.proofs.lemmas.Bool.{false≢true}
 use mathlib.Core.List.{List, [], ◌∷◌, ◌++◌, cons≢nil, Mem, not-mem-nil, mem-cons_self, mem-cons_of_mem, eq-or-mem_of_mem-cons}
 use mathlib.Core.List.{Perm, perm_append_singleton}
 use mathlib.Core.List.{Permᴰ}
+use Rattle.std.proofs.Common.{Ordering, Less, Equal, Greater, is_lt, nat_cmp}
+use Rattle.std.specs.Ordering.{ordering_then, bool_cmp}
+use Rattle.std.specs.Cmp.{nat_cmp_is}
 use Rattle.floats.specs.Rows.{Row}
 use Rattle.floats.specs.Library.{total_key}
 use Rattle.data.specs.Data.{DiskData}
-use Rattle.candidates.specs.Candidates.{max_paired, histogram_candidates, build_pair_pool}
+use Rattle.candidates.specs.Candidates.{Forced, max_paired, histogram_candidates, build_pair_pool}
 use Rattle.candidates.specs.CandidatesLaws.{candidates_most}
 use Rattle.candidates.specs.declared.CandidateSet.{CandidateSet}
-use Rattle.candidates.specs.declared.Forced.{Forced}
 use Rattle.candidates.specs.declared.PairScore.{PairScore}
 use Rattle.candidates.specs.declared.Pool.{Pool}
 use Rattle.loops.specs.Loops.{iter}
@@ -82,6 +84,67 @@ lex_above m n r h = rw (le-ltb m n (omega arith), lt-ltb n m h)
 
 lex_level : (m n : ℕ) (r : Bool) → m ≡ n → lex m n r ≡ r
 lex_level m n r e = rw (le-ltb m n (omega arith), le-ltb n m (omega arith))
+
+-- the code compares key by key, and the first comparison that is not level decides
+then_then : (a b c : Ordering) → ordering_then (ordering_then a b) c ≡ ordering_then a (ordering_then b c)
+then_then Less b c = refl
+then_then Equal b c = refl
+then_then Greater b c = refl
+
+lex_then : (m n : ℕ) (o : Ordering) → is_lt (ordering_then (nat_cmp m n) o) ≡ lex m n (is_lt o)
+lex_then m n o = elim (compared m n) [
+  | inl h ↦ rw (← nat_cmp_is m n Less h, lex_below m n (is_lt o) h)
+  | inr h ↦ elim (compared n m) [
+    | inl g ↦ rw (← nat_cmp_is m n Greater g, lex_above m n (is_lt o) g)
+    | inr g ↦ let q : m ≡ n = omega arith in rw (← nat_cmp_is m n Equal q, lex_level m n (is_lt o) q)
+  ]
+]
+
+last_then : (m n : ℕ) → is_lt (nat_cmp m n) ≡ ltb m n
+last_then m n = elim (compared m n) [
+  | inl h ↦ rw (← nat_cmp_is m n Less h, lt-ltb m n h)
+  | inr h ↦ elim (compared n m) [
+    | inl g ↦ rw (← nat_cmp_is m n Greater g, le-ltb m n h)
+    | inr g ↦ let q : m ≡ n = omega arith in rw (← nat_cmp_is m n Equal q, le-ltb m n h)
+  ]
+]
+
+abbrev keys_compared : PairScore → PairScore → Ordering
+keys_compared a b =
+    ordering_then (nat_cmp (total_key b.edge_score) (total_key a.edge_score)) (ordering_then (nat_cmp a.i b.i) (nat_cmp a.j b.j))
+
+keys_then : (a b : PairScore) → is_lt (keys_compared a b) ≡ keys_before a b
+unfolding keys_before
+keys_then a b =
+    let m = total_key b.edge_score in
+    let n = total_key a.edge_score in
+    lex_then m n (ordering_then (nat_cmp a.i b.i) (nat_cmp a.j b.j))
+    ∙ ap (lex m n) (lex_then a.i b.i (nat_cmp a.j b.j) ∙ ap (lex a.i b.i) (last_then a.j b.j))
+
+pub before_then :
+    (a b : PairScore) →
+    is_lt
+    (ordering_then
+    (ordering_then
+    (ordering_then (bool_cmp b.forced a.forced) (nat_cmp (total_key b.edge_score) (total_key a.edge_score)))
+    (nat_cmp a.i b.i))
+    (nat_cmp a.j b.j))
+    ≡ is_before a b
+unfolding is_before
+before_then a b =
+    let f = bool_cmp b.forced a.forced in
+    let k = nat_cmp (total_key b.edge_score) (total_key a.edge_score) in
+    let i = nat_cmp a.i b.i in
+    let j = nat_cmp a.j b.j in
+    ap is_lt (then_then (ordering_then f k) i j ∙ then_then f k (ordering_then i j)) ∙ go a.forced b.forced
+  where
+    go :
+        (f g : Bool) →
+        is_lt (ordering_then (bool_cmp g f) (keys_compared a b)) ≡ cond f (cond g (keys_before a b) true) (cond g false (keys_before a b))
+    go true true = keys_then a b
+    go true false = refl
+    go false true = refl
+    go false false = keys_then a b
 
 -- what the outcome tells
 lex_true : (m n : ℕ) (r : Bool) → lex m n r ≡ true → (m < n) ⊎ ((m ≡ n) × (r ≡ true))

@@ -5,9 +5,8 @@ use mathlib.Core.List.{List, [], ◌∷◌}
 use Rattle.floats.specs.Rows.{Row, at}
 use Rattle.geometry.specs.Geometry.{valid_pair}
 use Rattle.loops.proofs.IterLaws.{iter_keeps, iter_keeps_below, range_keeps_below}
-use Rattle.candidates.specs.Candidates.{max_pairs, no_pair, no_pairs, pair_score, pooled, pooled_pair, pooled_from, build_pair_pool}
+use Rattle.candidates.specs.Candidates.{Forced, max_pairs, no_pair, no_pairs, pair_score, pooled, pooled_pair, pooled_from, build_pair_pool}
 use Rattle.candidates.specs.declared.CandidateSet.{CandidateSet}
-use Rattle.candidates.specs.declared.Forced.{Forced}
 use Rattle.candidates.specs.declared.PairScore.{PairScore}
 use Rattle.candidates.specs.declared.Pool.{Pool}
 use Rattle.search_ranking.specs.Ranking.{max_top_pairs, blank, is_before, insert_ranked, sorted, ranked}

@@ -1,6 +1,6 @@
 -- The refinement of a fit: disk_sector/search.rs, refine_fit and refine_fit_cached. Definitions only.
 -- The definition keeps no rows: each neighbour is scored from rows made of the best's own axes at that moment.
-use Rattle.std.specs.Prelude.{cond, ◌&&◌, List, [], ◌∷◌, ◌++◌, ℕ, leb, length, get_or, Float}
+use Rattle.std.specs.Prelude.{cond, ◌&&◌, List, [], ◌∷◌, ◌++◌, ℕ, leb, length, get_or, Float, Option, Some, None}
 use Rattle.std.specs.Float.Ieee.{neg, eq}
 use Rattle.floats.specs.Ops.{◌⊕◌, lit, nought}
 use Rattle.floats.specs.Library.{to_radians}
@@ -10,8 +10,6 @@ use Rattle.candidates.specs.Candidates.{combine_edge_pair}
 use Rattle.score_edges.specs.Edges.{edge_weight_total, refined_sum}
 use Rattle.score.specs.Score.{axis_row, score_pair_cached, fit_is_better}
 use Rattle.score.specs.declared.Fit.{Fit}
-use Rattle.score.specs.declared.Scored.{Scored}
-use Rattle.score.specs.declared.Scored.TheVariants.{Found, Nothing}
 use Rattle.search_refine.specs.declared.Offset.{Offset}
 use Rattle.search_refine.specs.declared.Refined.{Refined}
 
@@ -41,7 +39,7 @@ neighbours = 24
 -- ---- refine_fit_cached
 module _ (D : DiskData) (total : Float) where
   -- one scoring: the best's axes moved by an offset
-  unfoldable pub neighbour : Offset → Fit → Scored
+  unfoldable pub neighbour : Offset → Fit → Option Fit
   neighbour o best =
       let theta1 = best.theta1 ⊕ o.d0 in
       let theta2 = best.theta2 ⊕ o.d1 in
@@ -52,9 +50,9 @@ module _ (D : DiskData) (total : Float) where
       (axis_row D.n D.xs D.ys theta2 best.width)
 
 -- an answer that is better becomes the best
-unfoldable pub better_of : Scored → Fit → Fit
-better_of Nothing best = best
-better_of (Found fit) best = cond (fit_is_better fit best) fit best
+unfoldable pub better_of : Option Fit → Fit → Fit
+better_of None best = best
+better_of (Some fit) best = cond (fit_is_better fit best) fit best
 
 unfoldable pub tried : DiskData → Float → Offset → Fit → Fit
 tried D total o best = better_of (neighbour D total o best) best
@@ -74,7 +72,7 @@ unfoldable pub refine_fit_cached : DiskData → Fit → Refined
 refine_fit_cached D seed = record { best = best_after D seed (length offsets); trials = length offsets }
 
 -- what the scorings answer, each around the best of its moment
-unfoldable pub answers : DiskData → Fit → List Scored
+unfoldable pub answers : DiskData → Fit → List (Option Fit)
 answers D seed =
     let total = edge_weight_total D.n D.grad_weights in
     tab (λ t. neighbour D total (get_or offsets t nowhere) (best_after D seed t)) (length offsets)

@@ -16,12 +16,13 @@ use Rattle.floats.specs.RemLaws.{nought_val}
 use Rattle.remainders.specs.RemainderLaws.{same_val}
 use Rattle.loops.proofs.TabLaws.{Stores, tab_length, tab_at, tab_same, part_length, stores_all}
 use Rattle.floats.specs.Rows.{Row, at}
-use Rattle.data.specs.Data.{disk_of, max_tanh_pixels, row_of}
+use Rattle.data.specs.Data.{DiskData, disk_of, max_tanh_pixels, row_of}
 use Rattle.data.specs.RowLaws.{lent, Wrote, wrote}
 use Rattle.score_edges.specs.Edges.{refined_sum}
 use Rattle.score.specs.Score.{axis_row}
+use Rattle.search_rows.specs.declared.Slot.{Slot}
 use Rattle.search_rows.specs.declared.Slots.{Slots}
-use Rattle.search_rows.specs.Rows.{AxisRows, build_axis_rows, rows_of, rows_room, RowFilled, no_slots, is_same, held_slots, held_rows}
+use Rattle.search_rows.specs.Rows.{AxisRows, build_axis_rows, rows_of, rows_room, RowFilled, no_slot, beyond, key_at, is_same, held_slots, held_rows, no_slots}
 use Rattle.search_rows.specs.Rows.{Stands, SlotsKept, SlotHeld}
 
 -- ---- above 0 equal numbers are one value
@@ -141,12 +142,12 @@ module _ {xs ys : Row} {base width : Float} {offsets : Row} where
 -- ---- the slots
 -- six keys of 0 mark six empty slots
 pub kept_none :
-    {xs ys angles weights : Row} {width : Float} (total : Float) (rows : Row) → length rows ≡ rows_room →
-    SlotsKept xs ys angles weights width (no_slots total) rows
+    {D : DiskData} {width : Float} (total : Float) (rows : Row) → length rows ≡ rows_room →
+    SlotsKept D width (no_slots total) rows
 unfolding lt of_bits
-kept_none total rows m = record { keys = refl; edges = refl; room = m; slot = λ q b l. absurd (false≢true (sym (never q) ∙ l)) }
+kept_none total rows m = record { places = refl; room = m; slot = λ q b l. absurd (false≢true (sym (never q) ∙ l)) }
   where
-    never : (q : ℕ) → lt nought (at (replicate 6 nought) q) ≡ false
+    never : (q : ℕ) → lt nought (get_or (replicate 6 no_slot) q beyond).key ≡ false
     never zero = refl
     never (suc zero) = refl
     never (suc (suc zero)) = refl
@@ -155,11 +156,11 @@ kept_none total rows m = record { keys = refl; edges = refl; room = m; slot = λ
     never (suc (suc (suc (suc (suc zero))))) = refl
     never (suc (suc (suc (suc (suc (suc q)))))) = refl
 
-module _ {xs ys angles weights : Row} {theta width : Float} {slots : Slots} {rows : Row} where
+module _ {D : DiskData} {theta width : Float} {slots : Slots} {rows : Row} where
   -- slot q has theta already
   pub held_here :
-      (q : ℕ) → q < 6 → SlotsKept xs ys angles weights width slots rows → is_same (at slots.keys q) theta ≡ true →
-      (at slots.keys q ≡ theta) × (lt nought theta ≡ true) → SlotHeld xs ys angles weights theta width slots rows slots rows q
+      (q : ℕ) → q < 6 → SlotsKept D width slots rows → is_same (key_at slots q) theta ≡ true →
+      (key_at slots q ≡ theta) × (lt nought theta ≡ true) → SlotHeld D theta width slots rows slots rows q
   unfolding held_slots held_rows
   held_here q b h t e =
       record {
@@ -167,17 +168,17 @@ module _ {xs ys angles weights : Row} {theta width : Float} {slots : Slots} {row
         rows_are = rw t;
         total = refl;
         kept = h;
-        here = subst (λ (t : Float). Stands xs ys angles weights t width slots rows q) e.0
+        here = subst (λ (t : Float). Stands D t width slots rows q) e.0
             (h.slot q b (subst (λ (t : Float). lt nought t ≡ true) (sym e.0) e.1));
         still = λ j t l o s. s;
       }
 
   -- slot q was filled
   pub held_filled :
-      {rows' : Row} (edge : Float) (q : ℕ) → q < 6 → SlotsKept xs ys angles weights width slots rows → is_same (at slots.keys q) theta ≡ false →
-      edge ≡ refined_sum (length xs) angles weights theta → RowFilled (length xs) q (axis_row (length xs) xs ys theta width) rows rows' →
-      SlotHeld xs ys angles weights theta width slots rows
-      (record { keys = set slots.keys q theta; edges = set slots.edges q edge; total = slots.total }) rows' q
+      {rows' : Row} (edge : Float) (q : ℕ) → q < 6 → SlotsKept D width slots rows → is_same (key_at slots q) theta ≡ false →
+      edge ≡ refined_sum D.n D.grad_angles D.grad_weights theta → RowFilled D.n q (axis_row D.n D.xs D.ys theta width) rows rows' →
+      SlotHeld D theta width slots rows
+      (record { held = set slots.held q (record { key = theta; edge = edge }); total = slots.total }) rows' q
   unfolding held_slots held_rows
   held_filled {rows'} edge q b h t e f =
       record {
@@ -185,8 +186,7 @@ module _ {xs ys angles weights : Row} {theta width : Float} {slots : Slots} {row
         rows_are = rw t f.is;
         total = refl;
         kept = record {
-          keys = length-set slots.keys q theta ∙ h.keys;
-          edges = length-set slots.edges q edge ∙ h.edges;
+          places = length-set slots.held q slot_new ∙ h.places;
           room = f.room ∙ h.room;
           slot = λ j l g. slot j l g;
         };
@@ -194,32 +194,41 @@ module _ {xs ys angles weights : Row} {theta width : Float} {slots : Slots} {row
         still = still;
       }
     where
-      new : Slots
-      new = record { keys = set slots.keys q theta; edges = set slots.edges q edge; total = slots.total }
+      slot_new : Slot
+      slot_new = record { key = theta; edge = edge }
 
-      here : Stands xs ys angles weights theta width new rows' q
+      new : Slots
+      new = record { held = set slots.held q slot_new; total = slots.total }
+
+      same : get_or new.held q beyond ≡ slot_new
+      same = get_or-set_same slots.held q slot_new beyond (omega (arith, h.places))
+
+      other : (j : ℕ) → (j ≡ q → ⊥) → get_or new.held j beyond ≡ get_or slots.held j beyond
+      other j o = get_or-set_other slots.held q j slot_new beyond o
+
+      here : Stands D theta width new rows' q
       here =
           record {
-            key = get_or-set_same slots.keys q theta nan (omega (arith, h.keys));
+            key = ap (λ (x : Slot). x.key) same;
             row = filled_here f b;
-            edge = get_or-set_same slots.edges q edge nan (omega (arith, h.edges)) ∙ e;
+            edge = ap (λ (x : Slot). x.edge) same ∙ e;
           }
 
       still :
-          (j : ℕ) (t : Float) → j < 6 → (j ≡ q → ⊥) → Stands xs ys angles weights t width slots rows j →
-          Stands xs ys angles weights t width new rows' j
+          (j : ℕ) (t : Float) → j < 6 → (j ≡ q → ⊥) → Stands D t width slots rows j →
+          Stands D t width new rows' j
       still j t l o s =
           record {
-            key = get_or-set_other slots.keys q j theta nan o ∙ s.key;
+            key = ap (λ (x : Slot). x.key) (other j o) ∙ s.key;
             row = filled_other f j l o ∙ s.row;
-            edge = get_or-set_other slots.edges q j edge nan o ∙ s.edge;
+            edge = ap (λ (x : Slot). x.edge) (other j o) ∙ s.edge;
           }
 
-      slot : (j : ℕ) → j < 6 → lt nought (at new.keys j) ≡ true → Stands xs ys angles weights (at new.keys j) width new rows' j
+      slot : (j : ℕ) → j < 6 → lt nought (key_at new j) ≡ true → Stands D (key_at new j) width new rows' j
       slot j l g = elim (same_or_not j q) [
-        | inl i ↦ subst (λ (k : ℕ). Stands xs ys angles weights (at new.keys k) width new rows' k) (sym i)
-            (subst (λ (t : Float). Stands xs ys angles weights t width new rows' q) (sym here.key) here)
-        | inr o ↦ let k = get_or-set_other slots.keys q j theta nan o in
-            subst (λ (t : Float). Stands xs ys angles weights t width new rows' j) (sym k)
+        | inl i ↦ subst (λ (k : ℕ). Stands D (key_at new k) width new rows' k) (sym i)
+            (subst (λ (t : Float). Stands D t width new rows' q) (sym here.key) here)
+        | inr o ↦ let k = ap (λ (x : Slot). x.key) (other j o) in
+            subst (λ (t : Float). Stands D t width new rows' j) (sym k)
             (still j _ l o (h.slot j l (subst (λ (t : Float). lt nought t ≡ true) k g)))
       ]

@@ -6,17 +6,21 @@ use Rattle.candidates.specs.Candidates as C
 use borrow.Author.Rules.{rules}
 use Rattle.candidates.proofs.around.Goals as goal
 
-pub loop-k-init : goal.loop-k-init
-loop-k-init c = (search rules, omega arith, search rules, rw iter_zero)
+pub loop-off_deg-init : goal.loop-off_deg-init
+loop-off_deg-init c = (search rules, omega arith, search rules, rw iter_zero)
 
-pub loop-k-preserved : goal.loop-k-preserved
+pub push_unique-candidates-requires : goal.push_unique-candidates-requires
+push_unique-candidates-requires c = let i = c.loop-off_deg.invariant in omega arith
+
+pub loop-off_deg-preserved : goal.loop-off_deg-preserved
 unfolding C.offset
-loop-k-preserved c =
-    let e = c.loop-k.invariant.3 in
+loop-off_deg-preserved c =
+    let i = c.loop-off_deg.invariant in
     let off = c.to_radians-off.ensures in
     let sep = c.to_radians.ensures in
-    (search rules, omega arith, search rules, iter_more _ _ _ _ _ e (rw (← off, ← sep) c.push_unique-candidates.ensures.2))
+    let push = c.push_unique-candidates.ensures in
+    (search rules, omega arith, search rules, iter_more _ _ _ _ _ i.3 (rw (← off, ← sep) push.2))
 
 pub returns : goal.returns
 unfolding C.around
-returns c = let h : c.loop-k.k ≡ 5 = omega arith in (omega arith, rw h at c.loop-k.invariant.3)
+returns c = let h : c.loop-off_deg.off_deg-index ≡ 5 = omega arith in (omega arith, rw h at c.loop-off_deg.invariant.3)

@@ -1,14 +1,11 @@
 -- A push for each of the five offsets. Assumes nothing.
 use mathlib.Core.Path.{◌≡◌}
-use Prim.Native.Nat.{◌≤◌, ◌+◌, ◌-◌}
+use Prim.Native.Nat.{◌≤◌, ◌+◌}
 use Rattle.loops.specs.Loops.{iter}
 use Rattle.candidates.specs.Candidates as C
 use Rattle.candidates.proofs.around.Given as goal
 
-abbrev pub invariant-loop-k : goal.invariant-loop-k
-invariant-loop-k l =
-    (l.k ≤ 5) × (l.candidates.n ≤ l.initial.candidates.n + l.k) × (l.initial.candidates.n ≤ 32)
-    × (l.candidates ≡ iter (C.offset l.seed) l.initial.candidates l.k)
-
-abbrev pub decreases-loop-k : goal.decreases-loop-k
-decreases-loop-k l = 5 - l.k
+abbrev pub invariant-loop-off_deg : goal.invariant-loop-off_deg
+invariant-loop-off_deg l =
+    (l.off_deg-index ≤ 5) × (l.candidates.n ≤ l.initial.candidates.n + l.off_deg-index) × (l.initial.candidates.n ≤ 32)
+    × (l.candidates ≡ iter (C.offset l.seed) l.initial.candidates l.off_deg-index)

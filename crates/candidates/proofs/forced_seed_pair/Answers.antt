@@ -7,18 +7,19 @@ pub returns-then-candidates-lt2 : goal.returns-then-candidates-lt2
 unfolding C.forced_seed_pair
 returns-then-candidates-lt2 c = rw (lt-ltb _ _ c.if-candidates-lt2.true)
 
-pub returns-in_default : goal.returns-in_default
+pub returns-in_err-i : goal.returns-in_err-i
 unfolding C.forced_seed_pair C.both_closest
-returns-in_default c =
-    rw (le-ltb _ _ c.if-candidates-lt2.false, ← c.closest_candidate.ensures, c.in_default.is)
+returns-in_err-i c =
+    rw (le-ltb _ _ c.if-candidates-lt2.false, ← c.closest_candidate.ensures, c.in_err-i.was) c.from_residual.ensures
 
-pub returns-in_default-closest_candidate : goal.returns-in_default-closest_candidate
+pub returns-in_err-j : goal.returns-in_err-j
 unfolding C.forced_seed_pair C.both_closest
-returns-in_default-closest_candidate c =
-    rw (le-ltb _ _ c.if-candidates-lt2.false, ← c.closest_candidate.ensures, c.in-At.is, ← c.closest_candidate-2.ensures, c.in_default-closest_candidate.is)
+returns-in_err-j c =
+    rw (le-ltb _ _ c.if-candidates-lt2.false, ← c.closest_candidate.ensures, c.in_ok-i.was, ← c.closest_candidate-2.ensures, c.in_err-j.was)
+    c.from_residual-in_err-j.ensures
 
 pub returns : goal.returns
 unfolding C.forced_seed_pair C.both_closest
 returns c =
-    rw (le-ltb _ _ c.if-candidates-lt2.false, ← c.closest_candidate.ensures, c.in-At.is, ← c.closest_candidate-2.ensures, c.in-At-closest_candidate.is)
+    rw (le-ltb _ _ c.if-candidates-lt2.false, ← c.closest_candidate.ensures, c.in_ok-i.was, ← c.closest_candidate-2.ensures, c.in_ok-j.was)
     c.ordered.ensures

@@ -1,14 +1,14 @@
--- The loop keeps the bins so far. Assumes nothing.
+-- The loop keeps the bins so far, and each iterator has the rest of its slice. Assumes nothing.
 use mathlib.Core.Path.{◌≡◌}
-use Prim.Native.Nat.{◌≤◌, ◌-◌}
-use lib.ListN.{length}
-use Rattle.floats.specs.Library.{hist_bins}
+use Prim.Native.Nat.{◌≤◌}
+use lib.ListN.{length, drop}
 use Rattle.loops.specs.Loops.{iter}
+use Rattle.floats.specs.Library.{hist_bins}
 use Rattle.candidates.specs.Candidates as C
 use Rattle.candidates.proofs.histogram.Given as goal
 
-abbrev pub invariant-loop-i : goal.invariant-loop-i
-invariant-loop-i l = (l.i ≤ l.n) × (length l.hist ≡ hist_bins) × (l.hist ≡ iter (C.binned l.grad_angles l.grad_weights) l.initial.hist l.i)
-
-abbrev pub decreases-loop-i : goal.decreases-loop-i
-decreases-loop-i l = l.n - l.i
+abbrev pub invariant-loop-angle : goal.invariant-loop-angle
+invariant-loop-angle l =
+    let k = length l.yielded in (k ≤ length l.grad_angles) × (length l.hist ≡ hist_bins)
+    × (l.angle-iterator.a.rest.now ≡ drop k l.grad_angles) × (l.angle-iterator.b.rest.now ≡ drop k l.grad_weights)
+    × (l.hist ≡ iter (C.binned l.grad_angles l.grad_weights) l.initial.hist k)

@@ -1,16 +1,16 @@
 -- No pair matches nothing; a pair is tested place by place. Assumes nothing.
-use borrow.Author.Tests.{eq-eqb, ne_eqb}
+use mathlib.Core.Path.{◌≡◌, ◌∙◌, refl}
+use Prim.Native.Nat.{ℕ}
+use Rattle.std.specs.Prelude.{Some, None, eqb, ◌&&◌}
+use Rattle.std.specs.Option.{option_eq}
 use Rattle.candidates.specs.Candidates as C
 use Rattle.candidates.proofs.matches_pair.Goals as goal
 
-pub returns-in_default : goal.returns-in_default
+pub returns : goal.returns
 unfolding C.matches_pair
-returns-in_default c = rw c.in_default.is
-
-pub returns-then-fi-i : goal.returns-then-fi-i
-unfolding C.matches_pair
-returns-then-fi-i c = rw (c.in-Pair.is, eq-eqb _ _ c.if-fi-i.true)
-
-pub returns-else-fi-i : goal.returns-else-fi-i
-unfolding C.matches_pair
-returns-else-fi-i c = rw (c.in-Pair.is, ne_eqb _ _ c.if-fi-i.false)
+returns c = c.eq.ensures ∙ either c.args.forced
+  where
+    either :
+        (f : C.Forced) → option_eq (λ (x y : ℕ × ℕ). eqb x.0 y.0 && eqb x.1 y.1) f (Some (c.args.i, c.args.j)) ≡ C.matches_pair f c.args.i c.args.j
+    either None = refl
+    either (Some f) = refl

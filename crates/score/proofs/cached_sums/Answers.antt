@@ -9,7 +9,7 @@ use Rattle.score.proofs.cached_sums.Goals as goal
 
 pub loop-p-init : goal.loop-p-init
 unfolding S.cached_sums
-loop-p-init c = (search rules, rw iter_zero)
+loop-p-init c = (search rules, rw (iter_zero) (search rules))
 
 pub loop-p-preserved : goal.loop-p-preserved
 unfolding S.cached_sums S.pixel_summed

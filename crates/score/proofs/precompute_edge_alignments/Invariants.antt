@@ -1,6 +1,6 @@
 -- A disk without weight is left as it is; otherwise the loop stores a sum a turn. Assumes nothing.
 use mathlib.Core.Path.{◌≡◌}
-use Prim.Native.Nat.{◌≤◌, ◌-◌}
+use Prim.Native.Nat.{◌≤◌}
 use lib.ListN.{length}
 use Rattle.loops.proofs.TabLaws.{Stores}
 use Rattle.floats.specs.Rows.{at}
@@ -8,8 +8,5 @@ use Rattle.score_edges.specs.Edges.{ranked_sum}
 use Rattle.score.proofs.precompute_edge_alignments.Given as goal
 
 abbrev pub invariant-loop-c : goal.invariant-loop-c
-invariant-loop-c l = (l.c ≤ l.n) × (length l.terms ≡ length l.initial.terms)
-    × Stores (λ k. ranked_sum (length l.grad_angles) l.grad_angles l.grad_weights (at l.candidates.angles k)) l.initial.out l.out l.c
-
-abbrev pub decreases-loop-c : goal.decreases-loop-c
-decreases-loop-c l = l.n - l.c
+invariant-loop-c l = (l.c ≤ l.candidates.n) × (length l.terms ≡ length l.initial.terms)
+    × Stores (λ k. ranked_sum (length l.d.grad_angles.now) l.d.grad_angles.now l.d.grad_weights.now (at l.candidates.angles k)) l.initial.out l.out l.c

@@ -1,16 +1,16 @@
 -- Both tests hold, or one of them does not. Assumes nothing.
+use mathlib.Core.Path.{◌≡◌, ◌∙◌, refl}
+use mathlib.Core.Bool.{Bool, true, false, not, ◌&&◌}
+use mir.Val.{bool_byte}
+use Rattle.std.specs.Prelude.{cond}
 use Rattle.score_edges.specs.NearLaws as N
 use Rattle.score_edges.proofs.far.Goals as goal
-use Rattle.score_edges.proofs.far.Goals.{else-x-via-then-x+else-x-2, else-x-via-else-x}
 
-pub returns-then-x-2 : goal.returns-then-x-2
-unfolding N.far_count
-returns-then-x-2 c = rw (c.if-x.true, c.if-x-2.true)
+counted : (b c : Bool) → bool_byte (not (b && c)) ≡ cond b (cond c 0 1) 1
+counted true true = refl
+counted true false = refl
+counted false c = refl
 
 pub returns : goal.returns
 unfolding N.far_count
-returns c =
-    elim c.else-x.branch [
-      | else-x-via-then-x+else-x-2 w ↦ rw (w.if-x.true, w.if-x-2.false)
-      | else-x-via-else-x w ↦ rw w.if-x.false
-    ]
+returns c = c.from.ensures ∙ counted _ _

@@ -7,13 +7,13 @@ use Rattle.score_edges.specs.Edges as E
 use borrow.Author.Rules.{rules}
 use Rattle.score_edges.proofs.ordered_sum.Goals as goal
 
-pub loop-p-init : goal.loop-p-init
+pub loop-term-init : goal.loop-term-init
 unfolding E.ordered_sum
-loop-p-init c = (search rules, rw iter_zero)
+loop-term-init c = (search rules, rw iter_zero)
 
-pub loop-p-preserved : goal.loop-p-preserved
+pub loop-term-preserved : goal.loop-term-preserved
 unfolding E.ordered_sum
-loop-p-preserved c = (search rules, rw iter_next (cc))
+loop-term-preserved c = (search rules, rw iter_next (cc))
 
 pub returns : goal.returns
-returns c = let h : c.loop-p.p ≡ length c.args.row.now = omega arith in rw h at c.loop-p.invariant.1
+returns c = let h : c.loop-term.term-index ≡ length c.args.row.now = omega arith in rw h at c.loop-term.invariant.1

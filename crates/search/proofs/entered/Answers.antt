@@ -1,12 +1,15 @@
 -- A match, and one trial more in either case. Assumes nothing.
+use mathlib.Core.Path.{refl}
 use Rattle.search.specs.Search as S
-use borrow.Author.Rules.{rules}
 use Rattle.search.proofs.entered.Goals as goal
-
-pub returns-in_default : goal.returns-in_default
-unfolding S.entered
-returns-in_default c = (search rules, rw c.in_default.is)
+use Rattle.search.proofs.entered.Goals.{in-Some, in-None}
 
 pub returns : goal.returns
 unfolding S.entered
-returns c = (search rules, rw (c.in-Found.is, c.insert_top.ensures))
+returns c = (
+  refl,
+  elim c.match-answer.branch [
+    | in-Some w ↦ rw (w.in-Some.is, w.top-is, w.insert_top-top.ensures)
+    | in-None w ↦ rw (w.in-None.is, w.top-is)
+  ],
+)

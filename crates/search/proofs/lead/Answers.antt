@@ -9,7 +9,7 @@ use Rattle.search.proofs.lead.Goals as goal
 pub overflow_add-trials : goal.overflow_add-trials
 overflow_add-trials c =
     let e = ap (λ (r : Refined). r.trials) c.refine_fit_cached-refined.ensures ∙ refine_trials _ _ in
-    record { fits = omega (arith, e, c.requires.0) }
+    record { fits = omega (arith, e, c.requires) }
 
 pub returns-then-fit_is_better : goal.returns-then-fit_is_better
 unfolding S.lead

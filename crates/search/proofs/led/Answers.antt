@@ -1,5 +1,4 @@
 -- No leader, one or two. Assumes nothing.
-use native.Mathlib.Omega.{arith}
 use Rattle.search.specs.Search as S
 use Rattle.search.proofs.led.Goals as goal
 
@@ -9,14 +8,8 @@ returns-in_default c = rw c.in_default.is
 
 pub returns-in_default-second : goal.returns-in_default-second
 unfolding S.led S.first_led S.second_led
-returns-in_default-second c =
-    rw (c.in-Found.is, c.in_default-second.is, ← c.lead-a.ensures.1)
-
-pub lead-b-requires : goal.lead-b-requires
-lead-b-requires c =
-    (omega (arith, c.lead-a.ensures.0, c.requires.0), c.requires.1)
+returns-in_default-second c = rw (c.in-Some.is, c.in_default-second.is, ← c.lead-a.ensures.1)
 
 pub returns : goal.returns
 unfolding S.led S.first_led S.second_led
-returns c =
-    rw (c.in-Found.is, c.in-Found-second.is, ← c.lead-a.ensures.1, ← c.lead-b.ensures.1)
+returns c = rw (c.in-Some.is, c.in-Some-second.is, ← c.lead-a.ensures.1, ← c.lead.ensures.1)

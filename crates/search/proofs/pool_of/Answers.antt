@@ -6,11 +6,10 @@ use Rattle.search.proofs.pool_of.Goals as goal
 
 pub returns : goal.returns
 unfolding S.pool_of
-returns c = (
-  c.build_pair_pool.ensures.0,
-  λ energy xs ys vals l.
-      let e = c.precompute_edge_alignments-grad_total.ensures energy xs ys vals l in
-      let seed = c.forced_seed_pair-force_seed.ensures in
-      let hist = c.forced_histogram_pair-force_hist.ensures in
+returns c =
+    let e = c.precompute_edge_alignments-grad_total.ensures in
+    let seed = c.forced_seed_pair-force_seed.ensures in
+    let hist = c.forced_histogram_pair-force_hist.ensures in (
+      c.build_pair_pool.ensures.0,
       rw (← ap (λ (z : Alignments). z.out) e, ← ap (λ (z : Alignments). z.total) e, ← seed, ← hist) c.build_pair_pool.ensures.1,
-)
+    )

@@ -8,10 +8,10 @@ use Rattle.search.proofs.score_cached.Goals as goal
 
 pub returns : goal.returns
 unfolding cached_score
-returns c = λ xs ys angles weights l.
-    let n = length c.args.vals_centered.now in
+returns c =
+    let n = length c.args.d.xs.now in
     let i = c.args.p.i in
     let j = c.args.p.j in
     let x : i * 320 + n - i * 320 ≡ n = omega arith in
     let y : j * 320 + n - j * 320 ≡ n = omega arith in
-    rw l (rw (x, y, l) at (c.score_pair_cached.ensures xs ys angles weights l))
+    rw (x, y) at c.score_pair_cached.ensures

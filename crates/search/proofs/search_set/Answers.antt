@@ -1,7 +1,7 @@
 -- The pool, its ranking, the trials and the leaders; the ranking names the pool's own candidates. Assumes nothing.
-use mathlib.Core.Path.{sym}
 use native.Mathlib.Omega.{arith}
 use borrow.Author.Tests.{eq-eqb, ne_eqb}
+use Rattle.data.specs.Disk.{the_disk}
 use Rattle.search_ranking.specs.SinkLaws.{rank_most, rank_pairs}
 use Rattle.search.specs.Search as S
 use Rattle.search.specs.CacheLaws.{listed}
@@ -9,26 +9,17 @@ use Rattle.search.proofs.search_set.Goals as goal
 
 pub returns-then-pool-eq0 : goal.returns-then-pool-eq0
 unfolding S.searched
-returns-then-pool-eq0 c =
-    let a = c.args in
-    let e = c.pool_of-pool.ensures.1 a.val_energy a.xs.now a.ys.now a.vals_centered.now (sym c.requires.2.a) in
-    rw (← e, eq-eqb _ _ c.if-pool-eq0.true)
+returns-then-pool-eq0 c = rw (← c.pool_of-pool.ensures.1, eq-eqb _ _ c.if-pool-eq0.true)
 
-pub try_all-leaders-requires : goal.try_all-leaders-requires
-try_all-leaders-requires c =
-    let a = c.args in
-    let z = c.requires.2 in
-    let e = c.pool_of-pool.ensures.1 a.val_energy a.xs.now a.ys.now a.vals_centered.now (sym z.a) in
-    (listed _ _ _ _ _ _ c.requires.0 c.requires.1 e c.rank-ranked.ensures, record { most = z.most; y = z.y; v = z.v })
+pub try_all-requires : goal.try_all-requires
+try_all-requires c =
+    listed (the_disk c.args.d) _ _ _ _ _ c.requires.0 c.requires.1 c.pool_of-pool.ensures.1 c.rank-ranked.ensures
 
 pub led-requires : goal.led-requires
-led-requires c =
-    (omega (arith, c.try_all-leaders.ensures.0, rank_most _ _ c.rank-ranked.ensures), c.requires.2)
+led-requires c = omega (arith, c.try_all.ensures.0, rank_most _ _ c.rank-ranked.ensures)
 
 pub returns : goal.returns
 unfolding S.searched
 returns c =
-    let a = c.args in
-    let e = c.pool_of-pool.ensures.1 a.val_energy a.xs.now a.ys.now a.vals_centered.now (sym c.requires.2.a) in
-    let l = c.try_all-leaders.ensures.1 a.grad_angles.now a.grad_weights.now in
-    rw (← e, ne_eqb _ _ c.if-pool-eq0.false, ← rank_pairs _ _ c.rank-ranked.ensures, ← l) c.led.ensures
+    let pool = c.pool_of-pool.ensures.1 in
+    rw (← pool, ne_eqb _ _ c.if-pool-eq0.false, ← rank_pairs _ _ c.rank-ranked.ensures, ← c.try_all.ensures.1) c.led.ensures

@@ -1,18 +1,18 @@
--- Nothing, a better fit or another: each has its own return, and each is a trial. Assumes nothing.
+-- A better fit, another or none: each way is the definition's, and each is a trial. Assumes nothing.
+use mathlib.Core.Path.{refl}
 use Rattle.search_refine.specs.Refine.{better_of}
-use borrow.Author.Rules.{rules}
 use Rattle.search_refine.proofs.judge.Goals as goal
-
-pub returns-in_default : goal.returns-in_default
-unfolding better_of
-returns-in_default c = (search rules, rw c.in_default.is)
-
-pub returns-then-fit_is_better : goal.returns-then-fit_is_better
-unfolding better_of
-returns-then-fit_is_better c =
-    (search rules, rw (c.in-Found.is, ← c.fit_is_better.ensures, c.if-fit_is_better.true))
+use Rattle.search_refine.proofs.judge.Goals.{in-Some, in_default, in_default-via-in-Some+else-fit_is_better, in_default-via-in_default}
 
 pub returns : goal.returns
 unfolding better_of
-returns c =
-    (search rules, rw (c.in-Found.is, ← c.fit_is_better.ensures, c.if-fit_is_better.false))
+returns c = (
+  refl,
+  elim c.match-answer.branch [
+    | in-Some w ↦ rw (w.in-Some.is, ← w.fit_is_better.ensures, w.if-fit_is_better.true) w.best-is
+    | in_default w ↦ elim w.in_default.branch [
+      | in_default-via-in-Some+else-fit_is_better v ↦ rw (v.in-Some.is, ← v.fit_is_better.ensures, v.if-fit_is_better.false) w.best-is
+      | in_default-via-in_default v ↦ rw v.in_default.is w.best-is
+    ]
+  ],
+)

@@ -2,6 +2,7 @@
 use mathlib.Core.Path.{◌≡◌, ◌∙◌}
 use native.Mathlib.Omega.{arith}
 use Rattle.loops.proofs.IterLaws.{iter_zero, iter_more}
+use Rattle.data.specs.Disk.{the_disk}
 use Rattle.search_rows.specs.RowsLaws.{kept_none}
 use Rattle.search_refine.specs.Refine.{neighbours}
 use Rattle.search_refine.proofs.TurnLaws.{refined_is}
@@ -10,12 +11,12 @@ use Rattle.search_refine.proofs.refine_fit_cached.Goals as goal
 
 pub loop-t-init : goal.loop-t-init
 loop-t-init c =
-    (search rules, search rules, rw c.no_slots.ensures, rw c.no_slots.ensures (kept_none _ _ c.requires.1), rw iter_zero)
+    (search rules, search rules, rw c.no_slots.ensures, rw c.no_slots.ensures (kept_none _ _ c.requires), rw iter_zero)
 
 pub try_neighbour-turn-requires : goal.try_neighbour-turn-requires
 try_neighbour-turn-requires c =
     let i = c.loop-t.invariant in
-    (search rules, omega (arith, i.1), c.requires.0, i.3)
+    (search rules, omega (arith, i.1), i.3)
 
 pub loop-t-preserved : goal.loop-t-preserved
 loop-t-preserved c =
@@ -27,6 +28,5 @@ pub returns : goal.returns
 returns c =
     let h : c.loop-t.t ≡ neighbours = omega arith in
     let i = rw h at c.loop-t.invariant in
-    let a = c.args in
-    refined_is a.val_energy a.xs.now a.ys.now a.vals_centered.now a.grad_angles.now a.grad_weights.now _ a.seed _
-    c.edge_weight_total-total.ensures c.requires.0.w i.1 i.4
+    let d = c.args.d in
+    refined_is (the_disk d) _ c.args.seed _ c.edge_weight_total-total.ensures d.sized.w i.1 i.4

@@ -16,7 +16,8 @@ loop-k-preserved c =
     (search rules, built_more (search rules) i.1 f.1, stores_next _ _ _ _ _ i.2 f.0)
 
 pub returns : goal.returns
-returns c = λ energy vals.
+returns c =
+    let d = c.args.d in
     let h : c.loop-k.k ≡ 3 = omega arith in
     let i = rw h at c.loop-k.invariant in
-    built_all energy vals _ _ i.1 i.2 refl
+    built_all d.val_energy d.vals_centered.now _ _ i.1 i.2 refl

@@ -1,23 +1,29 @@
 -- A search: nothing near among those passed, and the early return cites near-found. Assumes nothing.
-use mathlib.Core.Path.{◌≡◌}
-use native.Mathlib.Omega.{arith}
+use mathlib.Core.Path.{◌≡◌, sym}
+use Prim.Native.Nat.{◌<◌}
+use lib.Ieee.{nan}
+use Rattle.std.proofs.lemmas.List.{get_or-take}
 use Rattle.loops.proofs.IterLaws.{iter_zero}
 use Rattle.candidates.specs.Candidates as C
 use Rattle.candidates.specs.CandidatesLaws.{near_not, near_found}
 use borrow.Author.Rules.{rules}
 use Rattle.candidates.proofs.CandidateSet.is_near.Goals as goal
 
-pub loop-i-init : goal.loop-i-init
+pub loop-kept-init : goal.loop-kept-init
 unfolding C.is_near
-loop-i-init c = (search rules, rw iter_zero)
+loop-kept-init c = (search rules, rw iter_zero)
 
 pub returns-then-line_delta-min_sep : goal.returns-then-line_delta-min_sep
 returns-then-line_delta-min_sep c =
-    near_found _ _ _ _ c.loop-i.invariant.1 _ c.loop-i-test.true (rw c.line_delta.ensures.value at c.if-line_delta-min_sep.true)
+    let a = c.args.self in
+    let i : c.loop-kept.kept-index < a.n = search rules in
+    near_found _ _ _ _ c.loop-kept.invariant.1 _ i (rw (c.line_delta.ensures.value, get_or-take a.n a.angles _ nan i) at c.if-line_delta-min_sep.true)
 
-pub loop-i-preserved : goal.loop-i-preserved
-loop-i-preserved c =
-    (search rules, near_not _ _ _ _ c.loop-i.invariant.1 (rw c.line_delta.ensures.value at c.if-line_delta-min_sep.false))
+pub loop-kept-preserved : goal.loop-kept-preserved
+loop-kept-preserved c =
+    let a = c.args.self in
+    let i : c.loop-kept.kept-index < a.n = search rules in
+    (search rules, near_not _ _ _ _ c.loop-kept.invariant.1 (rw (c.line_delta.ensures.value, get_or-take a.n a.angles _ nan i) at c.if-line_delta-min_sep.false))
 
 pub returns : goal.returns
-returns c = let h : c.loop-i.i ≡ c.args.self.n = omega arith in cc
+returns c = let h : c.loop-kept.kept-index ≡ c.args.self.n = search rules in rw h at (sym c.loop-kept.invariant.1)
