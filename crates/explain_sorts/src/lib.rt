@@ -3,146 +3,131 @@
 #![tactic(auto)]
 
 ghost use Rattle.std.specs.Prelude.{◌≡◌, ◌+◌, ◌*◌, ◌≤◌, ◌<◌, length};
-ghost use Rattle.shapes.specs.Shapes.{fit_length};
+ghost use Rattle.shapes.specs.Shapes.{ShapeSized, fit_length};
 ghost use Rattle.explain_sorts.specs.Sorts as S;
 
-use shapes::{Fault, Shape};
+use shapes::{Fault, Kind, RingKind, Shape};
 
-// A refusal's type, number and place.
+// A refusal: of a frame of its kind, or of a malformed line; its number and its place.
 #[derive(Clone, Copy)]
 pub struct Refusal {
-    pub kind: u32,
+    pub kind: Option<Kind>,
     pub number: u32,
-    pub place: u32,
+    pub place: u16,
 }
 
-// What is wrong with a line that is neither a frame nor an answer: the reason, and what it speaks of, a
-// type, a number of refusal, a count of pixels.
+// What is wrong with a line that is neither a frame nor an answer: as a frame it is malformed, or of a type
+// that there is not; as an answer, of a kind or of a malformed line, it has not its length, or it is as long
+// as a fit with a number of refusal, or has a number that there is not, or one that its type has not.
 #[derive(Clone, Copy)]
-pub struct Wrong {
-    pub why: u32,
-    pub kind: u32,
-    pub number: u32,
-    pub pixels: u32,
+pub enum Wrong {
+    Malformed(Fault),
+    UnknownType(u32),
+    AnswerLength(Option<Kind>),
+    FitNumber(u32),
+    NoNumber(u32),
+    StrangeNumber(Option<Kind>, u32),
 }
 
-// The reasons: as a frame a line is too long, has a character that is no digit, is too short for a type,
-// has a type that there is not, the wrong length as a ring, as a disk of no count, as a disk of its count.
-pub const TOO_LONG: u32 = 1;
-
-pub const FOREIGN: u32 = 2;
-
-pub const SHORT: u32 = 3;
-
-pub const UNKNOWN_TYPE: u32 = 4;
-
-pub const RING_LENGTH: u32 = 5;
-
-pub const DISK_SHORT: u32 = 6;
-
-pub const DISK_LENGTH: u32 = 7;
-
-// By its type it is an answer, but not of its length, or as long as a fit with a number of refusal, or
-// with a number that there is not, or with one that its type has not.
-pub const ANSWER_LENGTH: u32 = 8;
-
-pub const FIT_NUMBER: u32 = 9;
-
-pub const NO_NUMBER: u32 = 10;
-
-pub const STRANGE_NUMBER: u32 = 11;
-
-// The line above an answer: its number, 0 where there is none; its type, 255 where it is malformed; a
-// disk's count of pixels; and by which number it is refused, at which place, 0 where it is not, with the
-// bits of the value there. Of a flawed answer it is not known whether it is meant as a frame: number 0.
+// What a frame asks for: the fit of a ring, or of a disk of so many pixels, a count that may be one that is
+// refused.
 #[derive(Clone, Copy)]
-pub struct Above {
+pub enum Asks {
+    Ring(RingKind),
+    Disk(u32),
+}
+
+// What it is due: a fit, or, of a disk, that nothing was found; the refusal of its count; or that of its
+// first value that is not finite, with its place and its bits.
+#[derive(Clone, Copy)]
+pub enum Due {
+    Fit,
+    BadCount,
+    Wild(u16, u32),
+}
+
+// A frame, with the number of its line.
+#[derive(Clone, Copy)]
+pub struct Frame {
     pub line: u64,
-    pub kind: u32,
-    pub pixels: u32,
-    pub number: u32,
-    pub place: u32,
-    pub bits: u32,
+    pub asks: Asks,
+    pub due: Due,
 }
 
-// A frame, whose count of pixels may be one that is refused; a fit, of its answer's type; a refusal;
+// What stands above an answer: nothing; a frame; a malformed line, by its number; or a flawed answer, of
+// which it is not known whether it is meant as a frame.
+#[derive(Clone, Copy)]
+pub enum Above {
+    Nothing,
+    Asked(Frame),
+    Malformed(u64),
+    Flawed(u64),
+}
+
+// A frame, whose count of pixels may be one that is refused; a fit, of its answer's kind; a refusal;
 // none of these.
 #[derive(Clone, Copy)]
 pub enum Sort {
-    Frame(Above),
-    Fit(u32),
+    Asked(Frame),
+    Fit(Kind),
     Refused(Refusal),
     Bad(Wrong),
 }
 
-fn bad(why: u32, kind: u32, number: u32, pixels: u32) -> Sort
-    ensures { result ≡ S.bad why kind number pixels }
-{
-    Sort::Bad(Wrong {
-        why,
-        kind,
-        number,
-        pixels,
-    })
-}
-
 // Which numbers a type has: a ring 1 and 3, a disk 1 to 4, and a malformed line 5 alone.
-fn is_of(kind: u32, number: u32) -> bool
+fn is_of(kind: Option<Kind>, number: u32) -> bool
     ensures { result ≡ S.is_of kind number }
 {
-    if (kind == 129) | (kind == 131) {
-        return (number == 1) | (number == 3);
+    match kind {
+        Some(Kind::Ring(_)) => (number == 1) | (number == 3),
+        Some(Kind::Disk) => number < 5,
+        None => number == 5,
     }
-    if kind == 130 {
-        return number < 5;
-    }
-    number == 5
 }
 
-fn refusal_sort(line: &[u8], kind: u32) -> Sort
+fn refusal_sort(line: &[u8], kind: Option<Kind>) -> Sort
     requires { 8 ≤ length line.now }
     ensures { (result ≡ S.refusal_sort line.now kind) × S.SortSound (length line.now) result }
 {
     let number = hexadecimal::byte_at(line, 2);
     let place = hexadecimal::byte_at(line, 4) * 256 + hexadecimal::byte_at(line, 6);
     if (number == 0) | (number > 5) {
-        return bad(NO_NUMBER, kind, number, 0);
+        return Sort::Bad(Wrong::NoNumber(number));
     }
     if is_of(kind, number) {
         return Sort::Refused(Refusal {
             kind,
             number,
-            place,
+            place: place as u16,
         });
     }
-    bad(STRANGE_NUMBER, kind, number, 0)
+    Sort::Bad(Wrong::StrangeNumber(kind, number))
 }
 
-// How many characters a fit of a type has.
-fn fit_size(kind: u32) -> usize
-    ensures { (4 ≤ result) × (result ≡ fit_length (S.is_disk_answer kind)) }
+// How many characters a fit of a kind has.
+fn fit_size(kind: Kind) -> usize
+    ensures { (4 ≤ result) × (result ≡ fit_length kind) }
 {
-    if kind == 130 {
-        return 98;
+    match kind {
+        Kind::Ring(_) => 60,
+        Kind::Disk => 98,
     }
-    60
 }
 
-// An answer of a type that has fits.
-fn fit_answer(line: &[u8], kind: u32) -> Sort
+// An answer of a kind that has fits.
+fn fit_answer(line: &[u8], kind: Kind) -> Sort
     ensures { (result ≡ S.fit_answer line.now kind) × S.SortSound (length line.now) result }
 {
     let n = line.len();
-    let size = fit_size(kind);
     if n == 8 {
-        return refusal_sort(line, kind);
+        return refusal_sort(line, Some(kind));
     }
-    if n != size {
-        return bad(ANSWER_LENGTH, kind, 0, 0);
+    if n != fit_size(kind) {
+        return Sort::Bad(Wrong::AnswerLength(Some(kind)));
     }
     let number = hexadecimal::byte_at(line, 2);
     if number != 0 {
-        return bad(FIT_NUMBER, kind, number, 0);
+        return Sort::Bad(Wrong::FitNumber(number));
     }
     Sort::Fit(kind)
 }
@@ -151,101 +136,71 @@ fn malformed_answer(line: &[u8]) -> Sort
     ensures { (result ≡ S.malformed_answer line.now) × S.SortSound (length line.now) result }
 {
     if line.len() == 8 {
-        return refusal_sort(line, 255);
+        return refusal_sort(line, None);
     }
-    bad(ANSWER_LENGTH, 255, 0, 0)
+    Sort::Bad(Wrong::AnswerLength(None))
 }
 
-fn answer_sort(line: &[u8], kind: u32) -> Sort
-    ensures { (result ≡ S.answer_sort line.now kind) × S.SortSound (length line.now) result }
+// A line of a type that no frame has.
+fn answer_sort(line: &[u8], answer: u32) -> Sort
+    ensures { (result ≡ S.answer_sort line.now answer) × S.SortSound (length line.now) result }
 {
-    if (kind == 129) | (kind == 131) | (kind == 130) {
-        return fit_answer(line, kind);
-    }
-    if kind == 255 {
-        return malformed_answer(line);
-    }
-    bad(UNKNOWN_TYPE, kind, 0, 0)
-}
-
-fn fault_sort(fault: Fault) -> Sort
-    ensures { result ≡ S.fault_sort fault }
-{
-    match fault {
-        Fault::TooLong => bad(TOO_LONG, 0, 0, 0),
-        Fault::Foreign => bad(FOREIGN, 0, 0, 0),
-        Fault::Short => bad(SHORT, 0, 0, 0),
-        Fault::RingLength(kind) => bad(RING_LENGTH, kind, 0, 0),
-        Fault::DiskShort => bad(DISK_SHORT, 0, 0, 0),
-        Fault::DiskLength(n) => bad(DISK_LENGTH, 0, 0, n),
+    match answer {
+        129 => fit_answer(line, Kind::Ring(RingKind::Sixteen)),
+        131 => fit_answer(line, Kind::Ring(RingKind::TwentyFour)),
+        130 => fit_answer(line, Kind::Disk),
+        255 => malformed_answer(line),
+        _ => Sort::Bad(Wrong::UnknownType(answer)),
     }
 }
 
-pub fn nothing() -> Above
-    ensures { result ≡ S.nothing }
-{
-    Above {
-        line: 0,
-        kind: 0,
-        pixels: 0,
-        number: 0,
-        place: 0,
-        bits: 0,
-    }
-}
-
-// The first of n words that is no finite value; n where each is.
-fn wild_word(line: &[u8], at: usize, n: usize) -> usize
+// The first of n words that is no finite value.
+fn wild_word(line: &[u8], at: usize, n: usize) -> Option<usize>
     requires { (n < 65536) × (at < 65536) × (at + 8 * n ≤ length line.now) }
-    ensures { (result ≤ n) × (result ≡ S.wild_word line.now at n 0) }
+    ensures { (result ≡ S.wild_word line.now at n 0) × S.WordWithin n result }
 {
     for k in 0..n {
-        let p = at + 8 * k;
-        if !floats::is_finite(hexadecimal::value_at(line, p)) {
-            return k;
+        if !floats::is_finite(hexadecimal::value_at(line, at + 8 * k)) {
+            return Some(k);
         }
     }
-    n
+    None
 }
 
-// A frame whose values are read: n words from `at` on.
-fn valued(line: &[u8], number: u64, kind: u32, pixels: u32, at: usize, n: usize) -> Above
+// What a frame is due whose values are read: n words from `at` on.
+fn due_of(line: &[u8], at: usize, n: usize) -> Due
     requires { (n < 65536) × (at < 65536) × (at + 8 * n ≤ length line.now) }
-    ensures { result ≡ S.valued line.now number kind pixels at n }
+    ensures { result ≡ S.due_of line.now at n }
 {
-    let k = wild_word(line, at, n);
-    if k < n {
-        let p = at + 8 * k;
-        let bits = hexadecimal::word_at(line, p);
-        return Above {
-            line: number,
-            kind,
-            pixels,
-            number: 3,
-            place: k as u32,
-            bits,
-        };
-    }
-    Above {
-        line: number,
-        kind,
-        pixels,
-        number: 0,
-        place: 0,
-        bits: 0,
+    match wild_word(line, at, n) {
+        Some(k) => Due::Wild(k as u16, hexadecimal::word_at(line, at + 8 * k)),
+        None => Due::Fit,
     }
 }
 
-fn refused_above(line: u64, kind: u32, pixels: u32, number: u32) -> Above
-    ensures { result ≡ S.refused_above line kind pixels number }
+// A line of a shape, whose number is `line`.
+fn shape_sort(text: &[u8], line: u64, shape: Shape) -> Sort
+    requires { ShapeSized (length text.now) shape }
+    ensures { (result ≡ S.shape_sort text.now line shape) × S.SortSound (length text.now) result }
 {
-    Above {
-        line,
-        kind,
-        pixels,
-        number,
-        place: 0,
-        bits: 0,
+    match shape {
+        Shape::Ring(kind) => Sort::Asked(Frame {
+            line,
+            asks: Asks::Ring(kind),
+            due: due_of(text, 2, 2 * kind.samples()),
+        }),
+        Shape::Disk(n) => Sort::Asked(Frame {
+            line,
+            asks: Asks::Disk(n),
+            due: due_of(text, 6, 3 + 5 * (n as usize)),
+        }),
+        Shape::BadCount(n) => Sort::Asked(Frame {
+            line,
+            asks: Asks::Disk(n),
+            due: Due::BadCount,
+        }),
+        Shape::OtherType(answer) => answer_sort(text, answer),
+        Shape::Malformed(fault) => Sort::Bad(Wrong::Malformed(fault)),
     }
 }
 
@@ -254,32 +209,18 @@ pub fn sort_of(line: &[u8], skip: bool, number: u64) -> Sort
     ensures { (result ≡ S.sort_of line.now skip number) × S.SortSound (length line.now) result }
 {
     if skip {
-        return bad(TOO_LONG, 0, 0, 0);
+        return Sort::Bad(Wrong::Malformed(Fault::TooLong));
     }
-    let shape = shapes::shape_of(line);
-    match shape {
-        Shape::Ring(kind) => Sort::Frame(valued(
-            line,
-            number,
-            kind,
-            0,
-            2,
-            2 * shapes::samples_of(kind),
-        )),
-        Shape::Disk(n) => Sort::Frame(valued(line, number, 2, n, 6, 3 + 5 * (n as usize))),
-        Shape::BadCount(n) => Sort::Frame(refused_above(number, 2, n, 2)),
-        Shape::OtherType(kind) => answer_sort(line, kind),
-        Shape::Malformed(fault) => fault_sort(fault),
-    }
+    shape_sort(line, number, shapes::shape_of(line))
 }
 
 fn bad_above(w: Wrong, number: u64) -> Above
     ensures { result ≡ S.bad_above w number }
 {
-    if w.why < ANSWER_LENGTH {
-        return refused_above(number, 255, 0, 5);
+    match w {
+        Wrong::Malformed(_) | Wrong::UnknownType(_) => Above::Malformed(number),
+        _ => Above::Flawed(number),
     }
-    refused_above(number, 255, 0, 0)
 }
 
 // What stands above the line after this one.
@@ -287,41 +228,55 @@ pub fn above_of(sort: Sort, number: u64) -> Above
     ensures { result ≡ S.above_of sort number }
 {
     match sort {
-        Sort::Frame(a) => a,
-        Sort::Fit(_) => nothing(),
-        Sort::Refused(_) => nothing(),
+        Sort::Asked(frame) => Above::Asked(frame),
+        Sort::Fit(_) | Sort::Refused(_) => Above::Nothing,
         Sort::Bad(w) => bad_above(w, number),
     }
 }
 
-// Whether an answer of a type, with a number of refusal, 0 for a fit, and a place may be that of the
-// frame above it.
-pub fn belongs(a: Above, kind: u32, number: u32, place: u32) -> bool
+// Whether a kind is the one that a frame asks for.
+fn is_asked(asks: Asks, kind: Option<Kind>) -> bool
+    ensures { result ≡ S.is_asked asks kind }
+{
+    match (asks, kind) {
+        (Asks::Ring(RingKind::Sixteen), Some(Kind::Ring(RingKind::Sixteen))) => true,
+        (Asks::Ring(RingKind::TwentyFour), Some(Kind::Ring(RingKind::TwentyFour))) => true,
+        (Asks::Disk(_), Some(Kind::Disk)) => true,
+        _ => false,
+    }
+}
+
+// Whether an answer with a number of refusal, 0 for a fit, and a place may be what a frame is due.
+fn is_due(f: Frame, number: u32, place: u16) -> bool
+    ensures { result ≡ S.is_due f number place }
+{
+    match f.due {
+        Due::BadCount => (number == 2) & (place == 0),
+        Due::Wild(k, _) => (number == 3) & (place == k),
+        Due::Fit => match f.asks {
+            Asks::Ring(_) => number == 0,
+            Asks::Disk(_) => (number == 0) | (number == 4),
+        },
+    }
+}
+
+// Whether an answer of a kind, with a number of refusal, 0 for a fit, and a place may be that of what stands
+// above it.
+pub fn belongs(a: Above, kind: Option<Kind>, number: u32, place: u16) -> bool
     ensures { result ≡ S.belongs a kind number place }
 {
-    let due = shapes::answer_type(a.kind);
-    if a.number != 0 {
-        return (kind == due) & (number == a.number) & (place == a.place);
+    match a {
+        Above::Asked(f) => is_asked(f.asks, kind) & is_due(f, number, place),
+        Above::Malformed(_) => kind.is_none() & (number == 5) & (place == 0),
+        Above::Nothing | Above::Flawed(_) => true,
     }
-    if (a.kind == 1) | (a.kind == 3) {
-        return (kind == due) & (number == 0);
-    }
-    if a.kind == 2 {
-        return (kind == 130) & ((number == 0) | (number == 4));
-    }
-    true
 }
 
 // Whether a line is no answer, so that the frame above it has none.
 pub fn is_alone(sort: Sort) -> bool
     ensures { result ≡ S.is_alone sort }
 {
-    match sort {
-        Sort::Frame(_) => true,
-        Sort::Fit(_) => false,
-        Sort::Refused(_) => false,
-        Sort::Bad(_) => true,
-    }
+    matches!(sort, Sort::Asked(_) | Sort::Bad(_))
 }
 
 // Whether it is an answer, and not that of the frame above it.
@@ -329,9 +284,8 @@ pub fn is_strange(sort: Sort, a: Above) -> bool
     ensures { result ≡ S.is_strange sort a }
 {
     match sort {
-        Sort::Frame(_) => false,
-        Sort::Fit(kind) => !belongs(a, kind, 0, 0),
+        Sort::Fit(kind) => !belongs(a, Some(kind), 0, 0),
         Sort::Refused(r) => !belongs(a, r.kind, r.number, r.place),
-        Sort::Bad(_) => false,
+        Sort::Asked(_) | Sort::Bad(_) => false,
     }
 }

@@ -1,5 +1,5 @@
 -- What in an answer is not to be taken at face value, and where in the answer's line it stands. Definitions only.
-use Rattle.std.specs.Prelude.{Bool, true, false, cond, not, ◌&&◌, ◌||◌, List, [], ◌∷◌, ℕ, ◌+◌, ◌*◌, eqb, Float}
+use Rattle.std.specs.Prelude.{Bool, true, false, not, ◌&&◌, ◌||◌, List, [], ◌∷◌, ℕ, ◌+◌, ◌*◌, eqb, Float}
 use Prim.Native.String.{String}
 use Rattle.std.specs.Float.{nan, inf, fin}
 use Rattle.std.specs.Float.Ieee.{eq, lt, le, is_nan}
@@ -8,6 +8,8 @@ use Rattle.floats.specs.Ops.{◌⊘◌, lit, nought, one, pi, half_pi}
 use Rattle.floats.specs.Library.{max}
 use Rattle.hexadecimal.specs.Hex.{byte_of, value_of}
 use Rattle.explain_words.specs.Tell.{telling}
+use Rattle.shapes.specs.declared.Kind.{Kind}
+use Rattle.shapes.specs.declared.Kind.TheVariants.{Ring, Disk}
 use Rattle.explain_warnings.specs.declared.Reading.{Reading}
 
 -- ---- an answer's values, where they stand in its line (docs/RULES.md, Frame lines)
@@ -30,7 +32,7 @@ ring_reading l =
       starts = byte_of l 52;
       first = byte_of l 54;
       second = byte_of l 56;
-      known = byte_of l 58;
+      known = not (eqb (byte_of l 58) 0);
     }
 
 abbrev pub disk_reading : List ℕ → Reading
@@ -52,12 +54,13 @@ disk_reading l =
       starts = 0;
       first = 0;
       second = 0;
-      known = byte_of l 96;
+      known = not (eqb (byte_of l 96) 0);
     }
 
 -- of a disk or of a ring
-unfoldable pub reading_of : List ℕ → Bool → Reading
-reading_of l disk = cond disk (disk_reading l) (ring_reading l)
+abbrev pub reading_of : List ℕ → Kind → Reading
+reading_of l (Ring kind) = ring_reading l
+reading_of l Disk = disk_reading l
 
 -- ---- what is asked of a value
 unfoldable pub is_infinite : Float → Bool
@@ -77,11 +80,8 @@ abbrev pub is_degenerate : Reading → Bool
 is_degenerate r =
     not r.disk && (eq r.amp nought && eq r.theta1 nought && eq r.theta2 half_pi) && (eqb r.first 0 || eqb r.second 0)
 
--- the errors are known (docs/RULES.md, Known); where they are, a PI is an estimate of that or more, and where they are not, a 0 says nothing
-abbrev pub is_known : Reading → Bool
-is_known r = not (eqb r.known 0)
-
--- ---- the warnings: when, and in which words
+-- ---- the warnings: when, and in which words. Where the errors are known (docs/RULES.md, Known), a PI is an estimate of that or more;
+-- where they are not, a 0 says nothing
 unfoldable pub warnings_of : Reading → List (Bool × String)
 warnings_of r =
     (eq r.rms nought, "  warning: the residual is 0: no noise at all, or nothing to fit\n")
@@ -90,11 +90,11 @@ warnings_of r =
     ∷ (is_large r.rms r.amp, "  warning: the residual is at least 12 % of the amplitude, or of 1 where that is more\n")
     ∷ (r.disk && eq r.corr nought, "  warning: the correlation is 0: the fit explains nothing of the disk\n")
     ∷ (lt r.corr nought || lt one r.corr, "  warning: the correlation is not between 0 and 1\n")
-    ∷ (not (is_known r), "  warning: the errors are not known: whatever stands in their place, PI or 0 too, is no estimate\n")
-    ∷ (is_known r && eq r.error1 pi, "  warning: the first error is estimated, and is PI or more: that axis is not determined\n")
-    ∷ (is_known r && eq r.error2 pi, "  warning: the second error is estimated, and is PI or more: that axis is not determined\n")
-    ∷ (is_known r && eq r.error1 nought, "  warning: the first error is estimated, and is 0: no value deviates, or it was lost in rounding\n")
-    ∷ (is_known r && eq r.error2 nought, "  warning: the second error is estimated, and is 0: no value deviates, or it was lost in rounding\n")
+    ∷ (not r.known, "  warning: the errors are not known: whatever stands in their place, PI or 0 too, is no estimate\n")
+    ∷ (r.known && eq r.error1 pi, "  warning: the first error is estimated, and is PI or more: that axis is not determined\n")
+    ∷ (r.known && eq r.error2 pi, "  warning: the second error is estimated, and is PI or more: that axis is not determined\n")
+    ∷ (r.known && eq r.error1 nought, "  warning: the first error is estimated, and is 0: no value deviates, or it was lost in rounding\n")
+    ∷ (r.known && eq r.error2 nought, "  warning: the second error is estimated, and is 0: no value deviates, or it was lost in rounding\n")
     ∷ (eq r.amp nought, "  warning: the amplitude is 0: there is no contrast to fit\n")
     ∷ (is_wild r.amp, "  warning: the amplitude is not finite\n")
     ∷ (is_wild r.theta1, "  warning: the first axis is not finite\n")

@@ -3,10 +3,12 @@
 #![tactic(auto)]
 
 ghost use Rattle.std.specs.Prelude.{◌≡◌, ◌+◌, ◌≤◌, length};
-ghost use Rattle.hexadecimal.specs.Hex.{Written};
-ghost use Rattle.explain_words.specs.Tell.{flags_of};
+ghost use Rattle.explain_words.specs.Tell.{Said, flags_of};
 ghost use Rattle.shapes.specs.Shapes.{fit_length};
 ghost use Rattle.explain_warnings.specs.Warnings as W;
+
+use explain_words::Page;
+use shapes::Kind;
 
 // What a line's answer says. A ring has no width, relative residual, correlation, edge score, objective
 // and trials, and a disk no starts and updates: they are 0 there.
@@ -28,7 +30,7 @@ pub struct Reading {
     pub starts: u32,
     pub first: u32,
     pub second: u32,
-    pub known: u32,
+    pub known: bool,
 }
 
 fn ring_reading(line: &[u8]) -> Reading
@@ -52,7 +54,7 @@ fn ring_reading(line: &[u8]) -> Reading
         starts: hexadecimal::byte_at(line, 52),
         first: hexadecimal::byte_at(line, 54),
         second: hexadecimal::byte_at(line, 56),
-        known: hexadecimal::byte_at(line, 58),
+        known: hexadecimal::byte_at(line, 58) != 0,
     }
 }
 
@@ -77,18 +79,18 @@ fn disk_reading(line: &[u8]) -> Reading
         starts: 0,
         first: 0,
         second: 0,
-        known: hexadecimal::byte_at(line, 96),
+        known: hexadecimal::byte_at(line, 96) != 0,
     }
 }
 
-pub fn read(line: &[u8], disk: bool) -> Reading
-    requires { fit_length disk ≤ length line.now }
-    ensures { result ≡ W.reading_of line.now disk }
+pub fn read(line: &[u8], kind: Kind) -> Reading
+    requires { fit_length kind ≤ length line.now }
+    ensures { result ≡ W.reading_of line.now kind }
 {
-    if disk {
-        return disk_reading(line);
+    match kind {
+        Kind::Ring(_) => ring_reading(line),
+        Kind::Disk => disk_reading(line),
     }
-    ring_reading(line)
 }
 
 fn is_infinite(x: f32) -> bool
@@ -126,7 +128,6 @@ fn is_wild(x: f32) -> bool
 fn flags(r: Reading) -> [bool; 23]
     ensures { (result ≡ flags_of (W.warnings_of r)) × (23 ≡ length result) }
 {
-    let known = r.known != 0;
     [
         r.rms == 0.0,
         is_infinite(r.rms),
@@ -134,11 +135,11 @@ fn flags(r: Reading) -> [bool; 23]
         is_large(r.rms, r.amp),
         r.disk & (r.corr == 0.0),
         (r.corr < 0.0) | (r.corr > 1.0),
-        !known,
-        known & (r.error1 == floats::PI),
-        known & (r.error2 == floats::PI),
-        known & (r.error1 == 0.0),
-        known & (r.error2 == 0.0),
+        !r.known,
+        r.known & (r.error1 == floats::PI),
+        r.known & (r.error2 == floats::PI),
+        r.known & (r.error1 == 0.0),
+        r.known & (r.error2 == 0.0),
         r.amp == 0.0,
         is_wild(r.amp),
         is_wild(r.theta1),
@@ -154,17 +155,13 @@ fn flags(r: Reading) -> [bool; 23]
     ]
 }
 
-// The warnings that an answer calls for, at a place of the text; the place behind them. A bar ends a
-// sentence.
-pub fn warnings(text: &mut [u8], at: usize, r: Reading) -> usize
-    requires { at + 33936 ≤ length text.old }
-    ensures { (result ≤ at + 33936) × Written text.old at (W.warnings_text r) text.new result }
+// The warnings that an answer calls for. A bar ends a sentence.
+pub fn warnings(page: &mut Page, r: Reading)
+    requires { page.old.at + 33936 ≤ length page.old.text.now }
+    ensures { (page.new.at ≤ page.old.at + 33936) × Said page.old page.new (W.warnings_text r) }
 {
     let told = flags(r);
-    let words = [[0u8; 24]; 1];
-    explain_words::tell(
-        text,
-        at,
+    page.tell(
         b"  warning: the residual is 0: no noise at all, or nothing to fit
 |  warning: the residual is infinite: a sum overflowed
 |  warning: the residual is NaN: it says nothing of the fit
@@ -190,6 +187,6 @@ pub fn warnings(text: &mut [u8], at: usize, r: Reading) -> usize
 |  warning: the samples have no contrast: axes and errors are placeholders
 |",
         &told,
-        &words,
-    )
+        &[],
+    );
 }

@@ -1,9 +1,16 @@
 -- Sentences with blanks: which of them are told, and what stands in a blank. Definitions only.
 -- `{a}` in a sentence is the first word, `{b}` the second; every other character stands for itself. A sentence has no bar.
-use Rattle.std.specs.Prelude.{ℕ, zero, suc, ◌+◌, ◌*◌, ◌%◌, ◌≤◌, Bool, true, false, cond, not, ◌&&◌, ◌||◌, List, [], ◌∷◌, ◌++◌, length, ◌==◌, nat_lt}
+use Rattle.std.specs.Prelude.{ℕ, zero, suc, ◌≡◌, ◌+◌, ◌*◌, ◌%◌, ◌≤◌, Bool, true, false, cond, not, ◌&&◌, ◌||◌, List, [], ◌∷◌, ◌++◌, length, ◌==◌, nat_lt}
 use Rattle.std.specs.Prelude.{slice_index, slice_index_or}
 use Prim.Native.String.{String}
 use Rattle.hexadecimal.specs.Hex.{Written, bytes}
+use Rattle.explain_words.specs.declared.Page.{Page}
+
+-- ---- t said on the page p, which is q now: over its text from its place on, and the place is behind it
+pub record Said (p q : Page) (t : List ℕ) : Type 0 where
+  pub same : q.text.ghost_name ≡ p.text.ghost_name
+  pub kept : length q.text.now ≡ length p.text.now
+  pub said : Written p.text.now p.at t q.text.now q.at
 
 -- ---- a word has 24 characters, of which control characters are left out: so no word ends a line
 abbrev pub letter : ℕ → List ℕ
@@ -44,9 +51,9 @@ unfoldable pub told : List Bool → List (List ℕ) → ℕ → Bool → List �
 told fs ws k inside [] = []
 told fs ws k inside (c ∷ cs) = piece_if (slice_index_or fs k false) ws inside c ++ told fs ws (sentence_after k c) (c == 123) cs
 
-pub record Tells (fs : List Bool) (ws : List (List ℕ)) (s l : List ℕ) (at : ℕ) (m : List ℕ) (r : ℕ) : Type 0 where
-  pub fits : r ≤ at + 24 * length s
-  pub written : Written l at (told fs ws 0 false s) m r
+pub record Tells (fs : List Bool) (ws : List (List ℕ)) (s : List ℕ) (p q : Page) : Type 0 where
+  pub fits : q.at ≤ p.at + 24 * length s
+  pub said : Said p q (told fs ws 0 false s)
 
 unfoldable pub flags_of : List (Bool × String) → List Bool
 flags_of [] = []
@@ -65,7 +72,7 @@ unfoldable pub all_barless : List (Bool × String) → Bool
 all_barless [] = true
 all_barless ((on, s) ∷ rest) = barless (bytes s) && all_barless rest
 
--- ---- sentences told into the text l, which is m now, whatever the words in their blanks are
-pub record Told (rows : List (Bool × String)) (l : List ℕ) (at : ℕ) (m : List ℕ) (r : ℕ) : Type 0 where
+-- ---- sentences told on the page p, which is q now, whatever the words in their blanks are
+pub record Told (rows : List (Bool × String)) (p q : Page) : Type 0 where
   pub words : List (List ℕ)
-  pub said : Written l at (telling words rows) m r
+  pub said : Said p q (telling words rows)

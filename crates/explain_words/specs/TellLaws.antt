@@ -8,9 +8,10 @@ use Prim.Native.String.{String}
 use Rattle.std.proofs.Math.Numerals.{add-one}
 use Rattle.std.proofs.lemmas.Bool.{not-true}
 use Rattle.std.proofs.Math.Seq.{drop-length, get_or-append_seam}
-use Rattle.hexadecimal.specs.Hex.{Written, bytes}
+use Rattle.hexadecimal.specs.Hex.{bytes}
+use Rattle.explain_words.specs.declared.Page.{Page}
 use Rattle.hexadecimal.specs.HexLaws.{written_none, written_as, written_then}
-use Rattle.explain_words.specs.Tell.{Told, letter, spelt, piece, piece_if, spelled, sentence_after, told, telling, flags_of, barred, barless, all_barless}
+use Rattle.explain_words.specs.Tell.{Said, Told, letter, spelt, piece, piece_if, spelled, sentence_after, told, telling, flags_of, barred, barless, all_barless}
 
 -- ---- a word, letter by letter
 pub spelt_none : (w : List ℕ) → spelt w 0 ≡ []
@@ -26,36 +27,46 @@ unfolding spelt
 spelt_empty zero = refl
 spelt_empty (suc n) = rw (spelt_empty n)
 
+-- ---- nothing said; what is said side by side is said as one
+pub said_none : (p : Page) → p.at ≤ length p.text.now → Said p p []
+said_none p h = record { same = refl; kept = refl; said = written_none h }
+
+pub said_as : {p q : Page} {t u : List ℕ} → Said p q t → t ≡ u → Said p q u
+said_as s e = record { same = s.same; kept = s.kept; said = written_as s.said e }
+
+pub said_then : {p q r : Page} {a b : List ℕ} → Said p q a → Said q r b → r.at ≤ length p.text.now → Said p r (a ++ b)
+said_then s t h = record { same = t.same ∙ s.same; kept = t.kept ∙ s.kept; said = written_then s.said t.said h }
+
 -- ---- in the middle of a text: what is said so far, and what is left to tell, are the whole
-pub record Midway (fs : List Bool) (ws : List (List ℕ)) (s l : List ℕ) (at i p k : ℕ) (inside : Bool) (m : List ℕ) : Type 0 where
+pub record Midway (fs : List Bool) (ws : List (List ℕ)) (s : List ℕ) (p : Page) (i k : ℕ) (inside : Bool) (q : Page) : Type 0 where
   pub done : List ℕ
-  pub said : Written l at done m p
+  pub said : Said p q done
   pub whole : done ++ told fs ws k inside (drop i s) ≡ told fs ws 0 false s
 
-module _ {fs : List Bool} {ws : List (List ℕ)} {s l : List ℕ} {at : ℕ} where
-  pub midway_start : at ≤ length l → Midway fs ws s l at 0 at 0 false l
-  midway_start h = record { done = []; said = written_none h; whole = refl }
+module _ {fs : List Bool} {ws : List (List ℕ)} {s : List ℕ} {p : Page} where
+  pub midway_start : p.at ≤ length p.text.now → Midway fs ws s p 0 0 false p
+  midway_start h = record { done = []; said = said_none p h; whole = refl }
 
-  pub midway_next : {i p k r : ℕ} {inside : Bool} {m n : List ℕ} → Midway fs ws s l at i p k inside m → i < length s
-      → Written m p (piece_if (slice_index_or fs k false) ws inside (slice_index s i)) n r → r ≤ length l
-      → Midway fs ws s l at (i + 1) r (sentence_after k (slice_index s i)) (slice_index s i == 123) n
+  pub midway_next : {i k : ℕ} {inside : Bool} {q r : Page} → Midway fs ws s p i k inside q → i < length s
+      → Said q r (piece_if (slice_index_or fs k false) ws inside (slice_index s i)) → r.at ≤ length p.text.now
+      → Midway fs ws s p (i + 1) (sentence_after k (slice_index s i)) (slice_index s i == 123) r
   unfolding told
-  midway_next {i} {p} {k} {r} {inside} {m} {n} w h t b =
+  midway_next {i} {k} {inside} {q} {r} w h t b =
       let c = get_or s i 0 in
       let x = piece_if (slice_index_or fs k false) ws inside c in
       let rest = told fs ws (sentence_after k c) (c == 123) (drop (i + 1) s) in
       let e : told fs ws k inside (drop i s) ≡ x ++ rest = rw (drop-cons s i 0 h, add-one i) in
       record {
         done = w.done ++ x;
-        said = written_then w.said t b;
+        said = said_then w.said t b;
         whole = append_assoc w.done x rest ∙ ap (λ (q : List ℕ). w.done ++ q) (sym e) ∙ w.whole;
       }
 
-  pub midway_end : {i p k : ℕ} {inside : Bool} {m : List ℕ} → Midway fs ws s l at i p k inside m → i ≡ length s → Written l at (told fs ws 0 false s) m p
+  pub midway_end : {i k : ℕ} {inside : Bool} {q : Page} → Midway fs ws s p i k inside q → i ≡ length s → Said p q (told fs ws 0 false s)
   unfolding told
-  midway_end {i} {p} {k} {inside} {m} w e =
+  midway_end {i} {k} {inside} {q} w e =
       let d : drop i s ≡ [] = rw (e, drop-length s) in
-      written_as w.said (sym (append-nil w.done) ∙ ap (λ (q : List ℕ). w.done ++ told fs ws k inside q) (sym d) ∙ w.whole)
+      said_as w.said (sym (append-nil w.done) ∙ ap (λ (q : List ℕ). w.done ++ told fs ws k inside q) (sym d) ∙ w.whole)
 
 -- ---- one sentence, and then the others
 both : (a b : Bool) → (a && b) ≡ true → (a ≡ true) × (b ≡ true)
@@ -101,7 +112,7 @@ pub told_telling : (ws : List (List ℕ)) (ps : List (Bool × String)) → all_b
 told_telling ws ps h = all_told ws [] ps h
 
 -- what the writer of sentences is called with: their flags, and their text
-pub rows_told : (rows : List (Bool × String)) {fs : List Bool} (ws : List (List ℕ)) {l m : List ℕ} {at r : ℕ}
-    → Written l at (told fs ws 0 false (barred rows)) m r → fs ≡ flags_of rows → all_barless rows ≡ true → Told rows l at m r
+pub rows_told : (rows : List (Bool × String)) {fs : List Bool} (ws : List (List ℕ)) {p q : Page}
+    → Said p q (told fs ws 0 false (barred rows)) → fs ≡ flags_of rows → all_barless rows ≡ true → Told rows p q
 rows_told rows ws s e h =
-    record { words = ws; said = written_as s (ap (λ (gs : List Bool). told gs ws 0 false (barred rows)) e ∙ told_telling ws rows h) }
+    record { words = ws; said = said_as s (ap (λ (gs : List Bool). told gs ws 0 false (barred rows)) e ∙ told_telling ws rows h) }

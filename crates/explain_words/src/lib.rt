@@ -5,45 +5,16 @@
 
 pub mod numbers;
 
-ghost use Rattle.std.specs.Prelude.{◌≡◌, ◌+◌, ◌*◌, ◌<◌, ◌≤◌, false, length, slice_index_or};
-ghost use Rattle.hexadecimal.specs.Hex.{Written};
+ghost use Rattle.std.specs.Prelude.{◌≡◌, ◌+◌, ◌*◌, ◌<◌, ◌≤◌, false, [], ◌∷◌, length, slice_index_or};
 ghost use Rattle.explain_words.specs.Tell as T;
 
-// A character of a word; control characters are left out, so that no word ends a line.
-fn letter(text: &mut [u8], at: usize, b: u8) -> usize
-    requires { at < length text.old }
-    ensures { (result ≤ at + 1) × Written text.old at (T.letter b) text.new result }
-{
-    if b < 32 {
-        return at;
-    }
-    text[at] = b;
-    at + 1
-}
+use numbers::Word;
 
-fn word(text: &mut [u8], at: usize, w: [u8; 24]) -> usize
-    requires { at + 24 ≤ length text.old }
-    ensures { (result ≤ at + 24) × Written text.old at (T.spelt w 24) text.new result }
-{
-    let mut p = at;
-    for j in 0..24usize {
-        let b = w[j];
-        p = letter(text, p, b);
-    }
-    p
-}
-
-// The word of a letter: `a` is the first.
-fn blank(text: &mut [u8], at: usize, c: u8, words: &[[u8; 24]]) -> usize
-    requires { at + 24 ≤ length text.old }
-    ensures { (result ≤ at + 24) × Written text.old at (T.word_at words.now c) text.new result }
-{
-    let k = (c as usize + 31) % 32;
-    if k < words.len() {
-        let w = words[k];
-        return word(text, at, w);
-    }
-    at
+// A text, and the place in it behind what is said so far.
+#[derive(Drop)]
+pub struct Page<'a> {
+    pub text: &'a mut [u8],
+    pub at: usize,
 }
 
 fn is_mark(c: u8) -> bool
@@ -52,38 +23,10 @@ fn is_mark(c: u8) -> bool
     (c == b'{') | (c == b'}') | (c == b'|')
 }
 
-// What a character of a sentence stands for: see specs/Tell.antt.
-fn piece(text: &mut [u8], at: usize, inside: bool, c: u8, words: &[[u8; 24]]) -> usize
-    requires { at + 24 ≤ length text.old }
-    ensures { (result ≤ at + 24) × Written text.old at (T.piece words.now inside c) text.new result }
-{
-    if is_mark(c) {
-        return at;
-    }
-    if inside {
-        return blank(text, at, c, words);
-    }
-    text[at] = c;
-    at + 1
-}
-
-fn piece_if(text: &mut [u8], at: usize, on: bool, inside: bool, c: u8, words: &[[u8; 24]]) -> usize
-    requires { at + 24 ≤ length text.old }
-    ensures { (result ≤ at + 24) × Written text.old at (T.piece_if on words.now inside c) text.new result }
-{
-    if on {
-        return piece(text, at, inside, c, words);
-    }
-    at
-}
-
 fn is_told(flags: &[bool], k: usize) -> bool
     ensures { result ≡ slice_index_or flags.now k false }
 {
-    if k < flags.len() {
-        return flags[k];
-    }
-    false
+    flags.get(k).copied().unwrap_or(false)
 }
 
 // A bar ends a sentence.
@@ -91,27 +34,76 @@ fn after(k: usize, c: u8) -> usize
     requires { k < 1000000 }
     ensures { (result ≤ k + 1) × (result ≡ T.sentence_after k c) }
 {
-    if c == b'|' {
-        return k + 1;
-    }
-    k
+    if c == b'|' { k + 1 } else { k }
 }
 
-// Of the sentences in s those whose flag is set, with the words in their blanks, at a place of the
-// text; the place behind them.
-pub fn tell(text: &mut [u8], at: usize, s: &[u8], flags: &[bool], words: &[[u8; 24]]) -> usize
-    requires { (length s.now < 1000000) × (at + 24 * length s.now ≤ length text.old) }
-    ensures { T.Tells flags.now words.now s.now text.old at text.new result }
-{
-    let n = s.len();
-    let mut p = at;
-    let mut k = 0usize;
-    let mut inside = false;
-    for i in 0..n {
-        let c = s[i];
-        p = piece_if(text, p, is_told(flags, k), inside, c, words);
-        k = after(k, c);
-        inside = c == b'{';
+impl Page<'_> {
+    fn put(&mut self, b: u8)
+        requires { self.old.at < length self.old.text.now }
+        ensures { (self.new.at ≡ self.old.at + 1) × T.Said self.old self.new (b ∷ []) }
+    {
+        self.text[self.at] = b;
+        self.at += 1;
     }
-    p
+
+    // A character of a word; control characters are left out, so that no word ends a line.
+    fn letter(&mut self, b: u8)
+        requires { self.old.at < length self.old.text.now }
+        ensures { (self.new.at ≤ self.old.at + 1) × T.Said self.old self.new (T.letter b) }
+    {
+        if b >= 32 {
+            self.put(b);
+        }
+    }
+
+    fn word(&mut self, w: &Word)
+        requires { self.old.at + 24 ≤ length self.old.text.now }
+        ensures { (self.new.at ≤ self.old.at + 24) × T.Said self.old self.new (T.spelt w.now 24) }
+    {
+        for b in w {
+            self.letter(*b);
+        }
+    }
+
+    // The word of a letter: `a` is the first.
+    fn blank(&mut self, c: u8, words: &[Word])
+        requires { self.old.at + 24 ≤ length self.old.text.now }
+        ensures { (self.new.at ≤ self.old.at + 24) × T.Said self.old self.new (T.word_at words.now c) }
+    {
+        let k = (usize::from(c) + 31) % 32;
+        if k < words.len() {
+            self.word(&words[k]);
+        }
+    }
+
+    // What a character of a sentence stands for: see specs/Tell.antt.
+    fn piece(&mut self, inside: bool, c: u8, words: &[Word])
+        requires { self.old.at + 24 ≤ length self.old.text.now }
+        ensures { (self.new.at ≤ self.old.at + 24) × T.Said self.old self.new (T.piece words.now inside c) }
+    {
+        if is_mark(c) {
+            return;
+        }
+        if inside {
+            self.blank(c, words);
+        } else {
+            self.put(c);
+        }
+    }
+
+    // Of the sentences in s those whose flag is set, with the words in their blanks.
+    pub fn tell(&mut self, s: &[u8], flags: &[bool], words: &[Word])
+        requires { (length s.now < 1000000) × (self.old.at + 24 * length s.now ≤ length self.old.text.now) }
+        ensures { T.Tells flags.now words.now s.now self.old self.new }
+    {
+        let mut k = 0usize;
+        let mut inside = false;
+        for c in s {
+            if is_told(flags, k) {
+                self.piece(inside, *c, words);
+            }
+            k = after(k, *c);
+            inside = *c == b'{';
+        }
+    }
 }

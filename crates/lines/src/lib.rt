@@ -15,12 +15,12 @@ pub const INPUT: usize = 81920;
 
 pub const OUTPUT: usize = 65536;
 
-// What is left of the buffer: the bytes from `from` up to `total`; whether the start of the line
-// there is gone; whether the input has ended. At first nothing is read.
+// What is left of the buffer: `left` bytes from `from` on; whether the start of the line there is
+// gone; whether the input has ended. At first nothing is read.
 #[derive(Clone, Copy, Default)]
 pub struct Feed {
     pub from: usize,
-    pub total: usize,
+    pub left: usize,
     pub skip: bool,
     pub ended: bool,
 }
@@ -36,33 +36,39 @@ pub enum Found {
 impl Feed {
     // Where the next line ends, counted from its start.
     fn line_end(self, buf: &[u8]) -> Option<usize>
-        requires { (self.from ≤ self.total) × (self.total ≤ length buf.now) }
+        requires { self.from + self.left ≤ length buf.now }
         ensures same { result ≡ end_of buf.now self }
-        ensures within { IfSome result (λ k. self.from + k < self.total) }
+        ensures within { IfSome result (λ k. k < self.left) }
     {
-        buf[self.from..self.total].iter().position(|b| *b == b'\n')
+        buf[self.from..self.from + self.left]
+            .iter()
+            .position(|b| *b == b'\n')
     }
 
     // The next line of the buffer.
     pub fn find(self, buf: &[u8]) -> Found
-        requires { (self.from ≤ self.total) × (self.total ≤ length buf.now) }
+        requires { self.from + self.left ≤ length buf.now }
         ensures { (result ≡ found_of buf.now self) × FoundWithin self result }
     {
         match self.line_end(buf) {
             Some(k) => Found::Line(self.from + k, self.from + k + 1),
             None if !self.ended => Found::More,
-            None if (self.from < self.total) | self.skip => Found::Line(self.total, self.total),
+            None if (self.left > 0) | self.skip => {
+                let end = self.from + self.left;
+                Found::Line(end, end)
+            }
             None => Found::Done,
         }
     }
 
     // The line before `from` has been answered.
     fn past(self, from: usize) -> Feed
-        requires { from ≤ self.total }
+        requires { (self.from + self.left ≤ T.input) × (from ≤ self.from + self.left) }
         ensures { result ≡ passed self from }
     {
         Feed {
             from,
+            left: self.from + self.left - from,
             skip: false,
             ..self
         }
@@ -70,35 +76,34 @@ impl Feed {
 
     // Whether the unfinished line loses its start: it is over the limit, or its start is gone already.
     fn gone(self, limit: usize) -> bool
-        requires { self.from ≤ self.total }
         ensures { result ≡ is_gone self limit }
     {
-        self.skip | (self.total - self.from > limit)
+        self.skip | (self.left > limit)
     }
 
     // How much of the unfinished line is kept, at the front of the buffer: all of it, or nothing.
     fn kept(self, buf: &mut [u8], limit: usize) -> usize
-        requires { (self.from ≤ self.total) × (self.total ≤ length buf.old) }
+        requires { self.from + self.left ≤ length buf.old }
         ensures { (result ≤ limit) × (result ≤ length buf.old) × (result ≡ kept_of self limit) × Front result self.from buf.old buf.new }
     {
         if self.gone(limit) {
             return 0;
         }
-        buf.copy_within(self.from..self.total, 0);
-        self.total - self.from
+        buf.copy_within(self.from..self.from + self.left, 0);
+        self.left
     }
 
     // The next block of the input, behind what is kept. A read that fails is taken for the input's end.
     pub fn fill<R: Read>(self, reader: &mut R, buf: &mut [u8], limit: usize) -> Feed
-        requires { (self.from ≤ self.total) × (self.total ≤ length buf.old) × (limit < length buf.old) }
-        ensures { (result.from ≤ result.total) × (result.total ≤ length buf.old) × Filled self limit buf.old buf.new result }
+        requires { (self.from + self.left ≤ length buf.old) × (limit < length buf.old) }
+        ensures { (result.from + result.left ≤ length buf.old) × Filled self limit buf.old buf.new result }
     {
         let skip = self.gone(limit);
         let have = self.kept(buf, limit);
         let n = reader.read(&mut buf[have..]).unwrap_or(0);
         Feed {
             from: 0,
-            total: have + n,
+            left: have + n,
             skip,
             ended: n == 0,
         }
@@ -118,7 +123,7 @@ pub fn flush<W: Write>(writer: &mut W, text: &[u8], put: usize) -> bool
 }
 
 // How far a program is: what is left of its input, up to where its text stands, and whether there is
-// more to do.
+// more to do. That it is kept is `T.StateKept`, no ghost field: each definition that builds a state would carry its proof.
 #[derive(Clone, Copy)]
 pub struct State {
     pub feed: Feed,
@@ -153,7 +158,7 @@ impl State {
 
     // A line has been answered: the text stands up to `put`, and the next line starts at `from`.
     pub fn answered(self, from: usize, put: usize) -> State
-        requires { T.StateKept self × (from ≤ self.feed.total) × (put ≤ T.output) }
+        requires { T.StateKept self × (from ≤ self.feed.from + self.feed.left) × (put ≤ T.output) }
         ensures { T.StateKept result × (result ≡ T.answered_of self from put) }
     {
         State {

@@ -1,9 +1,11 @@
 -- A frame's shape (docs/RULES.md, Frame lines): its type, length and characters, in the order of the refusals. Definitions only.
-use Rattle.std.specs.Prelude.{Bool, cond, not, ◌||◌, List, ◌≡◌, ℕ, ◌+◌, ◌*◌, ◌≤◌, length, ltb, eqb}
+use Rattle.std.specs.Prelude.{cond, not, ◌||◌, List, ◌≡◌, ℕ, ◌+◌, ◌*◌, ◌≤◌, length, ltb, eqb}
 use Rattle.data.specs.Data.{max_tanh_pixels}
 use Rattle.hexadecimal.specs.Hex.{all_hex, byte_of}
 use Rattle.shapes.specs.declared.RingKind.{RingKind}
 use Rattle.shapes.specs.declared.RingKind.TheVariants.{Sixteen, TwentyFour}
+use Rattle.shapes.specs.declared.Kind.{Kind}
+use Rattle.shapes.specs.declared.Kind.TheVariants as Kinds
 use Rattle.shapes.specs.declared.Fault.TheVariants.{TooLong, Foreign, Short, RingLength, DiskShort, DiskLength}
 use Rattle.shapes.specs.declared.Shape.{Shape}
 use Rattle.shapes.specs.declared.Shape.TheVariants.{Ring, Disk, BadCount, OtherType, Malformed}
@@ -19,9 +21,10 @@ disk_length n = 30 + 40 * n
 abbrev pub limit : ℕ
 limit = disk_length max_tanh_pixels
 
--- how long the answer of a fit is, a disk's and a ring's
-abbrev pub fit_length : Bool → ℕ
-fit_length disk = cond disk 98 60
+-- how long the answer of a fit is, a ring's and a disk's
+abbrev pub fit_length : Kind → ℕ
+fit_length (Kinds.Ring kind) = 60
+fit_length Kinds.Disk = 98
 
 -- the samples of a ring: 16 of type 01, 24 of type 03
 abbrev pub samples_of : RingKind → ℕ

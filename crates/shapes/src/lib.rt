@@ -19,7 +19,7 @@ pub const PIXEL: usize = 40;
 pub const LIMIT: usize = DISK_HEAD + PIXEL * data::MAX_TANH_PIXELS;
 
 // The two rings: 16 samples, of type 01, and 24, of type 03.
-#[derive(Clone, Copy, PartialEq, Eq)]
+#[derive(Clone, Copy)]
 pub enum RingKind {
     Sixteen,
     TwentyFour,
@@ -44,6 +44,13 @@ impl RingKind {
             RingKind::TwentyFour => 131,
         }
     }
+}
+
+// The frames that have fits.
+#[derive(Clone, Copy)]
+pub enum Kind {
+    Ring(RingKind),
+    Disk,
 }
 
 // What makes a line malformed: it is too long; it has a character that is no digit; it is too short for

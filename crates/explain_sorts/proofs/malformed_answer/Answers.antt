@@ -1,7 +1,6 @@
 -- The length alone. Assumes nothing.
 use Rattle.explain_sorts.specs.Sorts as S
 use borrow.Author.Tests.{eq-eqb, ne_eqb}
-use borrow.Author.Rules.{rules}
 use Rattle.explain_sorts.proofs.malformed_answer.Goals as goal
 
 pub returns-then-line-eq8 : goal.returns-then-line-eq8
@@ -10,4 +9,4 @@ returns-then-line-eq8 c = (rw (eq-eqb _ _ c.if-line-eq8.true) c.refusal_sort.ens
 
 pub returns : goal.returns
 unfolding S.malformed_answer
-returns c = rw c.bad.ensures (rw (ne_eqb _ _ c.if-line-eq8.false), search rules)
+returns c = (rw (ne_eqb _ _ c.if-line-eq8.false), tt)

@@ -1,13 +1,10 @@
 -- The tests are the definition's. Assumes nothing.
 use Rattle.explain_sorts.specs.Sorts as S
-use native.Mathlib.Omega.{arith}
-use borrow.Author.Rules.{rules}
 use Rattle.explain_sorts.proofs.refusal_sort.Goals as goal
 
 pub returns-then-number : goal.returns-then-number
 unfolding S.refusal_sort
-returns-then-number c =
-    rw c.bad.ensures (rw (← c.byte_at-number.ensures.1, c.if-number.true), search rules)
+returns-then-number c = (rw (← c.byte_at-number.ensures.1, c.if-number.true), tt)
 
 pub returns-then-is_of : goal.returns-then-is_of
 unfolding S.refusal_sort
@@ -20,10 +17,9 @@ returns-then-is_of c = (
     ← c.is_of.ensures,
     c.if-is_of.true,
   ),
-  omega arith,
+  tt,
 )
 
 pub returns : goal.returns
 unfolding S.refusal_sort
-returns c =
-    rw c.bad-2.ensures (rw (← c.byte_at-number.ensures.1, c.if-number.false, ← c.is_of.ensures, c.if-is_of.false), search rules)
+returns c = (rw (← c.byte_at-number.ensures.1, c.if-number.false, ← c.is_of.ensures, c.if-is_of.false), tt)

@@ -8,19 +8,17 @@ use borrow.Author.Rules.{rules}
 use Rattle.explain_sorts.proofs.wild_word.Goals as goal
 
 pub loop-k-init : goal.loop-k-init
-loop-k-init c =
-    let z : c.args.n - 0 ≡ c.args.n = omega arith in
-    (search rules, rw z)
+loop-k-init c = let z : c.args.n - 0 ≡ c.args.n = omega arith in rw z
 
 pub returns-then-not-is_finite : goal.returns-then-not-is_finite
 returns-then-not-is_finite c =
     let e = ap not (rw (c.is_finite.ensures, c.value_at.ensures) at c.if-not-is_finite.true) in
-    (search rules, wild_word_here _ _ _ _ (search rules) e ∙ c.loop-k.invariant.1)
+    (wild_word_here _ _ _ _ (search rules) e ∙ c.loop-k.invariant, search rules)
 
 pub loop-k-preserved : goal.loop-k-preserved
 loop-k-preserved c =
     let e = ap not (rw (c.is_finite.ensures, c.value_at.ensures) at c.if-not-is_finite.false) in
-    (search rules, wild_on _ _ _ _ (search rules) e ∙ c.loop-k.invariant.1)
+    wild_on _ _ _ _ (search rules) e ∙ c.loop-k.invariant
 
 pub returns : goal.returns
-returns c = (search rules, wild_word_none _ _ _ _ (omega arith) ∙ c.loop-k.invariant.1)
+returns c = (wild_word_none _ _ _ _ (omega arith) ∙ c.loop-k.invariant, tt)

@@ -1,11 +1,8 @@
 -- The loop looks forward: from here on the search gives what it gives from the start. Assumes nothing.
 use Rattle.explain_sorts.specs.Sorts.{wild_word}
 use mathlib.Core.Path.{◌≡◌}
-use Prim.Native.Nat.{◌≤◌, ◌-◌}
+use Prim.Native.Nat.{◌-◌}
 use Rattle.explain_sorts.proofs.wild_word.Given as goal
 
 abbrev pub invariant-loop-k : goal.invariant-loop-k
-invariant-loop-k l = (l.k ≤ l.n) × (wild_word l.line l.at (l.n - l.k) l.k ≡ wild_word l.line l.at l.n 0)
-
-abbrev pub decreases-loop-k : goal.decreases-loop-k
-decreases-loop-k l = l.n - l.k
+invariant-loop-k l = wild_word l.line l.at (l.n - l.k) l.k ≡ wild_word l.line l.at l.n 0

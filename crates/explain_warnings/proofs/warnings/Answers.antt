@@ -2,7 +2,7 @@
 use native.Mathlib.Omega.{arith}
 use Rattle.explain_warnings.specs.WarningsLaws.{warnings_told}
 use Rattle.explain_warnings.specs.Warnings as W
-use Rattle.hexadecimal.specs.HexLaws.{written_as}
+use Rattle.explain_words.specs.TellLaws.{said_as}
 use Rattle.explain_words.specs.Tell.{barred}
 use Rattle.hexadecimal.specs.Hex.{bytes, codes}
 use Rattle.explain_warnings.proofs.warnings.Goals as goal
@@ -10,4 +10,4 @@ use Rattle.explain_warnings.proofs.warnings.Goals as goal
 pub returns : goal.returns
 unfolding W.warnings_of barred bytes codes
 returns c =
-    (omega (arith, c.tell.ensures.fits), written_as c.tell.ensures.written (warnings_told c.args.r _ c.flags-told.ensures.0))
+    (omega (arith, c.tell.ensures.fits), said_as c.tell.ensures.said (warnings_told c.args.r _ c.flags-told.ensures.0))
