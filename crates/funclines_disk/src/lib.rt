@@ -7,9 +7,10 @@ ghost use Rattle.data.specs.Data.{DiskSized, max_tanh_pixels};
 ghost use Rattle.candidates.specs.Candidates.{max_candidates, max_paired, max_pairs};
 ghost use Rattle.search_rows.specs.Rows.{Outlined};
 
-use candidates::{CandidateSet, Closest, Forced, PairScore, Pool};
-use score::{Fit, Scored};
-use search::{DiskFit, Top};
+use candidates::{CandidateSet, Forced, PairScore, Pool};
+use data::Disk;
+use score::{Fit, Trial};
+use search::Top;
 use search_ranking::Ranked;
 
 // ---- what crosses to C, under the names of tests/funclines.h; `some` is false where there is nothing
@@ -28,14 +29,14 @@ pub struct Set {
 }
 
 #[repr(C)]
-#[derive(Clone, Copy)]
+#[derive(Clone, Copy, Default)]
 pub struct Index {
     pub some: bool,
     pub i: usize,
 }
 
 #[repr(C)]
-#[derive(Clone, Copy)]
+#[derive(Clone, Copy, Default)]
 pub struct Pair {
     pub some: bool,
     pub i: usize,
@@ -59,7 +60,7 @@ pub struct Pairs {
 }
 
 #[repr(C)]
-#[derive(Clone, Copy)]
+#[derive(Clone, Copy, Default)]
 pub struct Fit9 {
     pub some: bool,
     pub values: [f32; 9],
@@ -91,7 +92,7 @@ pub struct Sums {
 #[derive(Clone, Copy)]
 pub struct Rows {
     pub sums: [f32; 3],
-    pub rows: [f32; 2240],
+    pub rows: [f32; search_rows::ROWS],
 }
 
 fn candidates_of(s: Set) -> CandidateSet
@@ -107,20 +108,13 @@ fn set_of(s: CandidateSet) -> Set {
 }
 
 fn forced_of(p: Pair) -> Forced {
-    if p.some {
-        return Forced::Pair(p.i, p.j);
-    }
-    Forced::Nothing
+    if p.some { Some((p.i, p.j)) } else { None }
 }
 
 fn pair_of(f: Forced) -> Pair {
     match f {
-        Forced::Pair(i, j) => Pair { some: true, i, j },
-        Forced::Nothing => Pair {
-            some: false,
-            i: 0,
-            j: 0,
-        },
+        Some((i, j)) => Pair { some: true, i, j },
+        None => Pair::default(),
     }
 }
 
@@ -138,88 +132,74 @@ fn fit_of(x: [f32; 9]) -> Fit {
     }
 }
 
-fn values_of(f: Fit) -> Fit9 {
-    Fit9 {
-        some: true,
-        values: [
-            f.theta1,
-            f.theta2,
-            f.width,
-            f.amp,
-            f.rms,
-            f.rel_rms,
-            f.corr,
-            f.edge_score,
-            f.objective,
-        ],
+fn scored_of(f: Fit9) -> Option<Fit> {
+    if f.some { Some(fit_of(f.values)) } else { None }
+}
+
+impl From<Option<Fit>> for Fit9 {
+    fn from(found: Option<Fit>) -> Fit9 {
+        match found {
+            Some(f) => Fit9 {
+                some: true,
+                values: [
+                    f.theta1,
+                    f.theta2,
+                    f.width,
+                    f.amp,
+                    f.rms,
+                    f.rel_rms,
+                    f.corr,
+                    f.edge_score,
+                    f.objective,
+                ],
+            },
+            None => Fit9::default(),
+        }
     }
 }
 
-fn no_values() -> Fit9 {
-    Fit9 {
-        some: false,
-        values: [0.0f32; 9],
+impl From<Ranking> for PairScore {
+    fn from(p: Ranking) -> PairScore {
+        PairScore {
+            i: p.i,
+            j: p.j,
+            edge_score: p.edge_score,
+            forced: p.forced,
+        }
     }
 }
 
-fn scored_of(f: Fit9) -> Scored {
-    if f.some {
-        let x = f.values;
-        return Scored::Found(fit_of(x));
-    }
-    Scored::Nothing
-}
-
-fn optional_of(s: Scored) -> Fit9 {
-    match s {
-        Scored::Found(f) => values_of(f),
-        Scored::Nothing => no_values(),
-    }
-}
-
-fn score_of(p: Ranking) -> PairScore {
-    PairScore {
-        i: p.i,
-        j: p.j,
-        edge_score: p.edge_score,
-        forced: p.forced,
-    }
-}
-
-fn ranking_of(p: PairScore) -> Ranking {
-    Ranking {
-        i: p.i,
-        j: p.j,
-        edge_score: p.edge_score,
-        forced: p.forced,
+impl From<PairScore> for Ranking {
+    fn from(p: PairScore) -> Ranking {
+        Ranking {
+            i: p.i,
+            j: p.j,
+            edge_score: p.edge_score,
+            forced: p.forced,
+        }
     }
 }
 
 fn pool_of(ps: Pairs) -> Pool
     ensures { result.n ≡ ps.n }
 {
-    let first = score_of(ps.pairs[0]);
-    let mut pairs = [first; candidates::MAX_PAIRS];
-    for k in 0..candidates::MAX_PAIRS {
-        pairs[k] = score_of(ps.pairs[k]);
+    Pool {
+        n: ps.n,
+        pairs: ps.pairs.map(PairScore::from),
     }
-    Pool { n: ps.n, pairs }
 }
 
 fn pairs_of(pool: Pool) -> Pairs {
-    let first = ranking_of(pool.pairs[0]);
-    let mut pairs = [first; candidates::MAX_PAIRS];
-    for k in 0..candidates::MAX_PAIRS {
-        pairs[k] = ranking_of(pool.pairs[k]);
+    Pairs {
+        n: pool.n,
+        pairs: pool.pairs.map(Ranking::from),
     }
-    Pairs { n: pool.n, pairs }
 }
 
 fn ranked_of(top: Ranked) -> Pairs {
-    let first = ranking_of(top.pairs[0]);
-    let mut pairs = [first; candidates::MAX_PAIRS];
-    for k in 0..24usize {
-        pairs[k] = ranking_of(top.pairs[k]);
+    let mut pairs = [Ranking::from(top.pairs[0]); candidates::MAX_PAIRS];
+    for k in 0..search_ranking::MAX_TOP_PAIRS {
+        pairs[k] = Ranking::from(top.pairs[k]);
     }
     Pairs { n: top.n, pairs }
 }
@@ -265,8 +245,8 @@ pub extern "C" fn fl_closest_candidate(set: Set, target: f32) -> Index
     requires { set.n ≤ max_candidates }
 {
     match candidates::closest_candidate(candidates_of(set), target) {
-        Closest::At(i) => Index { some: true, i },
-        Closest::Nobody => Index { some: false, i: 0 },
+        Some(i) => Index { some: true, i },
+        None => Index::default(),
     }
 }
 
@@ -300,7 +280,8 @@ pub extern "C" fn fl_combine_edge_pair(a: f32, b: f32, total: f32) -> f32 {
     candidates::combine_edge_pair(a, b, total)
 }
 
-// ---- 80 to 83: the score of a pair
+// ---- 80 to 83: the score of a pair. Where a line has no slice for a part of the disk, the function does not
+// read that part, and another slice stands in its place.
 
 #[unsafe(no_mangle)]
 pub extern "C" fn fl_score_pair_cached(
@@ -317,16 +298,21 @@ pub extern "C" fn fl_score_pair_cached(
     requires h1_len { length h1.now ≡ length vals_centered.now }
     requires vals_centered_len_bound { length vals_centered.now ≤ max_tanh_pixels }
 {
-    optional_of(score::score_pair_cached(
+    let d = Disk {
         val_energy,
+        xs: vals_centered,
+        ys: vals_centered,
         vals_centered,
+        grad_angles: vals_centered,
+        grad_weights: vals_centered,
+    };
+    let t = Trial {
         theta0,
         theta1,
         width,
         edge_score,
-        h0,
-        h1,
-    ))
+    };
+    Fit9::from(score::score_pair_cached(d, t, h0, h1))
 }
 
 #[unsafe(no_mangle)]
@@ -341,13 +327,19 @@ pub extern "C" fn fl_precompute_edge_alignments(
 {
     let mut terms = [0.0f32; data::MAX_TANH_PIXELS];
     let mut sums = [0.0f32; candidates::MAX_CANDIDATES];
-    let from = 0usize;
-    let n = grad_angles.len();
-    let total = score::precompute_edge_alignments(
+    let d = Disk {
+        val_energy: 0.0,
+        xs: grad_angles,
+        ys: grad_angles,
+        vals_centered: grad_angles,
         grad_angles,
         grad_weights,
+    };
+    let n = grad_angles.len();
+    let total = score::precompute_edge_alignments(
+        d,
         candidates_of(set),
-        &mut terms[from..n],
+        &mut terms[..n],
         &mut sums,
     );
     Sums { total, sums }
@@ -369,8 +361,15 @@ pub extern "C" fn fl_fit_std_errors(
     requires vals_centered_len { length vals_centered.now ≡ length xs.now }
     requires xs_len_bound { length xs.now ≤ max_tanh_pixels }
 {
-    let e = score::fit_std_errors(xs, ys, vals_centered, fit_of(*fit));
-    let errors = e.errors;
+    let d = Disk {
+        val_energy: 0.0,
+        xs,
+        ys,
+        vals_centered,
+        grad_angles: xs,
+        grad_weights: xs,
+    };
+    let errors = score::fit_std_errors(d, fit_of(*fit)).errors;
     Two {
         values: [errors.error1, errors.error2],
     }
@@ -391,25 +390,23 @@ pub extern "C" fn fl_best_disk_fit(
 ) -> Best
     requires { DiskSized xs.now ys.now vals_centered.now grad_angles.now grad_weights.now }
 {
-    let found = search::best_disk_fit(
+    let d = Disk {
         val_energy,
-        base0,
-        base1,
         xs,
         ys,
         vals_centered,
         grad_angles,
         grad_weights,
-    );
-    match found {
-        DiskFit::Best(f, trials) => {
-            let fit = values_of(f);
-            Best { fit, trials }
-        }
-        DiskFit::Missing(trials) => {
-            let fit = no_values();
-            Best { fit, trials }
-        }
+    };
+    match search::best_disk_fit(d, base0, base1) {
+        Ok(r) => Best {
+            fit: Fit9::from(Some(r.best)),
+            trials: r.trials,
+        },
+        Err(trials) => Best {
+            fit: Fit9::from(None),
+            trials,
+        },
     }
 }
 
@@ -422,18 +419,14 @@ pub extern "C" fn fl_rank(pool: Pairs) -> Pairs
 
 #[unsafe(no_mangle)]
 pub extern "C" fn fl_insert_top(first: Fit9, second: Fit9, fit: &[f32; 9]) -> Leaders {
-    let one = scored_of(first);
-    let two = scored_of(second);
     let top = Top {
-        first: one,
-        second: two,
+        first: scored_of(first),
+        second: scored_of(second),
     };
     let t = search::insert_top(top, fit_of(*fit));
-    let a = t.first;
-    let b = t.second;
     Leaders {
-        first: optional_of(a),
-        second: optional_of(b),
+        first: Fit9::from(t.first),
+        second: Fit9::from(t.second),
     }
 }
 
@@ -449,18 +442,17 @@ pub extern "C" fn fl_refine_fit_cached(
 ) -> Fit9
     requires { DiskSized xs.now ys.now vals_centered.now grad_angles.now grad_weights.now }
 {
-    let mut rows = [0.0f32; 2240];
-    let r = search_refine::refine_fit_cached(
-        fit_of(*seed),
+    let d = Disk {
         val_energy,
         xs,
         ys,
         vals_centered,
         grad_angles,
         grad_weights,
-        &mut rows,
-    );
-    values_of(r.best)
+    };
+    let mut rows = [0.0f32; search_rows::ROWS];
+    let r = search_refine::refine_fit_cached(d, fit_of(*seed), &mut rows);
+    Fit9::from(Some(r.best))
 }
 
 #[unsafe(no_mangle)]
@@ -480,16 +472,15 @@ pub extern "C" fn fl_build_axis_rows(
 ) -> Rows
     requires { Outlined xs.now ys.now grad_angles.now grad_weights.now }
 {
-    let mut rows = [0.0f32; 2240];
-    let sums = search_rows::build_axis_rows(
+    let d = Disk {
+        val_energy: 0.0,
         xs,
         ys,
+        vals_centered: xs,
         grad_angles,
         grad_weights,
-        base,
-        offsets,
-        width,
-        &mut rows,
-    );
+    };
+    let mut rows = [0.0f32; search_rows::ROWS];
+    let sums = search_rows::build_axis_rows(d, base, offsets, width, &mut rows);
     Rows { sums, rows }
 }
