@@ -1,105 +1,220 @@
 // What is wrong with a line that is neither a frame nor an answer, in one sentence.
-ghost use Rattle.std.specs.Prelude.{◌≡◌, ◌+◌, ◌≤◌, length, slice_index};
+ghost use Rattle.std.specs.Prelude.{◌≡◌, ◌+◌, ◌≤◌, length};
 ghost use Rattle.explain_words.specs.Tell.{Told, flags_of};
 ghost use Rattle.explain_sentences.specs.Sentences as S;
 
-use explain_sorts::{
-    ANSWER_LENGTH, DISK_LENGTH, DISK_SHORT, FIT_NUMBER, FOREIGN, NO_NUMBER, RING_LENGTH, SHORT,
-    STRANGE_NUMBER, TOO_LONG, UNKNOWN_TYPE, Wrong,
-};
-use explain_words::numbers::{bits, letters, number, plural};
+use explain_sorts::Wrong;
+use explain_words::Page;
+use explain_words::numbers::{BLANK, Word, bits, letters, number, plural};
+use shapes::{Fault, Kind, RingKind};
 
-// The place of the first character that is no digit, or the length where there is none.
-fn first_foreign(line: &[u8]) -> usize
-    ensures { result ≡ S.foreign_from line.now (length line.now) 0 }
+// The first character that is no digit: its place.
+fn first_foreign(line: &[u8]) -> Option<usize>
+    ensures { result ≡ S.foreign_place line.now }
 {
-    let n = line.len();
-    for i in 0..n {
-        if !hexadecimal::is_hex(line[i]) {
-            return i;
-        }
-    }
-    n
+    line.iter().position(|b| !hexadecimal::is_hex(*b))
 }
 
-fn byte_of(line: &[u8], k: usize) -> u8
-    ensures { result ≡ slice_index line.now k }
+// That character, 0 where there is none.
+fn foreign_byte(line: &[u8]) -> u8
+    ensures { result ≡ S.foreign_byte line.now }
 {
-    if k < line.len() {
-        return line[k];
+    match first_foreign(line) {
+        Some(k) => line[k],
+        None => 0,
     }
-    0
+}
+
+// What is wrong, by its sentence.
+fn is_too_long(w: Wrong) -> bool
+    ensures { result ≡ S.is_too_long w }
+{
+    matches!(w, Wrong::Malformed(Fault::TooLong))
+}
+
+fn is_foreign(w: Wrong) -> bool
+    ensures { result ≡ S.is_foreign w }
+{
+    matches!(w, Wrong::Malformed(Fault::Foreign))
+}
+
+fn is_short(w: Wrong) -> bool
+    ensures { result ≡ S.is_short w }
+{
+    matches!(w, Wrong::Malformed(Fault::Short))
+}
+
+fn is_unknown_type(w: Wrong) -> bool
+    ensures { result ≡ S.is_unknown_type w }
+{
+    matches!(w, Wrong::UnknownType(_))
+}
+
+fn is_ring_length(w: Wrong) -> bool
+    ensures { result ≡ S.is_ring_length w }
+{
+    matches!(w, Wrong::Malformed(Fault::RingLength(RingKind::Sixteen)))
+}
+
+fn is_ring24_length(w: Wrong) -> bool
+    ensures { result ≡ S.is_ring24_length w }
+{
+    matches!(w, Wrong::Malformed(Fault::RingLength(RingKind::TwentyFour)))
+}
+
+fn is_disk_short(w: Wrong) -> bool
+    ensures { result ≡ S.is_disk_short w }
+{
+    matches!(w, Wrong::Malformed(Fault::DiskShort))
+}
+
+fn is_disk_length(w: Wrong) -> bool
+    ensures { result ≡ S.is_disk_length w }
+{
+    matches!(w, Wrong::Malformed(Fault::DiskLength(_)))
+}
+
+fn is_answer_length(w: Wrong) -> bool
+    ensures { result ≡ S.is_answer_length w }
+{
+    matches!(w, Wrong::AnswerLength(_))
+}
+
+fn is_ring_answer_length(w: Wrong) -> bool
+    ensures { result ≡ S.is_ring_answer_length w }
+{
+    matches!(w, Wrong::AnswerLength(Some(Kind::Ring(_))))
+}
+
+fn is_disk_answer_length(w: Wrong) -> bool
+    ensures { result ≡ S.is_disk_answer_length w }
+{
+    matches!(w, Wrong::AnswerLength(Some(Kind::Disk)))
+}
+
+fn is_malformed_answer_length(w: Wrong) -> bool
+    ensures { result ≡ S.is_malformed_answer_length w }
+{
+    matches!(w, Wrong::AnswerLength(None))
+}
+
+fn is_fit_number(w: Wrong) -> bool
+    ensures { result ≡ S.is_fit_number w }
+{
+    matches!(w, Wrong::FitNumber(_))
+}
+
+fn is_no_number(w: Wrong) -> bool
+    ensures { result ≡ S.is_no_number w }
+{
+    matches!(w, Wrong::NoNumber(_))
+}
+
+fn is_strange_number(w: Wrong) -> bool
+    ensures { result ≡ S.is_strange_number w }
+{
+    matches!(w, Wrong::StrangeNumber(_, _))
 }
 
 fn flags_of(w: Wrong, n: usize, b: u8) -> [bool; 20]
     ensures { (result ≡ flags_of (S.bad_rows w n b)) × (20 ≡ length result) }
 {
-    let why = w.why;
     let upper = (b > 64) & (b < 71);
     let returned = b == 13;
-    let foreign = why == FOREIGN;
-    let short = why == SHORT;
-    let ring = why == RING_LENGTH;
-    let long = why == ANSWER_LENGTH;
-    let strange = why == STRANGE_NUMBER;
+    let foreign = is_foreign(w);
+    let short = is_short(w);
+    let strange = is_strange_number(w);
     [
         true,
-        why == TOO_LONG,
+        is_too_long(w),
         foreign & upper,
         foreign & returned,
         foreign & !(upper | returned),
         short & (n == 0),
         short & (n != 0),
-        why == UNKNOWN_TYPE,
-        ring & (w.kind == 1),
-        ring & (w.kind == 3),
-        why == DISK_SHORT,
-        why == DISK_LENGTH,
-        long,
-        long & ((w.kind == 129) | (w.kind == 131)),
-        long & (w.kind == 130),
-        long & (w.kind == 255),
-        why == FIT_NUMBER,
-        why == NO_NUMBER,
+        is_unknown_type(w),
+        is_ring_length(w),
+        is_ring24_length(w),
+        is_disk_short(w),
+        is_disk_length(w),
+        is_answer_length(w),
+        is_ring_answer_length(w),
+        is_disk_answer_length(w),
+        is_malformed_answer_length(w),
+        is_fit_number(w),
+        is_no_number(w),
         strange,
         strange,
     ]
 }
 
+// The type that a sentence speaks of, the count of pixels, and the number of refusal: 0 where it speaks of none.
+fn type_of(w: Wrong) -> u32 {
+    match w {
+        Wrong::UnknownType(kind) => kind,
+        Wrong::AnswerLength(kind) | Wrong::StrangeNumber(kind, _) => {
+            u32::from(super::answer_type(kind))
+        }
+        _ => 0,
+    }
+}
+
+fn pixels_of(w: Wrong) -> u32 {
+    match w {
+        Wrong::Malformed(Fault::DiskLength(n)) => n,
+        _ => 0,
+    }
+}
+
+fn number_of(w: Wrong) -> u32 {
+    match w {
+        Wrong::FitNumber(n) | Wrong::NoNumber(n) | Wrong::StrangeNumber(_, n) => n,
+        _ => 0,
+    }
+}
+
 // People count characters from 1.
-fn words_of(line: u64, n: usize, place: usize, b: u8, w: Wrong) -> [[u8; 24]; 11]
+fn place_word(line: &[u8]) -> Word {
+    match first_foreign(line) {
+        Some(k) => number(std::num::wrapping_add_u64(k as u64, 1)),
+        None => BLANK,
+    }
+}
+
+fn words_of(line_number: u64, line: &[u8], b: u8, w: Wrong) -> [Word; 11]
     ensures { 11 ≡ length result }
 {
-    let characters = n as u64;
-    let pixels = w.pixels as u64;
+    let characters = line.len() as u64;
+    let pixels = u64::from(pixels_of(w));
+    let odd = if characters % 2 == 1 {
+        letters(b" (an odd number)")
+    } else {
+        BLANK
+    };
     [
-        number(line),
-        number(std::num::wrapping_add_u64(place as u64, 1)),
-        bits(b as u64, 2),
-        bits(w.kind as u64, 2),
+        number(line_number),
+        place_word(line),
+        bits(u64::from(b), 2),
+        bits(u64::from(type_of(w)), 2),
         number(characters),
         plural(characters),
-        letters(characters % 2 == 1, b" (an odd number)"),
+        odd,
         number(30 + 40 * pixels),
         number(pixels),
         plural(pixels),
-        number(w.number as u64),
+        number(u64::from(number_of(w))),
     ]
 }
 
 // Line number `number`.
-pub fn told(text: &mut [u8], at: usize, number: u64, line: &[u8], w: Wrong) -> usize
-    requires { at + 24936 ≤ length text.old }
-    ensures { (result ≤ at + 24936) × Told (S.line_rows w line.now) text.old at text.new result }
+pub fn told(page: &mut Page, number: u64, line: &[u8], w: Wrong)
+    requires { page.old.at + 24936 ≤ length page.old.text.now }
+    ensures { (page.new.at ≤ page.old.at + 24936) × Told (S.line_rows w line.now) page.old page.new }
 {
-    let n = line.len();
-    let place = first_foreign(line);
-    let b = byte_of(line, place);
-    let flags = flags_of(w, n, b);
-    let words = words_of(number, n, place, b, w);
-    explain_words::tell(
-        text,
-        at,
+    let b = foreign_byte(line);
+    let flags = flags_of(w, line.len(), b);
+    let words = words_of(number, line, b, w);
+    page.tell(
         b"line {a}: bad line: |\
 over 12830 characters, the most that a frame has
 |upper-case digit at character {b}: the house format is lower-case
@@ -123,5 +238,5 @@ a ring has 1 and 3, a disk 1 to 4, type ff has 5
 |",
         &flags,
         &words,
-    )
+    );
 }

@@ -2,50 +2,73 @@
 ghost use Rattle.std.specs.Prelude.{◌≡◌, ◌+◌, ◌≤◌, length};
 ghost use Rattle.explain_words.specs.Tell.{flags_of};
 ghost use Rattle.shapes.specs.Shapes.{fit_length};
-ghost use Rattle.explain_sorts.specs.Sorts.{is_disk_answer};
 ghost use Rattle.explain_sentences.specs.Sentences as S;
 
 use explain_warnings::Reading;
-use explain_words::numbers::{figures, hundredths, letters, number, only, plural, thousandths};
+use explain_words::Page;
+use explain_words::numbers::{
+    BLANK, Word, figures, hundredths, letters, number, plural, thousandths,
+};
+use shapes::{Kind, RingKind};
 
 fn degrees(x: f32) -> f64 {
     floats::widen(x) * 57.29577951308232
 }
 
-fn figures_of(x: f32) -> [u8; 24] {
+fn figures_of(x: f32) -> Word {
     figures(floats::widen(x))
 }
 
-// The residual in percent of the amplitude.
-fn share_of(r: Reading) -> f64 {
-    floats::widen(r.rms) / floats::widen(r.amp) * 100.0
+// The residual in percent of the amplitude, where that says anything.
+fn share_of(r: Reading) -> Option<f64> {
+    let share = floats::widen(r.rms) / floats::widen(r.amp) * 100.0;
+    if (share >= 0.0) & (share < 1000000.0) {
+        return Some(share);
+    }
+    None
 }
 
-// Whether that says anything.
-fn is_share(x: f64) -> bool {
-    (x >= 0.0) & (x < 1000000.0)
+// The words of that share: what stands in front of it, the number, and what stands behind it.
+fn share_words(r: Reading) -> [Word; 3]
+    ensures { 3 ≡ length result }
+{
+    match share_of(r) {
+        Some(share) => [
+            letters(b" ("),
+            hundredths(share),
+            letters(b" % of the amplitude)"),
+        ],
+        None => [BLANK; 3],
+    }
 }
 
 // The updates that the noun stands behind: a lone start has no second number.
 fn last_updates(r: Reading) -> u64 {
     if r.starts == 1 {
-        return r.first as u64;
+        return u64::from(r.first);
     }
-    r.second as u64
+    u64::from(r.second)
 }
 
-fn words_of(line: u64, r: Reading) -> [[u8; 24]; 24]
+// The updates of the second start behind those of the first, where there are two.
+fn second_words(r: Reading) -> [Word; 2]
+    ensures { 2 ≡ length result }
+{
+    if r.starts == 1 {
+        return [BLANK; 2];
+    }
+    [letters(b" and "), number(u64::from(r.second))]
+}
+
+fn words_of(line: u64, r: Reading) -> [Word; 24]
     ensures { 24 ≡ length result }
 {
     let x = degrees(r.theta1);
     let y = degrees(r.theta2);
-    let share = share_of(r);
-    let shared = is_share(share);
-    let starts = r.starts as u64;
-    let first = r.first as u64;
-    let second = r.second as u64;
-    let two = starts != 1;
-    let trials = r.trials as u64;
+    let [open, share, close] = share_words(r);
+    let starts = u64::from(r.starts);
+    let [and, second] = second_words(r);
+    let trials = u64::from(r.trials);
     [
         number(line),
         hundredths(x),
@@ -55,14 +78,14 @@ fn words_of(line: u64, r: Reading) -> [[u8; 24]; 24]
         thousandths(degrees(r.error2)),
         figures_of(r.amp),
         figures_of(r.rms),
-        letters(shared, b" ("),
-        only(shared, hundredths(share)),
-        letters(shared, b" % of the amplitude)"),
+        open,
+        share,
+        close,
         number(starts),
         plural(starts),
-        number(first),
-        letters(two, b" and "),
-        only(two, number(second)),
+        number(u64::from(r.first)),
+        and,
+        second,
         plural(last_updates(r)),
         figures_of(r.rel_rms),
         figures_of(r.width),
@@ -75,18 +98,18 @@ fn words_of(line: u64, r: Reading) -> [[u8; 24]; 24]
 }
 
 // Which sentences are told: a ring's, a disk's or both's.
-fn flags_of(kind: u32, r: Reading) -> [bool; 15]
+fn flags_of(kind: Kind, r: Reading) -> [bool; 15]
     ensures { (result ≡ flags_of (S.fit_rows kind r)) × (15 ≡ length result) }
 {
     let disk = r.disk;
-    let unknown = r.known == 0;
+    let kind = Some(kind);
     [
-        kind == 129,
-        kind == 131,
-        kind == 130,
+        super::of_ring(kind, RingKind::Sixteen),
+        super::of_ring(kind, RingKind::TwentyFour),
+        super::of_disk(kind),
         true,
-        !unknown,
-        unknown,
+        r.known,
+        !r.known,
         true,
         true,
         !disk,
@@ -99,17 +122,15 @@ fn flags_of(kind: u32, r: Reading) -> [bool; 15]
     ]
 }
 
-// Line number `number`, a fit of its answer's type.
-pub fn told(text: &mut [u8], at: usize, number: u64, line: &[u8], kind: u32) -> usize
-    requires { (fit_length (is_disk_answer kind) ≤ length line.now) × (at + 44424 ≤ length text.old) }
-    ensures { (result ≤ at + 44424) × S.Fitted line.now kind text.old at text.new result }
+// Line number `number`, a fit of its answer's kind.
+pub fn told(page: &mut Page, number: u64, line: &[u8], kind: Kind)
+    requires { (fit_length kind ≤ length line.now) × (page.old.at + 44424 ≤ length page.old.text.now) }
+    ensures { (page.new.at ≤ page.old.at + 44424) × S.Fitted line.now kind page.old page.new }
 {
-    let r = explain_warnings::read(line, kind == 130);
+    let r = explain_warnings::read(line, kind);
     let flags = flags_of(kind, r);
     let words = words_of(number, r);
-    let p = explain_words::tell(
-        text,
-        at,
+    page.tell(
         b"line {a}: ring fit
 |line {a}: 24-point ring fit
 |line {a}: disk fit
@@ -129,5 +150,5 @@ pub fn told(text: &mut [u8], at: usize, number: u64, line: &[u8], kind: u32) -> 
         &flags,
         &words,
     );
-    explain_warnings::warnings(text, p, r)
+    explain_warnings::warnings(page, r);
 }

@@ -2,65 +2,161 @@
 // equals its definition in specs/Sentences.antt. The words in their blanks are proved safe, no more.
 #![tactic(auto)]
 
-use explain_sorts::Above;
-use explain_words::numbers::{bits, number, plural};
+use explain_sorts::{Above, Asks, Due};
+use explain_words::Page;
+use explain_words::numbers::{BLANK, Word, bits, number, plural};
+use shapes::{Kind, RingKind};
 
 pub mod bad;
 pub mod fit;
 pub mod refusal;
 
-ghost use Rattle.std.specs.Prelude.{◌+◌, ◌≤◌, length};
+ghost use Rattle.std.specs.Prelude.{◌≡◌, ◌+◌, ◌≤◌, length, is_none};
 ghost use Rattle.explain_words.specs.Tell.{Told};
 ghost use Rattle.explain_sentences.specs.Sentences as S;
 
-// A frame that no answer follows. A bar ends a sentence, here and in all that follow.
-pub fn alone_told(text: &mut [u8], at: usize, alone: bool, a: Above) -> usize
-    requires { at + 5280 ≤ length text.old }
-    ensures { (result ≤ at + 5280) × Told (S.alone_rows alone a) text.old at text.new result }
+fn of_ring(kind: Option<Kind>, ring: RingKind) -> bool
+    ensures { result ≡ S.of_ring ring kind }
 {
+    match kind {
+        Some(Kind::Ring(k)) => k == ring,
+        _ => false,
+    }
+}
+
+fn of_disk(kind: Option<Kind>) -> bool
+    ensures { result ≡ S.of_disk kind }
+{
+    matches!(kind, Some(Kind::Disk))
+}
+
+fn of_malformed(kind: Option<Kind>) -> bool
+    ensures { result ≡ is_none kind }
+{
+    kind.is_none()
+}
+
+// The type of an answer, ff of a malformed line.
+fn answer_type(kind: Option<Kind>) -> u8 {
+    match kind {
+        Some(Kind::Ring(k)) => k.answer_type(),
+        Some(Kind::Disk) => 130,
+        None => 255,
+    }
+}
+
+// What the frame above is of, where a frame stands there.
+fn kind_above(a: Above) -> Option<Kind>
+    ensures { result ≡ S.kind_above a }
+{
+    match a {
+        Above::Asked(f) => match f.asks {
+            Asks::Ring(k) => Some(Kind::Ring(k)),
+            Asks::Disk(_) => Some(Kind::Disk),
+        },
+        _ => None,
+    }
+}
+
+// Whether what stands above is due a refusal, or a frame of finite values a fit.
+fn is_refused(a: Above) -> bool
+    ensures { result ≡ S.is_refused a }
+{
+    match a {
+        Above::Asked(f) => !matches!(f.due, Due::Fit),
+        Above::Malformed(_) => true,
+        Above::Nothing | Above::Flawed(_) => false,
+    }
+}
+
+fn is_clean(a: Above) -> bool
+    ensures { result ≡ S.is_clean a }
+{
+    match a {
+        Above::Asked(f) => matches!(f.due, Due::Fit),
+        _ => false,
+    }
+}
+
+// The words of what stands above: the number of its line, its count of pixels.
+fn line_above(a: Above) -> Word {
+    match a {
+        Above::Nothing => BLANK,
+        Above::Asked(f) => number(f.line),
+        Above::Malformed(line) | Above::Flawed(line) => number(line),
+    }
+}
+
+fn pixels_above(a: Above) -> u32 {
+    match a {
+        Above::Asked(f) => match f.asks {
+            Asks::Ring(_) => 0,
+            Asks::Disk(n) => n,
+        },
+        _ => 0,
+    }
+}
+
+// A frame that no answer follows. A bar ends a sentence, here and in all that follow.
+pub fn alone_told(page: &mut Page, alone: bool, a: Above)
+    requires { page.old.at + 5280 ≤ length page.old.text.now }
+    ensures { (page.new.at ≤ page.old.at + 5280) × Told (S.alone_rows alone a) page.old page.new }
+{
+    let kind = kind_above(a);
     let flags = [
-        alone & (a.kind == 1),
-        alone & (a.kind == 3),
-        alone & (a.kind == 2),
+        alone & of_ring(kind, RingKind::Sixteen),
+        alone & of_ring(kind, RingKind::TwentyFour),
+        alone & of_disk(kind),
     ];
-    let n = a.pixels as u64;
-    let words = [number(a.line), number(n), plural(n)];
-    explain_words::tell(
-        text,
-        at,
+    let n = u64::from(pixels_above(a));
+    let words = [line_above(a), number(n), plural(n)];
+    page.tell(
         b"line {a}: ring frame without an answer: run it through fitlines
 |line {a}: 24-point ring frame without an answer: run it through fitlines
 |line {a}: disk frame of {b} pixel{c} without an answer: run it through fitlines
 |",
         &flags,
         &words,
+    );
+}
+
+// A refusal as its line is written.
+fn refusal_line(kind: Option<Kind>, number: u8, place: u16) -> Word {
+    let answer = u64::from(answer_type(kind));
+    bits(
+        answer * 16777216 + u64::from(number) * 65536 + u64::from(place),
+        8,
     )
 }
 
-// The refusal that the frame above is due, as its line is written.
-fn due(a: Above) -> [u8; 24] {
-    let kind = shapes::answer_type(a.kind) as u64;
-    let number = a.number as u64;
-    let place = a.place as u64;
-    bits(kind * 16777216 + number * 65536 + place, 8)
+// The refusal that what stands above is due.
+fn due(a: Above) -> Word {
+    match a {
+        Above::Asked(f) => match f.due {
+            Due::Fit => BLANK,
+            Due::BadCount => refusal_line(kind_above(a), 2, 0),
+            Due::Wild(k, _) => refusal_line(kind_above(a), 3, k),
+        },
+        Above::Malformed(_) => refusal_line(None, 5, 0),
+        Above::Nothing | Above::Flawed(_) => BLANK,
+    }
 }
 
 // An answer that is not that of the frame above it.
-pub fn mismatch_told(text: &mut [u8], at: usize, strange: bool, a: Above) -> usize
-    requires { at + 8760 ≤ length text.old }
-    ensures { (result ≤ at + 8760) × Told (S.mismatch_rows strange a) text.old at text.new result }
+pub fn mismatch_told(page: &mut Page, strange: bool, a: Above)
+    requires { page.old.at + 8760 ≤ length page.old.text.now }
+    ensures { (page.new.at ≤ page.old.at + 8760) × Told (S.mismatch_rows strange a) page.old page.new }
 {
-    let clean = a.number == 0;
+    let kind = kind_above(a);
+    let clean = is_clean(a);
     let flags = [
-        strange & (a.number != 0),
-        strange & (clean & (a.kind == 1)),
-        strange & (clean & (a.kind == 3)),
-        strange & (clean & (a.kind == 2)),
+        strange & is_refused(a),
+        strange & (clean & of_ring(kind, RingKind::Sixteen)),
+        strange & (clean & of_ring(kind, RingKind::TwentyFour)),
+        strange & (clean & of_disk(kind)),
     ];
-    let words = [number(a.line), due(a)];
-    explain_words::tell(
-        text,
-        at,
+    let words = [line_above(a), due(a)];
+    page.tell(
         b"  warning: this does not answer line {a}: its frame is refused, {b}
 |  warning: this does not answer line {a}: a ring frame of finite values has a ring fit
 |  warning: this does not answer line {a}: a 24-point ring frame of finite values has a 24-point ring fit
@@ -68,5 +164,5 @@ pub fn mismatch_told(text: &mut [u8], at: usize, strange: bool, a: Above) -> usi
 |",
         &flags,
         &words,
-    )
+    );
 }

@@ -1,162 +1,249 @@
 // A refusal in sentences: why, and at which value, with the value itself where the frame above is
 // refused for it.
-ghost use Rattle.std.specs.Prelude.{◌≡◌, ◌+◌, ◌≤◌, length};
+ghost use Rattle.std.specs.Prelude.{◌≡◌, ◌+◌, ◌≤◌, length, is_none};
 ghost use Rattle.explain_words.specs.Tell.{Told, flags_of};
 ghost use Rattle.explain_sentences.specs.Sentences as S;
 
-use explain_sorts::{Above, Refusal};
-use explain_words::numbers::{bits, figures, number, plural};
+use explain_sorts::{Above, Asks, Due, Refusal};
+use explain_words::Page;
+use explain_words::numbers::{BLANK, Word, bits, figures, number, plural};
+use shapes::{Kind, RingKind};
 
-// Which of a disk's values: the energy, the two base angles, then the five runs of n values.
-fn part_of(n: u32, place: u32) -> u32
-    requires { place ≤ 65535 }
-    ensures { (result ≤ 65538) × (result ≡ S.part_of n place) }
-{
-    if place < 3 {
-        return place;
-    }
-    if n == 0 {
-        return 8;
-    }
-    3 + (place - 3) / n
+// Which of a disk's values: the energy, the two base angles, then the five runs of n values; or behind them.
+#[derive(Clone, Copy, PartialEq, Eq)]
+enum Part {
+    Energy,
+    Base0,
+    Base1,
+    Xs,
+    Ys,
+    ValsCentered,
+    GradAngles,
+    GradWeights,
+    Beyond,
 }
 
-fn name_of(r: Refusal, a: Above) -> u32
-    requires { r.place ≤ 65535 }
+// The part with the number k.
+fn numbered(k: u32) -> Part
+    ensures { result ≡ S.numbered k }
+{
+    match k {
+        0 => Part::Energy,
+        1 => Part::Base0,
+        2 => Part::Base1,
+        3 => Part::Xs,
+        4 => Part::Ys,
+        5 => Part::ValsCentered,
+        6 => Part::GradAngles,
+        7 => Part::GradWeights,
+        _ => Part::Beyond,
+    }
+}
+
+fn part_of(n: u32, place: u32) -> Part
+    requires { place ≤ 65535 }
+    ensures { result ≡ S.part_of n place }
+{
+    if place < 3 {
+        return numbered(place);
+    }
+    if n == 0 {
+        return Part::Beyond;
+    }
+    numbered(3 + (place - 3) / n)
+}
+
+// The count of pixels of the disk above, where it is not refused.
+fn count_above(a: Above) -> Option<u32>
+    ensures { result ≡ S.count_above a }
+{
+    match a {
+        Above::Asked(f) => match (f.asks, f.due) {
+            (Asks::Ring(_), _) | (_, Due::BadCount) => None,
+            (Asks::Disk(n), _) => Some(n),
+        },
+        _ => None,
+    }
+}
+
+fn is_disk(r: Refusal) -> bool
+    ensures { result ≡ S.is_disk r }
+{
+    super::of_disk(r.kind) & (r.number == 3)
+}
+
+fn name_of(r: Refusal, a: Above) -> Option<Part>
     ensures { result ≡ S.name_of r a }
 {
-    let disk = (r.kind == 130) & (r.number == 3);
-    if disk & (a.kind == 2) & (a.number != 2) {
-        return 1 + part_of(a.pixels, r.place);
+    if !is_disk(r) {
+        return None;
     }
-    0
+    match count_above(a) {
+        Some(n) => Some(part_of(n, u32::from(r.place))),
+        None => None,
+    }
+}
+
+fn is_part(name: Option<Part>, part: Part) -> bool
+    ensures { result ≡ S.is_part part name }
+{
+    name == Some(part)
+}
+
+fn is_nameless(name: Option<Part>) -> bool
+    ensures { result ≡ is_none name }
+{
+    name.is_none()
+}
+
+// Whether the frame above is refused for a value.
+fn is_wild(a: Above) -> bool
+    ensures { result ≡ S.is_wild a }
+{
+    match a {
+        Above::Asked(f) => matches!(f.due, Due::Wild(_, _)),
+        _ => false,
+    }
 }
 
 fn is_shown(r: Refusal, a: Above) -> bool
     ensures { result ≡ S.is_shown r a }
 {
-    (a.number == 3) & explain_sorts::belongs(a, r.kind, r.number, r.place)
+    is_wild(a) & explain_sorts::belongs(a, r.kind, r.number, r.place)
 }
 
-fn is_ring(r: Refusal) -> bool
-    ensures { result ≡ S.is_ring r }
+// Whether a line stands above that is no frame and no answer.
+fn is_bad(a: Above) -> bool
+    ensures { result ≡ S.is_bad a }
 {
-    ((r.kind == 129) | (r.kind == 131)) & (r.number == 3)
+    matches!(a, Above::Malformed(_) | Above::Flawed(_))
 }
 
-fn samples_at(r: Refusal) -> usize
-    ensures { (result ≤ 24) × (result ≡ S.samples_at r) }
-{
-    shapes::samples_of(r.kind % 128)
-}
-
+// Whether a place is one of a ring's samples, or of the angles behind them.
 fn is_sample(r: Refusal) -> bool
     ensures { result ≡ S.is_sample r }
 {
-    is_ring(r) & ((r.place as usize) < samples_at(r))
+    match r.kind {
+        Some(Kind::Ring(k)) => (r.number == 3) & (usize::from(r.place) < k.samples()),
+        _ => false,
+    }
 }
 
 fn is_angle(r: Refusal) -> bool
     ensures { result ≡ S.is_angle r }
 {
-    let n = samples_at(r);
-    let place = r.place as usize;
-    is_ring(r) & (place >= n) & (place < 2 * n)
+    let place = usize::from(r.place);
+    match r.kind {
+        Some(Kind::Ring(k)) => {
+            (r.number == 3) & (place >= k.samples()) & (place < 2 * k.samples())
+        }
+        _ => false,
+    }
 }
 
-fn flags_of(r: Refusal, above: u32, name: u32, shown: bool) -> [bool; 30]
-    ensures { (result ≡ flags_of (S.refusal_rows r above name shown)) × (30 ≡ length result) }
+fn flags_of(r: Refusal, a: Above, name: Option<Part>, shown: bool) -> [bool; 30]
+    ensures { (result ≡ flags_of (S.refusal_rows r a name shown)) × (30 ≡ length result) }
 {
-    let kind = r.kind;
     let number = r.number;
     let place = r.place;
+    let ring = super::of_ring(r.kind, RingKind::Sixteen);
+    let ring24 = super::of_ring(r.kind, RingKind::TwentyFour);
+    let nameless = is_disk(r) & is_nameless(name);
     [
-        kind == 129,
-        kind == 131,
-        kind == 130,
-        kind == 255,
+        ring,
+        ring24,
+        super::of_disk(r.kind),
+        super::of_malformed(r.kind),
         number == 1,
         number == 2,
         number == 3,
         number == 4,
         number == 5,
-        (number == 2) & (above == 2),
+        (number == 2) & super::of_disk(super::kind_above(a)),
         is_sample(r),
         is_angle(r),
-        (kind == 129) & (number == 3) & (place > 31),
-        (kind == 131) & (number == 3) & (place > 47),
-        name == 1,
-        name == 2,
-        name == 3,
-        name == 4,
-        name == 5,
-        name == 6,
-        name == 7,
-        name == 8,
-        name > 8,
-        (kind == 130) & (number == 3) & (name == 0),
-        (kind == 130) & (number == 3) & (name == 0),
+        ring & (number == 3) & (place > 31),
+        ring24 & (number == 3) & (place > 47),
+        is_part(name, Part::Energy),
+        is_part(name, Part::Base0),
+        is_part(name, Part::Base1),
+        is_part(name, Part::Xs),
+        is_part(name, Part::Ys),
+        is_part(name, Part::ValsCentered),
+        is_part(name, Part::GradAngles),
+        is_part(name, Part::GradWeights),
+        is_part(name, Part::Beyond),
+        nameless,
+        nameless,
         shown,
         number == 3,
         number == 4,
-        (number == 5) & (above == 255),
+        (number == 5) & is_bad(a),
         (place != 0) & ((number == 1) | (number == 2) | (number == 5)),
     ]
 }
 
 // Which angle: they stand behind the samples.
 fn angle_of(r: Refusal) -> usize {
-    let n = samples_at(r);
-    let place = r.place as usize;
-    if place < n {
-        return 0;
+    match r.kind {
+        Some(Kind::Ring(k)) => usize::from(r.place).saturating_sub(k.samples()),
+        _ => 0,
     }
-    place - n
 }
 
 // Which pixel of its run.
-fn pixel_of(n: u32, place: u32) -> u32 {
-    if place < 3 {
-        return 0;
-    }
+fn pixel_of(n: u32, place: u16) -> u32 {
     if n == 0 {
         return 0;
     }
-    (place - 3) % n
+    u32::from(place.saturating_sub(3)) % n
 }
 
-fn words_of(line: u64, r: Refusal, a: Above) -> [[u8; 24]; 11]
+// The value that the frame above is refused for, and its bits.
+fn value_words(a: Above) -> [Word; 2]
+    ensures { 2 ≡ length result }
+{
+    match a {
+        Above::Asked(f) => match f.due {
+            Due::Wild(_, w) => [
+                figures(floats::widen(floats::from_bits(w))),
+                bits(u64::from(w), 8),
+            ],
+            _ => [BLANK; 2],
+        },
+        _ => [BLANK; 2],
+    }
+}
+
+fn words_of(line: u64, r: Refusal, a: Above) -> [Word; 11]
     ensures { 11 ≡ length result }
 {
-    let place = r.place as u64;
-    let pixels = a.pixels as u64;
-    let pixel = pixel_of(a.pixels, r.place);
+    let place = u64::from(r.place);
+    let pixels = super::pixels_above(a);
+    let [value, value_bits] = value_words(a);
     [
         number(line),
-        number(r.number as u64),
-        number(pixels),
+        number(u64::from(r.number)),
+        number(u64::from(pixels)),
         number(place),
         number(angle_of(r) as u64),
-        number(pixel as u64),
-        plural(pixels),
-        figures(floats::widen(floats::from_bits(a.bits))),
-        bits(a.bits as u64, 8),
+        number(u64::from(pixel_of(pixels, r.place))),
+        plural(u64::from(pixels)),
+        value,
+        value_bits,
         plural(place),
-        number(a.line),
+        super::line_above(a),
     ]
 }
 
-pub fn told(text: &mut [u8], at: usize, line: u64, r: Refusal, a: Above) -> usize
-    requires { (r.place ≤ 65535) × (at + 26952 ≤ length text.old) }
-    ensures { (result ≤ at + 26952) × Told (S.refused_rows r a) text.old at text.new result }
+pub fn told(page: &mut Page, line: u64, r: Refusal, a: Above)
+    requires { page.old.at + 26952 ≤ length page.old.text.now }
+    ensures { (page.new.at ≤ page.old.at + 26952) × Told (S.refused_rows r a) page.old page.new }
 {
     let name = name_of(r, a);
-    let shown = is_shown(r, a);
-    let flags = flags_of(r, a.kind, name, shown);
+    let flags = flags_of(r, a, name, is_shown(r, a));
     let words = words_of(line, r, a);
-    explain_words::tell(
-        text,
-        at,
+    page.tell(
         b"line {a}: ring refused, number {b}: |\
 line {a}: 24-point ring refused, number {b}: |\
 line {a}: disk refused, number {b}: |\
@@ -183,5 +270,5 @@ is {h} (bits {i})|
 |",
         &flags,
         &words,
-    )
+    );
 }

@@ -1,6 +1,6 @@
 -- What a line of frames and answers is, and which answer the frame above it is due. Definitions only.
 use Rattle.std.specs.Prelude.{Bool, true, false, cond, not, ◌&&◌, ◌||◌, List, ℕ, zero, suc, ◌+◌, ◌*◌, ◌≤◌, ◌<◌, length, eqb, ltb}
-use Rattle.std.specs.Prelude.{Option, Some, None}
+use Rattle.std.specs.Prelude.{Option, Some, None, is_none}
 use Rattle.std.specs.Float.Ieee.Scale.{finite}
 use Rattle.hexadecimal.specs.Hex.{byte_of, word_of, value_of}
 use Rattle.shapes.specs.Shapes.{shape_of, fit_length, samples_of}
@@ -122,10 +122,6 @@ is_dued asks Dues.Fit number place = is_fit_of asks number
 
 abbrev pub is_due : Frame → ℕ → ℕ → Bool
 is_due f number place = is_dued f.asks f.due number place
-
-abbrev pub is_none : Option Kind → Bool
-is_none None = true
-is_none (Some kind) = false
 
 abbrev pub belongs : Above → Option Kind → ℕ → ℕ → Bool
 belongs (Aboves.Asked f) kind number place = is_asked f.asks kind && is_due f number place

@@ -19,7 +19,7 @@ pub const PIXEL: usize = 40;
 pub const LIMIT: usize = DISK_HEAD + PIXEL * data::MAX_TANH_PIXELS;
 
 // The two rings: 16 samples, of type 01, and 24, of type 03.
-#[derive(Clone, Copy)]
+#[derive(Clone, Copy, PartialEq, Eq)]
 pub enum RingKind {
     Sixteen,
     TwentyFour,

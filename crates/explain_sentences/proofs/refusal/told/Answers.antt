@@ -9,7 +9,5 @@ use Rattle.explain_sentences.proofs.refusal.told.Goals as goal
 pub returns : goal.returns
 unfolding S.refusal_rows barred bytes codes all_barless barless
 returns c =
-    let r = c.args.r in
-    let a = c.args.a in
-    let e = rw (c.name_of-name.ensures, c.is_shown-shown.ensures) at c.flags_of-flags.ensures.0 in
-    (omega (arith, c.tell.ensures.fits), rows_told (S.refused_rows r a) _ c.tell.ensures.written e refl)
+    let e = rw (c.name_of-name.ensures, c.is_shown.ensures) at c.flags_of-flags.ensures.0 in
+    (omega (arith, c.tell.ensures.fits), rows_told (S.refused_rows c.args.r c.args.a) _ c.tell.ensures.said e refl)
