@@ -1,5 +1,5 @@
 -- The search, and its errors or its trials; these are at most 96 where nothing is answered. Assumes nothing.
-use Rattle.std.proofs.Common.{sym, ◌∙◌, arith}
+use Rattle.std.proofs.Common.{sym, arith}
 use Rattle.search.proofs.BillLaws.{missing_trials}
 use Rattle.checked.specs.Checked as C
 use Rattle.checked.proofs.disk_fitted.Goals as goal
