@@ -12,9 +12,7 @@ use Rattle.solver_record.specs.declared.TwoAxisFit.{TwoAxisFit}
 use Rattle.score.specs.Score.{fit_estimate}
 use Rattle.score.specs.declared.Fit.{Fit}
 use Rattle.data.specs.Data.{DiskData, max_tanh_pixels}
-use Rattle.search.specs.Search.{best_disk_fit}
-use Rattle.search.specs.declared.DiskFit.{DiskFit}
-use Rattle.search.specs.declared.DiskFit.TheVariants.{Best, Missing}
+use Rattle.search.specs.Search.{DiskFit, best_disk_fit}
 use Rattle.checked.specs.declared.Measured.{Measured}
 use Rattle.checked.specs.declared.Refusal.{Refusal}
 use Rattle.checked.specs.declared.Refusal.TheVariants.{WrongLength, PixelCount, NotFinite, NothingFound, TablesFull}
@@ -117,8 +115,8 @@ measured_of D f trials = record { fit = f; estimate = fit_estimate D f; trials =
 
 -- or that there is none after so many trials
 unfoldable pub disk_measured : DiskData → DiskFit → DiskAnswer
-disk_measured D (Missing trials) = Err (NothingFound trials)
-disk_measured D (Best f trials) = Ok (measured_of D f trials)
+disk_measured D (Err trials) = Err (NothingFound trials)
+disk_measured D (Ok r) = Ok (measured_of D r.best r.trials)
 
 unfoldable pub disk_fitted : DiskData → Float → Float → DiskAnswer
 disk_fitted D base0 base1 = disk_measured D (best_disk_fit D base0 base1)

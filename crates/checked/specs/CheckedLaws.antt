@@ -15,7 +15,7 @@ use Rattle.data.specs.Data.{DiskData}
 use Rattle.checked.specs.declared.Refusal.{Refusal}
 use Rattle.checked.specs.declared.Refusal.TheVariants.{WrongLength, NotFinite}
 use Rattle.seed_models.specs.Models.{Table}
-use Rattle.checked.specs.Checked.{wild_from, first_wild, ring_inputs, ring_sized, ring_looked, checked_ring, disk_fitted, disk_looked}
+use Rattle.checked.specs.Checked.{wild_from, first_wild, ring_inputs, disk_inputs, ring_sized, ring_looked, checked_ring, disk_fitted, disk_looked}
 use Rattle.checked.specs.Parts.{still_fine, all_finite, wild_position, Test, moved, values_test, values_from, tested, RingTested}
 
 -- ---- lists one behind the other, as the code looks at them
@@ -89,25 +89,31 @@ pub ring_places : (n : ℕ) (a b : List Float) → length a ≡ n → values_tes
 ring_places n a b e = unmoved_test (a ++ b) ∙ tested_append 0 n a b (omega (arith, e))
 
 -- a disk's three lone values and five lists, each of n
-module _ (n : ℕ) (e b0 b1 : Float) (xs ys vs gs ws : List Float) where
+module _ (D : DiskData) (base0 base1 : Float) where
   abbrev pub disk_places : Test
   disk_places =
-      tested (values_from 0 (e ∷ b0 ∷ b1 ∷ []))
-      (tested (values_from 3 xs)
-      (tested (values_from (3 + n) ys)
-      (tested (values_from (3 + 2 * n) vs)
-      (tested (values_from (3 + 3 * n) gs)
-      (values_from (3 + 4 * n) ws)))))
+      tested (values_from 0 (D.val_energy ∷ base0 ∷ base1 ∷ []))
+      (tested (values_from 3 D.xs)
+      (tested (values_from (3 + D.n) D.ys)
+      (tested (values_from (3 + 2 * D.n) D.vals_centered)
+      (tested (values_from (3 + 3 * D.n) D.grad_angles)
+      (values_from (3 + 4 * D.n) D.grad_weights)))))
 
-  pub disk_places_lem : length xs ≡ n → length ys ≡ n → length vs ≡ n → length gs ≡ n →
-      disk_places ≡ values_test (first_wild (e ∷ b0 ∷ b1 ∷ (xs ++ (ys ++ (vs ++ (gs ++ ws))))))
+  pub disk_places_lem : length D.xs ≡ D.n → length D.ys ≡ D.n → length D.vals_centered ≡ D.n → length D.grad_angles ≡ D.n →
+      disk_places ≡ values_test (first_wild (disk_inputs D base0 base1))
   disk_places_lem hx hy hv ha =
-      let four = tested_append (3 + 3 * n) (3 + 4 * n) gs ws (omega (arith, ha)) in
-      let three = tested_append (3 + 2 * n) (3 + 3 * n) vs (gs ++ ws) (omega (arith, hv)) ∙ ap (tested (values_from (3 + 2 * n) vs)) four in
-      let two = tested_append (3 + n) (3 + 2 * n) ys (vs ++ (gs ++ ws)) (omega (arith, hy)) ∙ ap (tested (values_from (3 + n) ys)) three in
-      let one = tested_append 3 (3 + n) xs (ys ++ (vs ++ (gs ++ ws))) (omega (arith, hx)) ∙ ap (tested (values_from 3 xs)) two in
-      let lone = tested_append 0 3 (e ∷ b0 ∷ b1 ∷ []) (xs ++ (ys ++ (vs ++ (gs ++ ws)))) (omega arith) ∙ ap (tested (values_from 0 (e ∷ b0 ∷ b1 ∷ []))) one in
-      sym (unmoved_test (e ∷ b0 ∷ b1 ∷ (xs ++ (ys ++ (vs ++ (gs ++ ws))))) ∙ lone)
+      let from : ℕ → List Float → Test = values_from in
+      let n = D.n in
+      let angles = D.grad_angles ++ D.grad_weights in
+      let vals = D.vals_centered ++ angles in
+      let ys = D.ys ++ vals in
+      let lone = D.val_energy ∷ base0 ∷ base1 ∷ [] in
+      let four = tested_append (3 + 3 * n) (3 + 4 * n) D.grad_angles D.grad_weights (omega (arith, ha)) in
+      let three = tested_append (3 + 2 * n) (3 + 3 * n) D.vals_centered angles (omega (arith, hv)) ∙ ap (tested (from (3 + 2 * n) D.vals_centered)) four in
+      let two = tested_append (3 + n) (3 + 2 * n) D.ys vals (omega (arith, hy)) ∙ ap (tested (from (3 + n) D.ys)) three in
+      let one = tested_append 3 (3 + n) D.xs ys (omega (arith, hx)) ∙ ap (tested (from 3 D.xs)) two in
+      let all = tested_append 0 3 lone (D.xs ++ ys) (omega arith) ∙ ap (tested (from 0 lone)) one in
+      sym (unmoved_test (disk_inputs D base0 base1) ∙ all)
 
 -- ---- the code's search
 first_cons : (x : Float) (l : List Float) → first_wild (x ∷ l) ≡ cond (finite x) (moved 1 (first_wild l)) (Some 0)

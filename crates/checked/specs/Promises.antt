@@ -41,12 +41,10 @@ use Rattle.score.specs.Score.{fit_std_errors, error_matrix, error_sum, fit_stand
 use Rattle.score.specs.ScoreLaws.{SoundFit, errors_sound, error_sum_upright}
 use Rattle.score.specs.declared.Fit.{Fit}
 use Rattle.data.specs.Data.{DiskData, max_tanh_pixels}
-use Rattle.search.specs.Search.{best_disk_fit}
+use Rattle.search.specs.Search.{DiskFit, best_disk_fit}
 use Rattle.search.specs.Bill.{trials_of, pairs_kept, leaders_kept, answered_trials}
 use Rattle.search.proofs.BillLaws.{disk_bill, disk_bill_most, leaders_are, missing_bill, missing_leaders}
 use Rattle.search.proofs.SoundLaws.{search_sound, width_known}
-use Rattle.search.specs.declared.DiskFit.{DiskFit}
-use Rattle.search.specs.declared.DiskFit.TheVariants.{Best, Missing}
 use Rattle.checked.specs.declared.Measured.{Measured}
 use Rattle.checked.specs.declared.Refusal.TheVariants.{WrongLength, PixelCount, NotFinite, NothingFound}
 use Rattle.checked.specs.Checked as C
@@ -355,9 +353,9 @@ module _ (D : DiskData) (base0 base1 : Float) where
     wrong_count : (eqb D.n 0 || ltb max_tanh_pixels D.n) ≡ true → a ≡ Err PixelCount → DiskCase a
     wrong_lengths : PixelsInRange → C.same_lengths D ≡ false → a ≡ Err WrongLength → DiskCase a
     wrong_disk_value : (p : ℕ) → p < 3 + 5 * D.n → DiskSound → IsFirstWild disk_inputs_lem p → a ≡ Err (NotFinite p) → DiskCase a
-    no_fit : (t : ℕ) → DiskSound → AllFinite disk_inputs_lem → best_disk_fit D base0 base1 ≡ Missing t → a ≡ Err (NothingFound t) → DiskCase a
+    no_fit : (t : ℕ) → DiskSound → AllFinite disk_inputs_lem → best_disk_fit D base0 base1 ≡ Err t → a ≡ Err (NothingFound t) → DiskCase a
     disk_answered_lem :
-        (f : Fit) (t : ℕ) → DiskSound → AllFinite disk_inputs_lem → best_disk_fit D base0 base1 ≡ Best f t →
+        (f : Fit) (t : ℕ) → DiskSound → AllFinite disk_inputs_lem → best_disk_fit D base0 base1 ≡ Ok (record { best = f; trials = t }) →
         a ≡ Ok (C.measured_of D f t) → DiskCase a
 
   -- lengths that do not differ are the number of pixels, and the values are 3 + 5 n
@@ -383,8 +381,8 @@ module _ (D : DiskData) (base0 base1 : Float) where
 
   searched : DiskSound → AllFinite disk_inputs_lem → (r : DiskFit) → best_disk_fit D base0 base1 ≡ r → DiskCase (C.disk_measured D r)
   unfolding C.disk_measured
-  searched s c (Missing u) g = no_fit u s c g refl
-  searched s c (Best f u) g = disk_answered_lem f u s c g refl
+  searched s c (Err u) g = no_fit u s c g refl
+  searched s c (Ok r) g = disk_answered_lem r.best r.trials s c g refl
 
   pub disk_cases : DiskCase disk_answer_lem
   unfolding checked_disk C.disk_looked C.disk_fitted
@@ -426,7 +424,7 @@ module _ (D : DiskData) (base0 base1 : Float) where
       go (disk_answered_lem f u l c g e) = no 0 (ap disk_number e) (λ z. omega arith)
 
   -- number 4: every value is finite, the search answers nothing, its trials are the place, exactly 4 k of them, and no trial had answered
-  pub disk_nothing : disk_number disk_answer_lem ≡ 4 → AllFinite disk_inputs_lem × (best_disk_fit D base0 base1 ≡ Missing (disk_place disk_answer_lem)) ×
+  pub disk_nothing : disk_number disk_answer_lem ≡ 4 → AllFinite disk_inputs_lem × (best_disk_fit D base0 base1 ≡ Err (disk_place disk_answer_lem)) ×
       (disk_place disk_answer_lem ≡ 4 * pairs_kept D base0 base1) × (leaders_kept D base0 base1 ≡ 0)
   unfolding disk_number disk_place
   disk_nothing n = go disk_cases
@@ -434,7 +432,7 @@ module _ (D : DiskData) (base0 base1 : Float) where
       no : {A : Type 0} (m : ℕ) → disk_number disk_answer_lem ≡ m → (m ≡ 4 → ⊥) → A
       no m e f = absurd (f (sym e ∙ n))
 
-      go : DiskCase disk_answer_lem → AllFinite disk_inputs_lem × (best_disk_fit D base0 base1 ≡ Missing (disk_place disk_answer_lem)) ×
+      go : DiskCase disk_answer_lem → AllFinite disk_inputs_lem × (best_disk_fit D base0 base1 ≡ Err (disk_place disk_answer_lem)) ×
           (disk_place disk_answer_lem ≡ 4 * pairs_kept D base0 base1) × (leaders_kept D base0 base1 ≡ 0)
       go (wrong_count x e) = no 2 (ap disk_number e) (λ z. omega arith)
       go (wrong_lengths x y e) = no 1 (ap disk_number e) (λ z. omega arith)
@@ -449,7 +447,7 @@ module _ (D : DiskData) (base0 base1 : Float) where
     pub pixels : D.n ≤ max_tanh_pixels
     pub length : length disk_inputs_lem ≡ 3 + 5 * D.n
     pub finite : AllFinite disk_inputs_lem
-    pub found : best_disk_fit D base0 base1 ≡ Best fit trials
+    pub found : best_disk_fit D base0 base1 ≡ Ok (record { best = fit; trials = trials })
     pub answer : checked_disk D base0 base1 ≡ Ok (C.measured_of D fit trials)
 
   module _ (zero_number : disk_number disk_answer_lem ≡ 0) where
@@ -512,7 +510,7 @@ module _ (D : DiskData) (base0 base1 : Float) where
         )
 
     sound_disk : SoundFit it.fit
-    sound_disk = search_sound D base0 base1 it.fit it.trials it.found
+    sound_disk = search_sound D base0 base1 _ it.found
 
     -- 0 ≤ theta1 < PI and theta1 ≤ theta2 < TAU
     pub disk_axes : T (le nought (disk_value 0)) × T (lt (disk_value 0) pi) × T (le (disk_value 0) (disk_value 1)) × T (lt (disk_value 1) tau)
@@ -552,7 +550,7 @@ module _ (D : DiskData) (base0 base1 : Float) where
 
     -- the width is one of the four
     pub disk_width : (w : ℕ) × (w < length widths_px) × (disk_value 2 ≡ get_or widths_px w nan)
-    disk_width = rw disk_values_are (width_known D base0 base1 it.fit it.trials it.found)
+    disk_width = rw disk_values_are (width_known D base0 base1 _ it.found)
 
 -- m is the lesser of 2 and the number of trials that answered
 pub disk_leaders : (D : DiskData) (base0 base1 : Float) → leaders_kept D base0 base1 ≡ min 2 (answered_trials D base0 base1)

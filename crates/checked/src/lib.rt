@@ -2,16 +2,17 @@
 // are not finite are refused by number and place; everything else is fitted.
 #![tactic(auto)]
 
-ghost use Rattle.std.specs.Prelude.{◌≡◌, [], ◌≤◌, length, Float};
+ghost use Rattle.std.specs.Prelude.{◌≡◌, [], ◌≤◌, length};
 ghost use Rattle.solver.specs.Buffers.{max_samples};
-ghost use Rattle.data.specs.Data.{lent_disk, OfPixels, DiskSized, max_tanh_pixels};
+ghost use Rattle.data.specs.Data.{lent_disk, max_tanh_pixels};
+ghost use Rattle.data.specs.Disk.{the_disk};
 ghost use Rattle.seed_models.specs.Words.{tables_in};
 ghost use Rattle.checked.specs.Checked as C;
 ghost use Rattle.checked.specs.Parts as P;
 
+use data::Disk;
 use robust_choice::RingFit;
 use score::Fit;
-use search::DiskFit;
 use solver_errors::Estimate;
 
 // Why a call is refused: the cases have their numbers from docs/RULES.md, Refusals.
@@ -50,7 +51,7 @@ impl Refusal {
     }
 }
 
-// No end comes early, and so this becomes vector code.
+// No end comes early: the loop has no branch on a value.
 fn all_finite(xs: &[f32]) -> bool
     ensures { result ≡ P.all_finite xs.now }
 {
@@ -129,67 +130,28 @@ pub struct Measured {
     pub trials: usize,
 }
 
-fn check_disk_values(
-    val_energy: f32,
-    base0: f32,
-    base1: f32,
-    xs: &[f32],
-    ys: &[f32],
-    vals_centered: &[f32],
-    grad_angles: &[f32],
-    grad_weights: &[f32],
-) -> Result<(), Refusal>
-    requires { DiskSized xs.now ys.now vals_centered.now grad_angles.now grad_weights.now }
-    ensures { result ≡ P.values_test (C.first_wild
-        (C.disk_inputs (lent_disk val_energy xs ys vals_centered grad_angles grad_weights) base0 base1)) }
+fn check_disk_values(d: Disk, base0: f32, base1: f32) -> Result<(), Refusal>
+    ensures { result ≡ P.values_test (C.first_wild (C.disk_inputs (the_disk d.entry) base0 base1)) }
 {
-    let n = xs.len() as u16;
-    check_values(&[val_energy, base0, base1], 0)?;
-    check_values(xs, 3)?;
-    check_values(ys, 3 + n)?;
-    check_values(vals_centered, 3 + 2 * n)?;
-    check_values(grad_angles, 3 + 3 * n)?;
-    check_values(grad_weights, 3 + 4 * n)
+    let n = d.xs.len() as u16;
+    check_values(&[d.val_energy, base0, base1], 0)?;
+    check_values(d.xs, 3)?;
+    check_values(d.ys, 3 + n)?;
+    check_values(d.vals_centered, 3 + 2 * n)?;
+    check_values(d.grad_angles, 3 + 3 * n)?;
+    check_values(d.grad_weights, 3 + 4 * n)
 }
 
-fn with_errors(xs: &[f32], ys: &[f32], vals_centered: &[f32], f: Fit, trials: usize) -> Measured
-    requires { (length xs.now ≤ max_tanh_pixels) × (length ys.now ≡ length xs.now) × (length vals_centered.now ≡ length xs.now) }
-    ensures { (energy : Float) → OfPixels energy xs ys vals_centered (λ D. result ≡ C.measured_of D f trials) }
+fn disk_fitted(d: Disk, base0: f32, base1: f32) -> Result<Measured, Refusal>
+    ensures { result ≡ C.disk_fitted (the_disk d.entry) base0 base1 }
 {
-    let estimate = score::fit_std_errors(xs, ys, vals_centered, f);
-    Measured {
-        fit: f,
-        estimate,
-        trials,
-    }
-}
-
-fn disk_fitted(
-    val_energy: f32,
-    base0: f32,
-    base1: f32,
-    xs: &[f32],
-    ys: &[f32],
-    vals_centered: &[f32],
-    grad_angles: &[f32],
-    grad_weights: &[f32],
-) -> Result<Measured, Refusal>
-    requires { DiskSized xs.now ys.now vals_centered.now grad_angles.now grad_weights.now }
-    ensures { result ≡ C.disk_fitted (lent_disk val_energy xs ys vals_centered grad_angles grad_weights) base0 base1 }
-{
-    let found = search::best_disk_fit(
-        val_energy,
-        base0,
-        base1,
-        xs,
-        ys,
-        vals_centered,
-        grad_angles,
-        grad_weights,
-    );
-    match found {
-        DiskFit::Best(f, trials) => Ok(with_errors(xs, ys, vals_centered, f, trials)),
-        DiskFit::Missing(trials) => Err(Refusal::NothingFound(trials as u16)),
+    match search::best_disk_fit(d, base0, base1) {
+        Ok(found) => Ok(Measured {
+            fit: found.best,
+            estimate: score::fit_std_errors(d, found.best),
+            trials: found.trials,
+        }),
+        Err(trials) => Err(Refusal::NothingFound(trials as u16)),
     }
 }
 
@@ -217,24 +179,14 @@ pub fn fit_disk(
     {
         return Err(Refusal::WrongLength);
     }
-    check_disk_values(
+    let d = Disk {
         val_energy,
-        base0,
-        base1,
         xs,
         ys,
         vals_centered,
         grad_angles,
         grad_weights,
-    )?;
-    disk_fitted(
-        val_energy,
-        base0,
-        base1,
-        xs,
-        ys,
-        vals_centered,
-        grad_angles,
-        grad_weights,
-    )
+    };
+    check_disk_values(d, base0, base1)?;
+    disk_fitted(d, base0, base1)
 }

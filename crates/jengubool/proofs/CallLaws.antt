@@ -27,11 +27,3 @@ module _ (fit : List Float) (counts : List ℕ) (values numbers : ℕ) (r : Stor
       go true b h = refl
       go false true h = refl
       go false false h = cc
-
-  pub room_call : (ltb (length fit) values || ltb (length counts) numbers) ≡ false → r ≡ call (ltb (length fit) values) (ltb (length counts) numbers)
-  room_call = go (ltb (length fit) values) (ltb (length counts) numbers)
-    where
-      go : (a b : Bool) → (a || b) ≡ false → r ≡ call a b
-      go true b h = cc
-      go false true h = cc
-      go false false h = refl

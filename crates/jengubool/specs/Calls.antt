@@ -1,5 +1,5 @@
 -- What an exported value call returns, and what it leaves in the lent buffers. Definitions only.
-use Rattle.std.specs.Prelude.{Ok, Err, take}
+use Rattle.std.specs.Prelude.{◌≡◌, true, ◌||◌, ◌≤◌, Result, Ok, Err, take}
 use Rattle.std.specs.Prelude.{cond, List, [], ◌∷◌, map, ℕ, ◌+◌, ◌*◌, ◌%◌, length, set, eqb, ltb, Float}
 use Rattle.solver_record.specs.Record.{without_mean}
 use Rattle.solver_record.specs.declared.TwoAxisFit.{TwoAxisFit}
@@ -7,6 +7,7 @@ use Rattle.seed_models.specs.Models.{Table}
 use Rattle.checked.specs.Checked.{RingAnswer, DiskAnswer, number_of, place_of, checked_ring, checked_disk}
 use Rattle.checked.specs.Checked.{fit_values, record_values, fit_counts, measured_values, measured_counts}
 use Rattle.checked.specs.declared.Refusal.{Refusal}
+use Rattle.checked.specs.declared.Refusal.TheVariants.{WrongLength}
 use Rattle.data.specs.Data.{DiskData}
 
 -- values from a place on, one behind the other; whatever stands elsewhere stays
@@ -21,6 +22,11 @@ wide n = n % 4294967296
 -- a refusal's number and place in one word
 abbrev pub code_of : Refusal → ℕ
 code_of e = number_of e * 65536 + place_of e
+
+-- what the test of a caller's buffers says: they have room for so many values and counts, or one is too short
+abbrev pub RoomTested : List Float → ℕ → List ℕ → ℕ → Result (Unit {0}) Refusal → Type 0
+RoomTested fit values counts numbers (Err e) = (e ≡ WrongLength) × ((ltb (length fit) values || ltb (length counts) numbers) ≡ true)
+RoomTested fit values counts numbers (Ok u) = (values ≤ length fit) × (numbers ≤ length counts)
 
 -- what is returned, and both buffers afterwards
 pub record Stored : Type 0 where

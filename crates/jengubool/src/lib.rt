@@ -2,7 +2,7 @@
 // include/jengubool.h declares them, with what each promises.
 #![tactic(auto)]
 
-ghost use Rattle.std.specs.Prelude.{◌≡◌, ◌≤◌, ◌||◌, [], map, length, ltb};
+ghost use Rattle.std.specs.Prelude.{◌≡◌, ◌≤◌, [], map, length, take};
 ghost use Rattle.std.specs.Float.{binary32};
 ghost use Rattle.data.specs.Data.{lent_disk};
 ghost use Rattle.checked.specs.Checked.{record_values, fit_counts, measured_values, measured_counts};
@@ -75,18 +75,24 @@ pub extern "C" fn jb_answer_line(line: &[u8], out: &mut [u8]) -> u32
     frames::answer_line(line, out)
 }
 
-// A refusal's number and place in one word.
-fn code(e: Refusal) -> u32
-    ensures { result ≡ J.code_of e }
+// 0, or a refusal's number and place in one word.
+fn code(a: Result<(), Refusal>) -> u32
+    ensures { result ≡ refusal_code a }
 {
-    u32::from(e.number()) * 65536 + u32::from(e.place())
+    match a {
+        Ok(()) => 0,
+        Err(e) => u32::from(e.number()) * 65536 + u32::from(e.place()),
+    }
 }
 
-// Whether a caller's buffers are too short for so many values and counts.
-fn is_short(fit: &[f32], values: usize, counts: &[u32], numbers: usize) -> bool
-    ensures { result ≡ (ltb (length fit.now) values || ltb (length counts.now) numbers) }
+// That a caller's buffers have room for so many values and counts.
+fn check_room(fit: &[f32], values: usize, counts: &[u32], numbers: usize) -> Result<(), Refusal>
+    ensures { J.RoomTested fit.now values counts.now numbers result }
 {
-    fit.len() < values || counts.len() < numbers
+    if fit.len() < values || counts.len() < numbers {
+        return Err(Refusal::WrongLength);
+    }
+    Ok(())
 }
 
 // Values in front of whatever a caller's buffer holds behind them.
@@ -124,41 +130,48 @@ fn ring_counts(r: RingFit) -> [u32; 4]
     ]
 }
 
-// Of a fit the first V of the record's values are written.
-fn ring_stored<const V: usize>(
-    a: Result<RingFit, Refusal>,
-    fit: &mut [f32],
-    counts: &mut [u32],
-) -> u32
+// The first V of the record's values, and the counts.
+fn put_ring<const V: usize>(r: RingFit, fit: &mut [f32], counts: &mut [u32])
     requires { (V ≤ 7) × (V ≤ length fit.old) × (4 ≤ length counts.old) }
-    ensures { ◌≡◌ {A = J.Stored} (record { code = result; fit = fit.new; counts = counts.new })
-        (J.ring_stored (J.first_values V) a fit.old counts.old) }
+    ensures { (fit.new ≡ J.put_from (take V (record_values r.fit)) 0 fit.old)
+        × (counts.new ≡ J.put_from (map J.wide (fit_counts r)) 0 counts.old) }
 {
-    match a {
-        Ok(r) => {
-            put(&record(r.fit)[..V], fit);
-            put(&ring_counts(r), counts);
-            0
-        }
-        Err(e) => code(e),
-    }
+    put(&record(r.fit)[..V], fit);
+    put(&ring_counts(r), counts);
 }
 
-// The value call of a ring of N samples, of whose fit the first V values are written: any four slices.
+// The value call of a ring of N samples, of whose fit V values are written: any four slices.
 fn ring_call<const N: usize, const V: usize>(
     samples: &[f32],
     angles: &[f32],
     fit: &mut [f32],
     counts: &mut [u32],
-) -> u32
+) -> Result<(), Refusal>
     requires { RingSize N × (V ≤ 7) }
-    ensures { ◌≡◌ {A = J.Stored} (record { code = result; fit = fit.new; counts = counts.new })
+    ensures { ◌≡◌ {A = J.Stored} (record { code = refusal_code result; fit = fit.new; counts = counts.new })
         (J.ring_call (J.first_values V) [] N samples.now angles.now fit.old counts.old) }
 {
-    if is_short(fit, V, counts, 4) {
-        return code(Refusal::WrongLength);
-    }
-    ring_stored::<V>(checked::fit_ring::<N>(samples, angles), fit, counts)
+    check_room(fit, V, counts, 4)?;
+    let r = checked::fit_ring::<N>(samples, angles)?;
+    put_ring::<V>(r, fit, counts);
+    Ok(())
+}
+
+// The same with tables, for the record.
+fn tables_call(
+    tables: &[f32; seed_models::STATE_SIZE],
+    samples: &[f32],
+    angles: &[f32],
+    fit: &mut [f32],
+    counts: &mut [u32],
+) -> Result<(), Refusal>
+    ensures { ◌≡◌ {A = J.Stored} (record { code = refusal_code result; fit = fit.new; counts = counts.new })
+        (J.ring_call J.the_record (W.tables_in tables.now) 16 samples.now angles.now fit.old counts.old) }
+{
+    check_room(fit, 7, counts, 4)?;
+    let r = checked::fit_ring_with(tables, samples, angles)?;
+    put_ring::<7>(r, fit, counts);
+    Ok(())
 }
 
 #[unsafe(no_mangle)]
@@ -171,7 +184,7 @@ pub extern "C" fn jb_fit_ring(
     ensures { ◌≡◌ {A = J.Stored} (record { code = result; fit = fit.new; counts = counts.new })
         (J.ring_call J.the_six [] 16 samples.now angles.now fit.old counts.old) }
 {
-    ring_call::<16, 6>(samples, angles, fit, counts)
+    code(ring_call::<16, 6>(samples, angles, fit, counts))
 }
 
 #[unsafe(no_mangle)]
@@ -184,7 +197,7 @@ pub extern "C" fn jb_fit_ring24(
     ensures { ◌≡◌ {A = J.Stored} (record { code = result; fit = fit.new; counts = counts.new })
         (J.ring_call J.the_six [] 24 samples.now angles.now fit.old counts.old) }
 {
-    ring_call::<24, 6>(samples, angles, fit, counts)
+    code(ring_call::<24, 6>(samples, angles, fit, counts))
 }
 
 // The ring's answer with its mean, of 16 samples or of 24: any four slices.
@@ -200,9 +213,9 @@ pub extern "C" fn jb_ring_record(
         fit.old counts.old) }
 {
     if samples.len() == 24 {
-        return ring_call::<24, 7>(samples, angles, fit, counts);
+        return code(ring_call::<24, 7>(samples, angles, fit, counts));
     }
-    ring_call::<16, 7>(samples, angles, fit, counts)
+    code(ring_call::<16, 7>(samples, angles, fit, counts))
 }
 
 // Words that hold no table, whatever they held.
@@ -222,10 +235,7 @@ pub extern "C" fn jb_tables_store(
     ensures { (result ≡ refusal_code (table_refusal tables.old angles.now))
         × (tables.new ≡ words_with tables.old angles.now) }
 {
-    match checked_tables::store_table(tables, angles) {
-        Ok(()) => 0,
-        Err(e) => code(e),
-    }
+    code(checked_tables::store_table(tables, angles))
 }
 
 // The ring's answer with its mean, with the tables that are held: any four slices of 16 samples.
@@ -241,10 +251,7 @@ pub extern "C" fn jb_tables_fit(
         (J.ring_call J.the_record (W.tables_in tables.now) 16 samples.now angles.now
         fit.old counts.old) }
 {
-    if is_short(fit, 7, counts, 4) {
-        return code(Refusal::WrongLength);
-    }
-    ring_stored::<7>(checked::fit_ring_with(tables, samples, angles), fit, counts)
+    code(tables_call(tables, samples, angles, fit, counts))
 }
 
 // The eleven values of a disk's fit.
@@ -277,22 +284,39 @@ fn disk_counts(m: Measured) -> [u32; 2]
     [(m.trials % 4294967296) as u32, u32::from(s.known)]
 }
 
-fn disk_stored(a: Result<Measured, Refusal>, fit: &mut [f32], counts: &mut [u32]) -> u32
-    requires { (11 ≤ length fit.old) × (2 ≤ length counts.old) }
-    ensures { ◌≡◌ {A = J.Stored} (record { code = result; fit = fit.new; counts = counts.new })
-        (J.disk_stored a fit.old counts.old) }
+// The value call of the disk: any seven slices. The slices of its pixels stay apart, since a Disk has them of one length.
+fn disk_call(
+    val_energy: f32,
+    base0: f32,
+    base1: f32,
+    xs: &[f32],
+    ys: &[f32],
+    vals_centered: &[f32],
+    grad_angles: &[f32],
+    grad_weights: &[f32],
+    fit: &mut [f32],
+    counts: &mut [u32],
+) -> Result<(), Refusal>
+    ensures { ◌≡◌ {A = J.Stored} (record { code = refusal_code result; fit = fit.new; counts = counts.new })
+        (J.disk_call (lent_disk val_energy xs ys vals_centered grad_angles grad_weights) base0 base1
+        fit.old counts.old) }
 {
-    match a {
-        Ok(m) => {
-            put(&disk_values(m), fit);
-            put(&disk_counts(m), counts);
-            0
-        }
-        Err(e) => code(e),
-    }
+    check_room(fit, 11, counts, 2)?;
+    let m = checked::fit_disk(
+        val_energy,
+        base0,
+        base1,
+        xs,
+        ys,
+        vals_centered,
+        grad_angles,
+        grad_weights,
+    )?;
+    put(&disk_values(m), fit);
+    put(&disk_counts(m), counts);
+    Ok(())
 }
 
-// The value call of the disk: any seven slices.
 #[unsafe(no_mangle)]
 pub extern "C" fn jb_fit_disk(
     val_energy: f32,
@@ -310,21 +334,16 @@ pub extern "C" fn jb_fit_disk(
         (J.disk_call (lent_disk val_energy xs ys vals_centered grad_angles grad_weights) base0 base1
         fit.old counts.old) }
 {
-    if is_short(fit, 11, counts, 2) {
-        return code(Refusal::WrongLength);
-    }
-    disk_stored(
-        checked::fit_disk(
-            val_energy,
-            base0,
-            base1,
-            xs,
-            ys,
-            vals_centered,
-            grad_angles,
-            grad_weights,
-        ),
+    code(disk_call(
+        val_energy,
+        base0,
+        base1,
+        xs,
+        ys,
+        vals_centered,
+        grad_angles,
+        grad_weights,
         fit,
         counts,
-    )
+    ))
 }

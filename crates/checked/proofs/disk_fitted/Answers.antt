@@ -1,22 +1,16 @@
 -- The search, and its errors or its trials; these are at most 96 where nothing is answered. Assumes nothing.
-use Rattle.std.proofs.Common.{sym, ap, ◌∙◌, arith}
-use Rattle.std.specs.Prelude.{Ok}
+use Rattle.std.proofs.Common.{sym, arith}
 use Rattle.search.proofs.BillLaws.{missing_trials}
 use Rattle.checked.specs.Checked as C
 use Rattle.checked.proofs.disk_fitted.Goals as goal
 
-pub returns-in-Best : goal.returns-in-Best
+pub returns-in-Ok : goal.returns-in-Ok
 unfolding C.disk_fitted C.disk_measured
-returns-in-Best c =
-    let a = c.args in
-    rw (← c.best_disk_fit-found.ensures, c.in-Best.is) (ap Ok (c.with_errors.ensures a.val_energy a.grad_angles.now a.grad_weights.now))
+returns-in-Ok c = rw (← c.in-Ok.ensures, c.fit_std_errors.ensures)
 
-pub returns-in-Missing : goal.returns-in-Missing
+pub returns-in-Err : goal.returns-in-Err
 unfolding C.disk_fitted C.disk_measured
-returns-in-Missing c =
-    rw (← c.best_disk_fit-found.ensures, c.in-Missing.is)
+returns-in-Err c = rw (← c.in-Err.ensures)
 
 pub overflow_cast-result : goal.overflow_cast-result
-overflow_cast-result c =
-    let few = missing_trials _ _ _ _ (sym c.best_disk_fit-found.ensures ∙ c.in-Missing.is) in
-    omega arith
+overflow_cast-result c = let few = missing_trials _ _ _ _ (sym c.in-Err.ensures) in omega arith

@@ -45,16 +45,6 @@ returns-then-ys-n c =
           )
     ]
 
-pub check_disk_values-requires : goal.check_disk_values-requires
-check_disk_values-requires c =
-    record {
-      most = c.if-n-gt-MAX_TANH_PIXELS.false;
-      y = c.if-ys-n.false;
-      v = c.if-vals_centered-n.false;
-      a = c.if-grad_angles-n.false;
-      w = c.if-grad_weights-n.false;
-    }
-
 pub returns-in_err-check_disk_values : goal.returns-in_err-check_disk_values
 unfolding C.checked_disk C.same_lengths
 returns-in_err-check_disk_values c =
