@@ -15,7 +15,7 @@ use Rattle.elementary.specs.declared.SinCos.{SinCos}
 use Rattle.elementary.specs.declared.TwoSinCos.{TwoSinCos}
 use Rattle.loops.specs.Loops.{iter, tab}
 use Rattle.loops.proofs.IterLaws.{iter_same, iter_through}
-use Rattle.loops.proofs.TabLaws.{tab_at, tab_length, tab_same}
+use Rattle.loops.proofs.TabLaws.{tab_at, tab_length, tab_same, tab_self}
 use Rattle.solver_elimination.specs.Solve.{Matrix, solve4x4}
 use Rattle.floats.specs.Rows.{Row, at}
 use Rattle.solver_record.specs.declared.Params.{Params}
@@ -54,22 +54,20 @@ near_next ring_phi n a e = record {
     next : (i : ℕ) → i < n + 1 → i ≤ n
     next i l = omega arith
 
-prepared : (ring_phi turned sphi cphi : Row) → length turned ≡ length ring_phi →
-    ((i : ℕ) → i < length ring_phi → at turned i ≡ turn (at ring_phi i)) → Sines turned sphi cphi → Prepared ring_phi sphi cphi
+-- near angles are their own turned angles
+pub turned_near : (angles : Row) → RingNear (length angles) angles → TurnedTo angles angles
+turned_near angles a = record { is = sym (tab_self angles nan _ refl) ∙ tab_same _ _ (length angles) (λ i l. sym (a.is i l)) }
+
+pub prepared_turned : (ring_phi turned sphi cphi : Row) → TurnedTo ring_phi turned → Sines turned sphi cphi → Prepared ring_phi sphi cphi
 unfolding sin_cos
-prepared ring_phi turned sphi cphi len each h = record { s = h.s ∙ go (λ x. x.s); c = h.c ∙ go (λ x. x.c) }
+prepared_turned ring_phi turned sphi cphi t h = record { s = h.s ∙ go (λ x. x.s); c = h.c ∙ go (λ x. x.c) }
   where
     go : (f : SinCos → Float) → tab (λ i. f (sin_cos_near (at turned i))) (length turned) ≡
         tab (λ i. f (sin_cos_near (turn (at ring_phi i)))) (length ring_phi)
-    go f = ap (tab (λ i. f (sin_cos_near (at turned i)))) len ∙ tab_same _ _ (length ring_phi) (λ i l. ap (λ (x : Float). f (sin_cos_near x)) (each i l))
-
-pub prepared_near : (ring_phi sphi cphi : Row) → RingNear (length ring_phi) ring_phi → Sines ring_phi sphi cphi → Prepared ring_phi sphi cphi
-prepared_near ring_phi sphi cphi a h = prepared ring_phi ring_phi sphi cphi refl (λ i l. sym (a.is i l)) h
-
-pub prepared_turned : (ring_phi turned sphi cphi : Row) → TurnedTo ring_phi turned → Sines turned sphi cphi → Prepared ring_phi sphi cphi
-prepared_turned ring_phi turned sphi cphi t h =
-    prepared ring_phi turned sphi cphi (ap length t.is ∙ tab_length _ (length ring_phi))
-    (λ i l. ap (λ (x : Row). at x i) t.is ∙ tab_at (λ i. turn (at ring_phi i)) nan (length ring_phi) i l) h
+    go f =
+        ap (tab (λ i. f (sin_cos_near (at turned i)))) (ap length t.is ∙ tab_length _ (length ring_phi))
+        ∙ tab_same _ _ (length ring_phi) (λ i l. ap (λ (x : Float). f (sin_cos_near x))
+        (ap (λ (x : Row). at x i) t.is ∙ tab_at (λ i. turn (at ring_phi i)) nan (length ring_phi) i l))
 
 pub prepared_length : (ring_phi sphi cphi : Row) → Prepared ring_phi sphi cphi → (length sphi ≡ length ring_phi) × (length cphi ≡ length ring_phi)
 prepared_length ring_phi sphi cphi p = (ap length p.s ∙ tab_length _ (length ring_phi), ap length p.c ∙ tab_length _ (length ring_phi))

@@ -98,24 +98,26 @@ fn near_too(near: bool, x: f32) -> bool
 }
 
 // No early return, so that the loop becomes vector code.
-pub fn all_near(ring_phi: &[f32]) -> bool
-    ensures { result ≡ true → B.RingNear (length ring_phi.now) ring_phi.now }
+fn all_near(angles: &[f32]) -> bool
+    ensures { result ≡ true → B.RingNear (length angles.now) angles.now }
 {
-    let n = ring_phi.len();
     let mut near = true;
-    for i in 0..n {
-        near = near_too(near, ring_phi[i]);
+    for x in angles {
+        near = near_too(near, *x);
     }
     near
 }
 
-fn turn_all(ring_phi: &[f32], turned: &mut [f32])
-    requires { length turned.old ≡ length ring_phi.now }
-    ensures { B.TurnedTo ring_phi.now turned.new }
+// Angles are brought to at most 64 in size in a loop of their own: the remainder in `turn` is a call, and would keep the loop
+// of sines from being vector code. The usual angles are near, and `turn` leaves them.
+pub fn turn_all(angles: &mut [f32])
+    ensures { B.TurnedTo angles.old angles.new }
 {
-    let n = ring_phi.len();
-    for i in 0..n {
-        turned[i] = elementary::turn(ring_phi[i]);
+    if all_near(angles) {
+        return;
+    }
+    for x in angles.iter_mut() {
+        *x = elementary::turn(*x);
     }
 }
 
@@ -132,18 +134,13 @@ pub fn sin_cos_all(turned: &[f32], sphi: &mut [f32], cphi: &mut [f32])
 }
 
 // The trigonometric functions of the angles depend on the ring alone, so they are worked out once.
-// Angles are brought below 64 in size first, in a loop of their own: the remainder in `turn` is a
-// call, and would keep the other loop from being vector code.
 pub fn prepare(ring_phi: &[f32], turned: &mut [f32], sphi: &mut [f32], cphi: &mut [f32])
     requires { (length turned.old ≡ length ring_phi.now) × (length sphi.old ≡ length ring_phi.now) ×
         (length cphi.old ≡ length ring_phi.now) }
     ensures { B.Prepared ring_phi.now sphi.new cphi.new }
 {
-    if all_near(ring_phi) {
-        sin_cos_all(ring_phi, sphi, cphi);
-        return;
-    }
-    turn_all(ring_phi, turned);
+    turned.copy_from_slice(ring_phi);
+    turn_all(turned);
     sin_cos_all(turned, sphi, cphi);
 }
 
