@@ -1,7 +1,7 @@
 -- The sums of the second harmonic from rows of sines are those of the definition: an angle up to 64 in size is not reduced, and a row's element is
 -- its sample's own. Assumes nothing.
 use Rattle.std.specs.Prelude.{◌≡◌, ℕ, ◌<◌, length, Float}
-use Rattle.std.proofs.Common.{sym, ◌∙◌, subst}
+use Rattle.std.proofs.Common.{◌∙◌}
 use Rattle.std.proofs.Math.Path.{ap}
 use Rattle.std.specs.Float.{nan}
 use Rattle.floats.specs.Rows.{Row, at}

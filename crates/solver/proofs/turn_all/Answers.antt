@@ -1,5 +1,5 @@
 -- Angles that are near are their own turned angles; of the others a loop of stores makes the list. Assumes nothing.
-use Rattle.std.proofs.Common.{rules, arith, ◌≡◌, ◌∙◌, ap, refl, length, get_or-set_other}
+use Rattle.std.proofs.Common.{arith, ◌≡◌, ◌∙◌, ap, refl, length, get_or-set_other}
 use Rattle.std.specs.Float.{nan}
 use Rattle.loops.proofs.TabLaws.{stores_none, stores_next, stores_all}
 use Rattle.elementary.specs.Elementary.{turn}
