@@ -203,7 +203,8 @@ impl<'a, const N: usize> Blocks<N> for Grid<'a, N> {
 // A table's words.
 #[derive(Clone, Copy)]
 pub struct Stored<'a> {
-    pub table: &'a [f32; TABLE_SIZE],
+    pub table: &'a [f32],
+    pub ghost sized: { length table.now ≡ W.table_size },
 }
 
 impl<'a> Blocks<RING_SAMPLES> for Stored<'a> {
@@ -215,9 +216,8 @@ impl<'a> Blocks<RING_SAMPLES> for Stored<'a> {
 
     fn lanes(&self, centered: &[f32; RING_SAMPLES], _p: Pair, j: usize) -> Models {
         let table = self.table;
-        let words = &table[..];
         let s = RING_SAMPLES + j * BLOCK_SIZE;
-        block_lanes(&words[s..s + BLOCK_SIZE], centered)
+        block_lanes(&table[s..s + BLOCK_SIZE], centered)
     }
 }
 
