@@ -118,27 +118,27 @@ struct Ready<'a> {
 }
 
 // A start from a seed: solver.rs, fit_with_seed behind its sin_cos.
-fn started(ready: Ready, seed: Params, centered_var: f32, js: &mut [Sample]) -> Started
-    requires { length js.old ≡ length ready.ring.samples.now }
-    ensures { result ≡ record_with_seed (length ready.entry.ring.samples.now) ready.entry.ring.samples.now
-        ready.entry.ring_phi.now seed centered_var }
+fn started(ready: &Ready, seed: Params, centered_var: f32, js: &mut [Sample]) -> Started
+    requires { length js.old ≡ length ready.now.ring.samples.now }
+    ensures { result ≡ record_with_seed (length ready.now.ring.samples.now) ready.now.ring.samples.now
+        ready.now.ring_phi.now seed centered_var }
 {
     if solver_record::is_degenerate(seed.amp, centered_var) {
         return solver_record::refused(centered_var, seed.mu);
     }
-    solver::fit_prepared(ready.ring, seed, js)
+    solver::fit_prepared(&ready.ring, seed, js)
 }
 
 // The one seed's fit, where there is a seed.
 fn refined(
-    ready: Ready,
+    ready: &Ready,
     centered_var: f32,
     top: Option<SeedCandidate>,
     js: &mut [Sample],
 ) -> Option<Started>
-    requires { length js.old ≡ length ready.ring.samples.now }
-    ensures { result ≡ second_of (R.refine_seed_candidates (length ready.entry.ring.samples.now)
-        ready.entry.ring.samples.now ready.entry.ring_phi.now centered_var top) }
+    requires { length js.old ≡ length ready.now.ring.samples.now }
+    ensures { result ≡ second_of (R.refine_seed_candidates (length ready.now.ring.samples.now)
+        ready.now.ring.samples.now ready.now.ring_phi.now centered_var top) }
 {
     let s = top?;
     let seed = Params {
@@ -169,17 +169,17 @@ fn centered_sum(samples: &[f32], mean: f32, centered_var: f32, centered: &mut [f
 
 // The start behind the grid, whose rows are on this call's stack: they are cleared only where the grid is searched.
 fn grid_fit<const N: usize>(
-    ready: Ready,
+    ready: &Ready,
     mean: f32,
     centered_var: f32,
     centered: &mut [f32; N],
     js: &mut [Sample],
 ) -> Option<Started>
-    requires { (length ready.ring.samples.now ≡ N) × (length js.old ≡ N) }
-    ensures { result ≡ second_of (R.robust_grid_fit [] (length ready.entry.ring.samples.now)
-        ready.entry.ring.samples.now ready.entry.ring_phi.now mean centered_var) }
+    requires { (length ready.now.ring.samples.now ≡ N) × (length js.old ≡ N) }
+    ensures { result ≡ second_of (R.robust_grid_fit [] (length ready.now.ring.samples.now)
+        ready.now.ring.samples.now ready.now.ring_phi.now mean centered_var) }
 {
-    let ring = ready.ring;
+    let ring = &ready.ring;
     let centered_ss = centered_sum(ring.samples, mean, centered_var, centered)?;
     let mut rows = [[0.0f32; robust_lanes::ROW_PLACES]; N];
     robust_grid::fill_grid(ring.sphi, ring.cphi, &mut rows);
@@ -190,17 +190,17 @@ fn grid_fit<const N: usize>(
 // The start behind a table's models: robust_grid_fit_cached.
 fn cached_fit(
     table: Stored,
-    ready: Ready,
+    ready: &Ready,
     mean: f32,
     centered_var: f32,
     centered: &mut [f32; seed_models::RING_SAMPLES],
     js: &mut [Sample],
 ) -> Option<Started>
-    requires { (length ready.ring.samples.now ≡ W.ring_samples) × (length js.old ≡ W.ring_samples) }
+    requires { (length ready.now.ring.samples.now ≡ W.ring_samples) × (length js.old ≡ W.ring_samples) }
     ensures { result ≡ second_of (R.grid_fit_by (P.cached_seed table.entry.table.now mean) W.ring_samples
-        ready.entry.ring.samples.now ready.entry.ring_phi.now mean centered_var) }
+        ready.now.ring.samples.now ready.now.ring_phi.now mean centered_var) }
 {
-    let ring = ready.ring;
+    let ring = &ready.ring;
     let centered_ss = centered_sum(ring.samples, mean, centered_var, centered)?;
     let top = seed_models::best_seed(&table, centered, centered_ss, mean);
     refined(ready, centered_var, top, js)
@@ -226,7 +226,7 @@ pub fn refine_seed_candidates<'a, const N: usize>(
         sphi: &sphi,
         cphi: &cphi,
     };
-    refined(Ready { ring, ring_phi }, centered_var, top, &mut js)
+    refined(&Ready { ring, ring_phi }, centered_var, top, &mut js)
 }
 
 pub fn robust_grid_fit<'a, const N: usize>(
@@ -250,7 +250,7 @@ pub fn robust_grid_fit<'a, const N: usize>(
         cphi: &cphi,
     };
     grid_fit(
-        Ready { ring, ring_phi },
+        &Ready { ring, ring_phi },
         mean,
         centered_var,
         &mut scratch,
@@ -298,8 +298,7 @@ fn start(
         return solver_record::refused(centered_var, seed.mu);
     }
     solver::prepare(ring_phi, turned, sphi, cphi);
-    solver::fit_prepared(
-        Ring {
+    solver::fit_prepared(&Ring {
             samples,
             sphi,
             cphi,
@@ -351,15 +350,15 @@ trait Models<const N: usize> {
     // The start behind a suspicious first one.
     fn second(
         &self,
-        ready: Ready,
+        ready: &Ready,
         mean: f32,
         centered_var: f32,
         centered: &mut [f32; N],
         js: &mut [Sample],
     ) -> Option<Started>
-        requires { (length ready.ring.samples.now ≡ N) × (length js.old ≡ N) }
-        ensures { result ≡ second_of (R.robust_grid_fit (tables self.now) (length ready.entry.ring.samples.now)
-            ready.entry.ring.samples.now ready.entry.ring_phi.now mean centered_var) };
+        requires { (length ready.now.ring.samples.now ≡ N) × (length js.old ≡ N) }
+        ensures { result ≡ second_of (R.robust_grid_fit (tables self.now) (length ready.now.ring.samples.now)
+            ready.now.ring.samples.now ready.now.ring_phi.now mean centered_var) };
 }
 
 // No table: the grid is searched.
@@ -371,7 +370,7 @@ impl<const N: usize> Models<N> for Untabled {
 
     fn second(
         &self,
-        ready: Ready,
+        ready: &Ready,
         mean: f32,
         centered_var: f32,
         centered: &mut [f32; N],
@@ -406,7 +405,7 @@ impl<'a> Models<{ seed_models::RING_SAMPLES }> for Words<'a> {
 
     fn second(
         &self,
-        ready: Ready,
+        ready: &Ready,
         mean: f32,
         centered_var: f32,
         centered: &mut [f32; seed_models::RING_SAMPLES],
@@ -451,7 +450,7 @@ fn fit_by<'a, const N: usize, M: Models<N>>(
         cphi: &cphi,
     };
     let ready = Ready { ring, ring_phi };
-    let second = models.second(ready, f.mean, f.centered_var, &mut scratch, &mut js);
+    let second = models.second(&ready, f.mean, f.centered_var, &mut scratch, &mut js);
     robust_choice::chosen(primary, second)
 }
 

@@ -145,13 +145,16 @@ pub fn prepare(ring_phi: &[f32], turned: &mut [f32], sphi: &mut [f32], cphi: &mu
 }
 
 // The residual and the Jacobian's row of each sample: this loop has no running sum, so it becomes vector code.
-fn fill(ring: Ring, p: Params, t1: SinCos, t2: SinCos, js: &mut [Sample])
-    requires { length js.old ≡ length ring.samples.now }
-    ensures { js.new ≡ B.filled p t1 t2 ring.entry.samples.now ring.entry.sphi.now ring.entry.cphi.now }
+fn fill(ring: &Ring, p: Params, t1: SinCos, t2: SinCos, js: &mut [Sample])
+    requires { length js.old ≡ length ring.now.samples.now }
+    ensures { js.new ≡ B.filled p t1 t2 ring.now.samples.now ring.now.sphi.now ring.now.cphi.now }
 {
-    let n = ring.samples.len();
+    let samples = ring.samples;
+    let sphi = ring.sphi;
+    let cphi = ring.cphi;
+    let n = samples.len();
     for i in 0..n {
-        js[i] = sample_at(p, t1, t2, ring.samples[i], ring.sphi[i], ring.cphi[i]);
+        js[i] = sample_at(p, t1, t2, samples[i], sphi[i], cphi[i]);
     }
 }
 
@@ -212,9 +215,9 @@ fn add_up(js: &[Sample]) -> Sums
 }
 
 // One pass over the samples at the parameters p.
-fn pass(ring: Ring, p: Params, js: &mut [Sample]) -> Sums
-    requires { length js.old ≡ length ring.samples.now }
-    ensures { B.spread result ≡ S.pass (length ring.entry.samples.now) p ring.entry.samples.now ring.entry.sphi.now ring.entry.cphi.now }
+fn pass(ring: &Ring, p: Params, js: &mut [Sample]) -> Sums
+    requires { length js.old ≡ length ring.now.samples.now }
+    ensures { B.spread result ≡ S.pass (length ring.now.samples.now) p ring.now.samples.now ring.now.sphi.now ring.now.cphi.now }
 {
     let t = elementary::sin_cos_two(p.theta1, p.theta2);
     let t1 = SinCos { s: t.s1, c: t.c1 };
@@ -277,10 +280,10 @@ struct Run {
 
 // Passes until six updates were made, the elimination fails or the steps are small. The last pass belongs to the final
 // parameters.
-fn run_updates(ring: Ring, seed: Params, js: &mut [Sample]) -> Run
-    requires { length js.old ≡ length ring.samples.now }
+fn run_updates(ring: &Ring, seed: Params, js: &mut [Sample]) -> Run
+    requires { length js.old ≡ length ring.now.samples.now }
     ensures { B.final result.p result.s result.count ≡
-        S.updates (length ring.entry.samples.now) ring.entry.samples.now ring.entry.sphi.now ring.entry.cphi.now seed }
+        S.updates (length ring.now.samples.now) ring.now.samples.now ring.now.sphi.now ring.now.cphi.now seed }
 {
     let mut p = seed;
     let mut count = 0usize;
@@ -308,10 +311,10 @@ fn run_updates(ring: Ring, seed: Params, js: &mut [Sample]) -> Run
 
 // A start that is not degenerate, once the sines and cosines are there. `js` is lent: a place for each sample, and of no
 // meaning afterwards.
-pub fn fit_prepared(ring: Ring, seed: Params, js: &mut [Sample]) -> Started
-    requires { length js.old ≡ length ring.samples.now }
-    ensures { result ≡ R.start_from (length ring.entry.samples.now)
-        (S.updates (length ring.entry.samples.now) ring.entry.samples.now ring.entry.sphi.now ring.entry.cphi.now seed) }
+pub fn fit_prepared(ring: &Ring, seed: Params, js: &mut [Sample]) -> Started
+    requires { length js.old ≡ length ring.now.samples.now }
+    ensures { result ≡ R.start_from (length ring.now.samples.now)
+        (S.updates (length ring.now.samples.now) ring.now.samples.now ring.now.sphi.now ring.now.cphi.now seed) }
 {
     let run = run_updates(ring, seed, js);
     let s = run.s;
@@ -337,7 +340,7 @@ pub fn fit_with_seed(
     }
     prepare(ring_phi, turned, sphi, cphi);
     fit_prepared(
-        Ring {
+        &Ring {
             samples,
             sphi,
             cphi,

@@ -15,7 +15,7 @@ returns-in_err-centered_ss c =
 pub returns : goal.returns
 returns c =
     let a = c.args in
-    let r = a.ready in
+    let r = a.ready.now in
     let s = r.ring.samples.now in
     let sum = sum_centered _ _ _ _ _ _ _ c.in_ok-centered_ss.was c.centered_sum.ensures in
     let best = rw (sum.1, sum.2) at c.best_seed-top.ensures in

@@ -8,7 +8,7 @@ use Rattle.robust.proofs.grid_fit.Goals as goal
 pub returns-in_err-centered_ss : goal.returns-in_err-centered_ss
 returns-in_err-centered_ss g c =
     let a = c.args in
-    let r = a.ready in
+    let r = a.ready.now in
     let s = r.ring.samples.now in
     let none = none_centered _ _ _ _ _ _ c.in_err-centered_ss.was c.centered_sum.ensures in
     rw (direct_is (length s) s r.ring_phi.now a.mean a.centered_var) (c.from_residual.ensures ∙ grid_missing _ _ _ _ _ _ none)
@@ -16,7 +16,7 @@ returns-in_err-centered_ss g c =
 pub returns : goal.returns
 returns g c =
     let a = c.args in
-    let r = a.ready in
+    let r = a.ready.now in
     let s = r.ring.samples.now in
     let n = length s in
     let sum = sum_centered _ _ _ _ _ _ _ c.in_ok-centered_ss.was c.centered_sum.ensures in

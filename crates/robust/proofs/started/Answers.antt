@@ -7,5 +7,5 @@ returns-then-is_degenerate c = start_refused _ _ _ _ _ c.is_degenerate.ensures c
 
 pub returns : goal.returns
 returns c =
-    let r = c.args.ready in
+    let r = c.args.ready.now in
     start_made _ _ _ _ _ _ _ c.is_degenerate.ensures c.if-is_degenerate.false r.phi (record { s = r.sines; c = r.cosines }) c.fit_prepared.ensures

@@ -14,5 +14,5 @@ loop-i-preserved c = (search rules, stores_next _ _ _ _ _ c.loop-i.invariant.1 c
 pub returns : goal.returns
 unfolding filled
 returns c =
-    let h : c.loop-i.i ≡ length c.args.ring.samples.now = omega arith in
+    let h : c.loop-i.i ≡ length c.args.ring.now.samples.now = omega arith in
     stores_all _ _ _ (record { r = nan; q = nan; d1 = nan; d2 = nan }) _ (rw h at c.loop-i.invariant.1) c.requires

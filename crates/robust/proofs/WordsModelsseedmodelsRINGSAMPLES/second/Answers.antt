@@ -8,7 +8,7 @@ use Rattle.robust.proofs.WordsModelsseedmodelsRINGSAMPLES.second.Goals as goal
 pub returns-in_default : goal.returns-in_default
 returns-in_default c =
     let a = c.args in
-    let r = a.ready in
+    let r = a.ready.now in
     let near = none_near a.self.now.words.now r.ring.samples.now r.ring_phi.now a.mean a.centered_var _ c.requires.0 c.first_table.ensures.0 in
     rw (← near c.in_default.is) c.grid_fit.ensures
 
@@ -20,7 +20,7 @@ table-requires c =
 pub returns : goal.returns
 returns c =
     let a = c.args in
-    let r = a.ready in
+    let r = a.ready.now in
     let told = c.in-Some.is in
     let first = c.first_table.ensures in
     let few = rw told at first.1 in
