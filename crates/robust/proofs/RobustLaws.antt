@@ -1,8 +1,8 @@
 -- What the code's own steps come to: constants as they are derived, a refused start that is never suspicious, the starts of a seed and of the grid, and the
 -- whole fit. Assumes nothing.
-use Rattle.std.specs.Prelude.{◌≡◌, Bool, cond, not, ◌||◌, List, [], ◌++◌, ℕ, ◌+◌, ◌-◌, ◌*◌, ◌≤◌, ◌<◌, length, take, drop, Option, Some, None, Float}
+use Rattle.std.specs.Prelude.{◌≡◌, Bool, cond, not, ◌||◌, List, [], ℕ, ◌<◌, length, Option, Some, None, Float}
 use Rattle.std.proofs.Math.Path.{refl, sym, ap}
-use Rattle.std.proofs.Common.{◌∙◌, subst, zero-le, arith}
+use Rattle.std.proofs.Common.{◌∙◌, subst}
 use Rattle.std.proofs.Math.Bool.{true, false}
 use Rattle.std.proofs.lemmas.Bool.{false≢true}
 use Rattle.std.specs.Float.Ieee.{lt, mul, of_bits}
@@ -10,21 +10,18 @@ use Rattle.std.specs.Float.Ieee.Scale.{finite}
 use Rattle.floats.specs.Ops.{lit}
 use Rattle.floats.specs.Rows.{Row}
 use Rattle.floats.specs.Library.{to_radians}
-use Rattle.loops.proofs.TabLaws.{tab_length, tab_at, part_same}
+use Rattle.loops.proofs.TabLaws.{tab_length, tab_at}
 use Rattle.solver_record.specs.Fit.{degenerate, degenerate_fit}
 use Rattle.solver_record.specs.Record.{without_mean, degenerate_record, refused}
 use Rattle.solver.specs.Solver.{sines, cosines, updates}
 use Rattle.solver.specs.Record.{start_from, record_with_seed}
 use Rattle.solver.specs.Buffers.{Prepared}
-use Rattle.robust_lanes.specs.Lanes.{GridRows}
-use Rattle.solver.proofs.SolverLaws.{prepared_length, whole_prepared}
+use Rattle.solver.proofs.SolverLaws.{whole_prepared}
 use Rattle.solver_record.specs.declared.Params.{Params}
 use Rattle.solver_record.specs.declared.Started.{Started}
 use Rattle.seed.specs.Seed.{flat, second_harmonic}
 use Rattle.seed.specs.declared.SeedCandidate.{SeedCandidate}
-use Rattle.robust_grid.specs.Grid.{best_of, best_seed}
-use Rattle.robust_grid.specs.Places.{Grid, score_at}
-use Rattle.robust_grid.specs.PlaceLaws.{grid_best}
+use Rattle.robust_grid.specs.Grid.{best_seed}
 use Rattle.seed_models.specs.Models.{Table, table_at, best_cached, first_from, first_table}
 use Rattle.seed_models.specs.Words.{ring_samples, held_in, table_part, table_in, tables_in}
 use Rattle.robust.specs.declared.First.{First}
@@ -130,16 +127,15 @@ module _ (n : ℕ) (samples ring_phi : Row) (mean centered_var : Float) where
   unfolding R.robust_grid_fit R.grid_seed first_table first_from
   direct_is = refl
 
-  pub direct_seed_lem : (sphi cphi : Row) (h : GridRows) (centered : Row) (s : Float) (top : Option SeedCandidate) → length ring_phi ≡ n → Prepared ring_phi sphi cphi
-      → Grid sphi cphi h (length sphi) → centered ≡ R.centered_of n samples mean → s ≡ R.squares n (R.centered_of n samples mean)
-      → top ≡ best_of (score_at n h centered s mean)
+  pub direct_seed_lem : (sphi cphi centered : Row) (s : Float) (top : Option SeedCandidate) → length ring_phi ≡ n
+      → sphi ≡ sines (length ring_phi) ring_phi → cphi ≡ cosines (length ring_phi) ring_phi
+      → centered ≡ R.centered_of n samples mean → s ≡ R.squares n (R.centered_of n samples mean)
+      → top ≡ best_seed n sphi cphi centered s mean
       → top ≡ direct_seed n ring_phi mean (R.centered_of n samples mean) (R.squares n (R.centered_of n samples mean))
-  direct_seed_lem sphi cphi h centered s top el p g ec es eh =
-      let ls : length sphi ≡ n = (prepared_length ring_phi sphi cphi p).0 ∙ el in
-      let best : top ≡ best_seed n sphi cphi centered s mean = eh ∙ grid_best (subst (Grid sphi cphi h) ls g) centered s mean in
-      let e_s : sphi ≡ sines n ring_phi = p.s ∙ ap (λ (k : ℕ). sines k ring_phi) el in
-      let e_c : cphi ≡ cosines n ring_phi = p.c ∙ ap (λ (k : ℕ). cosines k ring_phi) el in
-      rw (← es, ← ec, ← e_s, ← e_c) best
+  direct_seed_lem sphi cphi centered s top el es_ ec_ ec es eh =
+      let e_s : sphi ≡ sines n ring_phi = es_ ∙ ap (λ (k : ℕ). sines k ring_phi) el in
+      let e_c : cphi ≡ cosines n ring_phi = ec_ ∙ ap (λ (k : ℕ). cosines k ring_phi) el in
+      rw (← es, ← ec, ← e_s, ← e_c) eh
 
 -- with the tables of a caller's words: none is near, or the seed is that of the first that is
 module _ (words samples ring_phi : Row) (mean centered_var : Float) (w : Option ℕ) (n : length samples ≡ ring_samples)

@@ -1,20 +1,17 @@
 -- What the contracts of crates/robust speak of besides the definitions: the lent buffers, and the first start. Definitions only.
-use Rattle.std.specs.Prelude.{◌≡◌, Bool, true, false, ◌||◌, List, ℕ, ◌+◌, ◌-◌, ◌*◌, ◌≤◌, length, take, drop, Option, Some, None, Float}
+use Rattle.std.specs.Prelude.{◌≡◌, Bool, true, false, ◌||◌, ℕ, ◌≤◌, length, Option, Some, None, Float}
 use Rattle.std.specs.Float.Ieee.{lt}
 use Rattle.floats.specs.Ops.{lit}
 use Rattle.floats.specs.Rows.{Row}
 use Rattle.solver.specs.Solver.{sines, cosines}
 use Rattle.solver.specs.Record.{record_with_seed}
-use Rattle.solver.specs.Buffers.{Prepared, max_samples}
+use Rattle.solver.specs.Buffers.{max_samples}
 use Rattle.seed.specs.Seed.{second_harmonic, flat}
 use Rattle.seed.specs.declared.SeedCandidate.{SeedCandidate}
-use Rattle.robust_lanes.specs.Lanes.{grid_places}
 use Rattle.robust_grid.specs.Grid.{best_seed}
-use Rattle.seed_models.specs.Models.{Table, best_cached}
+use Rattle.seed_models.specs.Models.{best_cached}
 use Rattle.seed_models.specs.Words.{ring_samples, models_in}
 use Rattle.robust.specs.declared.First.{First}
-use Rattle.robust_choice.specs.Parts.{second_of, chosen_of}
-use Rattle.robust_choice.specs.declared.RingFit.{RingFit}
 use Rattle.robust.specs.Robust as R
 
 -- ---- n samples and their angles, at most as many as there may be

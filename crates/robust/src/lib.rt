@@ -7,6 +7,7 @@ ghost use Rattle.solver_record.specs.Record.{without_mean};
 ghost use Rattle.solver.specs.Record.{record_with_seed};
 ghost use Rattle.solver.specs.Solver.{sines, cosines};
 ghost use Rattle.solver.specs.Buffers.{Prepared, StartRoom};
+ghost use Rattle.robust_grid.specs.Grid.{best_seed};
 ghost use Rattle.seed_models.specs.Models.{Table};
 ghost use Rattle.robust.specs.Robust as R;
 ghost use Rattle.robust.specs.Record.{record_ring};
@@ -147,8 +148,7 @@ fn refined(
         theta1: s.theta1,
         theta2: s.theta2,
     };
-    let f = started(ready, seed, centered_var, js);
-    Some(f)
+    Some(started(ready, seed, centered_var, js))
 }
 
 // The centred samples and the sum of their squares, where the grid is worth its search.
@@ -167,7 +167,24 @@ fn centered_sum(samples: &[f32], mean: f32, centered_var: f32, centered: &mut [f
     Some(s)
 }
 
-// The start behind the grid, whose rows are on this call's stack: they are cleared only where the grid is searched.
+// The best seed of the grid. Its rows are on this call's stack: not put into a caller, they are cleared only where the grid is
+// searched, and gone when the start is made.
+#[inline(never)]
+fn grid_seed<const N: usize>(
+    ring: &Ring,
+    centered: &[f32; N],
+    centered_ss: f32,
+    mean: f32,
+) -> Option<SeedCandidate>
+    requires { length ring.now.samples.now ≡ N }
+    ensures { result ≡ best_seed N ring.now.sphi.now ring.now.cphi.now centered.now centered_ss mean }
+{
+    let mut rows = [[0.0f32; robust_lanes::ROW_PLACES]; N];
+    robust_grid::fill_grid(ring.sphi, ring.cphi, &mut rows);
+    seed_models::best_seed(&Grid { rows: &rows }, centered, centered_ss, mean)
+}
+
+// The start behind the grid.
 fn grid_fit<const N: usize>(
     ready: &Ready,
     mean: f32,
@@ -181,9 +198,7 @@ fn grid_fit<const N: usize>(
 {
     let ring = &ready.ring;
     let centered_ss = centered_sum(ring.samples, mean, centered_var, centered)?;
-    let mut rows = [[0.0f32; robust_lanes::ROW_PLACES]; N];
-    robust_grid::fill_grid(ring.sphi, ring.cphi, &mut rows);
-    let top = seed_models::best_seed(&Grid { rows: &rows }, centered, centered_ss, mean);
+    let top = grid_seed(ring, centered, centered_ss, mean);
     refined(ready, centered_var, top, js)
 }
 
@@ -298,7 +313,8 @@ fn start(
         return solver_record::refused(centered_var, seed.mu);
     }
     solver::prepare(ring_phi, turned, sphi, cphi);
-    solver::fit_prepared(&Ring {
+    solver::fit_prepared(
+        &Ring {
             samples,
             sphi,
             cphi,
@@ -440,18 +456,19 @@ fn fit_by<'a, const N: usize, M: Models<N>>(
         &mut cphi,
         &mut js,
     );
-    let primary = f.primary;
-    if !fit_is_suspicious(primary.fit) {
-        return robust_choice::alone(primary);
+    if !fit_is_suspicious(f.primary.fit) {
+        return robust_choice::alone(f.primary);
     }
-    let ring = Ring {
-        samples,
-        sphi: &sphi,
-        cphi: &cphi,
+    let ready = Ready {
+        ring: Ring {
+            samples,
+            sphi: &sphi,
+            cphi: &cphi,
+        },
+        ring_phi,
     };
-    let ready = Ready { ring, ring_phi };
     let second = models.second(&ready, f.mean, f.centered_var, &mut scratch, &mut js);
-    robust_choice::chosen(primary, second)
+    robust_choice::chosen(f.primary, second)
 }
 
 // The Rust's ring has 16 samples; another number is ours, without a counterpart there.

@@ -1,7 +1,5 @@
 -- Without a sum there is no grid; with one the best seed's start is made. Assumes nothing.
-use Rattle.std.proofs.Common.{◌∙◌, ℕ, sym, ap, length}
-use Rattle.robust_grid.specs.Grid.{best_of}
-use Rattle.robust_grid.specs.Places.{score_at}
+use Rattle.std.proofs.Common.{◌∙◌, length}
 use Rattle.robust.proofs.RobustLaws.{none_centered, sum_centered, grid_missing, grid_made, direct_is, direct_seed_lem}
 use Rattle.robust.proofs.grid_fit.Goals as goal
 
@@ -20,9 +18,7 @@ returns g c =
     let s = r.ring.samples.now in
     let n = length s in
     let sum = sum_centered _ _ _ _ _ _ _ c.in_ok-centered_ss.was c.centered_sum.ensures in
-    let seed = direct_seed_lem n s r.ring_phi.now a.mean a.centered_var _ _ _ _ _ _ r.phi (record { s = r.sines; c = r.cosines }) c.fill_grid.ensures in
-    let best =
-    seed sum.1 sum.2
-    (c.best_seed-top.ensures ∙ ap (λ (k : ℕ). best_of (score_at k c.fill_grid.new.h c.centered_sum.new.centered c.in_ok-centered_ss.centered_ss a.mean)) (sym c.requires.0)) in
+    let seed = direct_seed_lem n s r.ring_phi.now a.mean a.centered_var r.ring.sphi.now r.ring.cphi.now _ _ _ r.phi r.sines r.cosines in
+    let best = seed sum.1 sum.2 (rw (← c.requires.0) at c.grid_seed-top.ensures) in
     let made = grid_made _ n s r.ring_phi.now a.mean a.centered_var _ sum.0 best c.refined.ensures in
     rw (direct_is n s r.ring_phi.now a.mean a.centered_var) made

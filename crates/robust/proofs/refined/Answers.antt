@@ -8,4 +8,4 @@ returns-in_err-s c = c.from_residual.ensures ∙ refined_missing _ _ _ _ _ c.in_
 
 pub returns : goal.returns
 returns c =
-    refined_made _ _ _ _ _ _ _ c.in_ok-s.was c.started-f.ensures
+    refined_made _ _ _ _ _ _ _ c.in_ok-s.was c.started.ensures
