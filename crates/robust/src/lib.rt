@@ -6,7 +6,7 @@ ghost use Rattle.std.specs.Prelude.{◌≡◌, true, List, [], ◌<◌, length};
 ghost use Rattle.solver_record.specs.Record.{without_mean};
 ghost use Rattle.solver.specs.Record.{record_with_seed};
 ghost use Rattle.solver.specs.Solver.{sines, cosines};
-ghost use Rattle.solver.specs.Buffers.{Prepared, StartRoom};
+ghost use Rattle.solver.specs.Buffers.{Prepared};
 ghost use Rattle.robust_grid.specs.Grid.{best_seed};
 ghost use Rattle.seed_models.specs.Models.{Table};
 ghost use Rattle.robust.specs.Robust as R;
@@ -118,26 +118,28 @@ struct Ready<'a> {
     ghost cosines: { ring.cphi.now ≡ cosines (length ring_phi.now) ring_phi.now },
 }
 
-// A start from a seed: solver.rs, fit_with_seed behind its sin_cos.
-fn started(ready: &Ready, seed: Params, centered_var: f32, js: &mut [Sample]) -> Started
-    requires { length js.old ≡ length ready.now.ring.samples.now }
+// A start from a seed: solver.rs, fit_with_seed behind its sin_cos. Its working buffer is not on a caller's stack, where the
+// grid's rows come next.
+#[inline(never)]
+fn started<const N: usize>(ready: &Ready, seed: Params, centered_var: f32) -> Started
+    requires { length ready.now.ring.samples.now ≡ N }
     ensures { result ≡ record_with_seed (length ready.now.ring.samples.now) ready.now.ring.samples.now
         ready.now.ring_phi.now seed centered_var }
 {
     if solver_record::is_degenerate(seed.amp, centered_var) {
         return solver_record::refused(centered_var, seed.mu);
     }
-    solver::fit_prepared(&ready.ring, seed, js)
+    let mut js = [Sample::NONE; N];
+    solver::fit_prepared(&ready.ring, seed, &mut js)
 }
 
 // The one seed's fit, where there is a seed.
-fn refined(
+fn refined<const N: usize>(
     ready: &Ready,
     centered_var: f32,
     top: Option<SeedCandidate>,
-    js: &mut [Sample],
 ) -> Option<Started>
-    requires { length js.old ≡ length ready.now.ring.samples.now }
+    requires { length ready.now.ring.samples.now ≡ N }
     ensures { result ≡ second_of (R.refine_seed_candidates (length ready.now.ring.samples.now)
         ready.now.ring.samples.now ready.now.ring_phi.now centered_var top) }
 {
@@ -148,7 +150,7 @@ fn refined(
         theta1: s.theta1,
         theta2: s.theta2,
     };
-    Some(started(ready, seed, centered_var, js))
+    Some(started::<N>(ready, seed, centered_var))
 }
 
 // The centred samples and the sum of their squares, where the grid is worth its search.
@@ -185,40 +187,28 @@ fn grid_seed<const N: usize>(
 }
 
 // The start behind the grid.
-fn grid_fit<const N: usize>(
-    ready: &Ready,
-    mean: f32,
-    centered_var: f32,
-    centered: &mut [f32; N],
-    js: &mut [Sample],
-) -> Option<Started>
-    requires { (length ready.now.ring.samples.now ≡ N) × (length js.old ≡ N) }
+fn grid_fit<const N: usize>(ready: &Ready, mean: f32, centered_var: f32) -> Option<Started>
+    requires { length ready.now.ring.samples.now ≡ N }
     ensures { result ≡ second_of (R.robust_grid_fit [] (length ready.now.ring.samples.now)
         ready.now.ring.samples.now ready.now.ring_phi.now mean centered_var) }
 {
     let ring = &ready.ring;
-    let centered_ss = centered_sum(ring.samples, mean, centered_var, centered)?;
-    let top = grid_seed(ring, centered, centered_ss, mean);
-    refined(ready, centered_var, top, js)
+    let mut centered = [0.0f32; N];
+    let centered_ss = centered_sum(ring.samples, mean, centered_var, &mut centered)?;
+    let top = grid_seed(ring, &centered, centered_ss, mean);
+    refined::<N>(ready, centered_var, top)
 }
 
 // The start behind a table's models: robust_grid_fit_cached.
-fn cached_fit(
-    table: Stored,
-    ready: &Ready,
-    mean: f32,
-    centered_var: f32,
-    centered: &mut [f32; seed_models::RING_SAMPLES],
-    js: &mut [Sample],
-) -> Option<Started>
-    requires { (length ready.now.ring.samples.now ≡ W.ring_samples) × (length js.old ≡ W.ring_samples) }
+fn cached_fit(table: Stored, ready: &Ready, mean: f32, centered_var: f32) -> Option<Started>
+    requires { length ready.now.ring.samples.now ≡ W.ring_samples }
     ensures { result ≡ second_of (R.grid_fit_by (P.cached_seed table.entry.table.now mean) W.ring_samples
         ready.now.ring.samples.now ready.now.ring_phi.now mean centered_var) }
 {
-    let ring = &ready.ring;
-    let centered_ss = centered_sum(ring.samples, mean, centered_var, centered)?;
-    let top = seed_models::best_seed(&table, centered, centered_ss, mean);
-    refined(ready, centered_var, top, js)
+    let mut centered = [0.0f32; seed_models::RING_SAMPLES];
+    let centered_ss = centered_sum(ready.ring.samples, mean, centered_var, &mut centered)?;
+    let top = seed_models::best_seed(&table, &centered, centered_ss, mean);
+    refined::<{ seed_models::RING_SAMPLES }>(ready, centered_var, top)
 }
 
 pub fn refine_seed_candidates<'a, const N: usize>(
@@ -234,14 +224,13 @@ pub fn refine_seed_candidates<'a, const N: usize>(
     let mut turned = [0.0f32; N];
     let mut sphi = [0.0f32; N];
     let mut cphi = [0.0f32; N];
-    let mut js = [Sample::NONE; N];
     solver::prepare(ring_phi, &mut turned, &mut sphi, &mut cphi);
     let ring = Ring {
         samples,
         sphi: &sphi,
         cphi: &cphi,
     };
-    refined(&Ready { ring, ring_phi }, centered_var, top, &mut js)
+    refined::<N>(&Ready { ring, ring_phi }, centered_var, top)
 }
 
 pub fn robust_grid_fit<'a, const N: usize>(
@@ -254,23 +243,16 @@ pub fn robust_grid_fit<'a, const N: usize>(
     ensures { result ≡ second_of (R.robust_grid_fit [] (length samples.now) samples.now ring_phi.now
         mean centered_var) }
 {
-    let mut scratch = [0.0f32; N];
+    let mut turned = [0.0f32; N];
     let mut sphi = [0.0f32; N];
     let mut cphi = [0.0f32; N];
-    let mut js = [Sample::NONE; N];
-    solver::prepare(ring_phi, &mut scratch, &mut sphi, &mut cphi);
+    solver::prepare(ring_phi, &mut turned, &mut sphi, &mut cphi);
     let ring = Ring {
         samples,
         sphi: &sphi,
         cphi: &cphi,
     };
-    grid_fit(
-        &Ready { ring, ring_phi },
-        mean,
-        centered_var,
-        &mut scratch,
-        &mut js,
-    )
+    grid_fit::<N>(&Ready { ring, ring_phi }, mean, centered_var)
 }
 
 // The axes lie PI/4 on either side of the sector's midpoint.
@@ -295,63 +277,50 @@ pub struct First {
 
 // What solver::fit_with_seed does. A start that is not refused leaves the sines and cosines for the grid, and no refused
 // start is suspicious.
-fn start(
+fn start<const N: usize>(
     samples: &[f32],
     ring_phi: &[f32],
     seed: Params,
     centered_var: f32,
-    turned: &mut [f32],
-    sphi: &mut [f32],
-    cphi: &mut [f32],
-    js: &mut [Sample],
+    sphi: &mut [f32; N],
+    cphi: &mut [f32; N],
 ) -> Started
-    requires { StartRoom samples.now ring_phi.now turned.old sphi.old cphi.old js.old }
+    requires { P.Sized N samples.now ring_phi.now }
     ensures value { result ≡ record_with_seed (length samples.now) samples.now ring_phi.now seed centered_var }
     ensures prepared { R.fit_is_suspicious (without_mean result.fit) ≡ true → Prepared ring_phi.now sphi.new cphi.new }
 {
     if solver_record::is_degenerate(seed.amp, centered_var) {
         return solver_record::refused(centered_var, seed.mu);
     }
-    solver::prepare(ring_phi, turned, sphi, cphi);
-    solver::fit_prepared(
-        &Ring {
-            samples,
-            sphi,
-            cphi,
-        },
-        seed,
-        js,
-    )
+    let mut turned = [0.0f32; N];
+    let mut js = [Sample::NONE; N];
+    solver::prepare(ring_phi, &mut turned, sphi, cphi);
+    let ring = Ring {
+        samples,
+        sphi,
+        cphi,
+    };
+    solver::fit_prepared(&ring, seed, &mut js)
 }
 
-fn first_start(
+fn first_start<const N: usize>(
     samples: &[f32],
     ring_phi: &[f32],
-    turned: &mut [f32],
-    sphi: &mut [f32],
-    cphi: &mut [f32],
-    js: &mut [Sample],
+    sphi: &mut [f32; N],
+    cphi: &mut [f32; N],
 ) -> First
-    requires { StartRoom samples.now ring_phi.now turned.old sphi.old cphi.old js.old }
+    requires { P.Sized N samples.now ring_phi.now }
     ensures value { result ≡ P.first_of (length samples.now) samples.now ring_phi.now }
     ensures prepared { R.fit_is_suspicious (without_mean result.primary.fit) ≡ true →
         Prepared ring_phi.now sphi.new cphi.new }
 {
-    let count = floats::count_f32(samples.len());
+    let count = floats::count_f32(N);
     let mean = total(samples) / count;
     let centered_var = deviations(samples, mean) / count;
-    let h = seed::second_harmonic(samples, ring_phi, mean, turned, sphi, cphi);
+    let mut turned = [0.0f32; N];
+    let h = seed::second_harmonic(samples, ring_phi, mean, &mut turned, sphi, cphi);
     let seed = first_seed(h, mean);
-    let primary = start(
-        samples,
-        ring_phi,
-        seed,
-        centered_var,
-        turned,
-        sphi,
-        cphi,
-        js,
-    );
+    let primary = start(samples, ring_phi, seed, centered_var, sphi, cphi);
     First {
         primary,
         mean,
@@ -364,15 +333,8 @@ trait Models<const N: usize> {
     ghost tables: { Self → List Table };
 
     // The start behind a suspicious first one.
-    fn second(
-        &self,
-        ready: &Ready,
-        mean: f32,
-        centered_var: f32,
-        centered: &mut [f32; N],
-        js: &mut [Sample],
-    ) -> Option<Started>
-        requires { (length ready.now.ring.samples.now ≡ N) × (length js.old ≡ N) }
+    fn second(&self, ready: &Ready, mean: f32, centered_var: f32) -> Option<Started>
+        requires { length ready.now.ring.samples.now ≡ N }
         ensures { result ≡ second_of (R.robust_grid_fit (tables self.now) (length ready.now.ring.samples.now)
             ready.now.ring.samples.now ready.now.ring_phi.now mean centered_var) };
 }
@@ -384,15 +346,8 @@ struct Untabled;
 impl<const N: usize> Models<N> for Untabled {
     ghost tables = { λ s. [] };
 
-    fn second(
-        &self,
-        ready: &Ready,
-        mean: f32,
-        centered_var: f32,
-        centered: &mut [f32; N],
-        js: &mut [Sample],
-    ) -> Option<Started> {
-        grid_fit(ready, mean, centered_var, centered, js)
+    fn second(&self, ready: &Ready, mean: f32, centered_var: f32) -> Option<Started> {
+        grid_fit::<N>(ready, mean, centered_var)
     }
 }
 
@@ -419,23 +374,16 @@ impl<'a> Words<'a> {
 impl<'a> Models<{ seed_models::RING_SAMPLES }> for Words<'a> {
     ghost tables = { λ s. W.tables_in s.words.now };
 
-    fn second(
-        &self,
-        ready: &Ready,
-        mean: f32,
-        centered_var: f32,
-        centered: &mut [f32; seed_models::RING_SAMPLES],
-        js: &mut [Sample],
-    ) -> Option<Started> {
+    fn second(&self, ready: &Ready, mean: f32, centered_var: f32) -> Option<Started> {
         let words = *self;
         let Some(t) = seed_models::first_table(words.words, ready.ring_phi) else {
-            return grid_fit(ready, mean, centered_var, centered, js);
+            return grid_fit::<{ seed_models::RING_SAMPLES }>(ready, mean, centered_var);
         };
-        cached_fit(words.table(t), ready, mean, centered_var, centered, js)
+        cached_fit(words.table(t), ready, mean, centered_var)
     }
 }
 
-// The fit of N samples, with its working buffers on this call's stack.
+// The fit of N samples. Each step has its working buffers on its own stack.
 fn fit_by<'a, const N: usize, M: Models<N>>(
     models: &M,
     samples: &'a [f32],
@@ -444,18 +392,9 @@ fn fit_by<'a, const N: usize, M: Models<N>>(
     requires { P.Sized N samples.now ring_phi.now }
     ensures { result ≡ record_ring (M.tables models.now) (length samples.now) samples.now ring_phi.now }
 {
-    let mut scratch = [0.0f32; N];
     let mut sphi = [0.0f32; N];
     let mut cphi = [0.0f32; N];
-    let mut js = [Sample::NONE; N];
-    let f = first_start(
-        samples,
-        ring_phi,
-        &mut scratch,
-        &mut sphi,
-        &mut cphi,
-        &mut js,
-    );
+    let f = first_start(samples, ring_phi, &mut sphi, &mut cphi);
     if !fit_is_suspicious(f.primary.fit) {
         return robust_choice::alone(f.primary);
     }
@@ -467,7 +406,7 @@ fn fit_by<'a, const N: usize, M: Models<N>>(
         },
         ring_phi,
     };
-    let second = models.second(&ready, f.mean, f.centered_var, &mut scratch, &mut js);
+    let second = models.second(&ready, f.mean, f.centered_var);
     robust_choice::chosen(f.primary, second)
 }
 

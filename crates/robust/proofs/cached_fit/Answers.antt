@@ -10,7 +10,7 @@ use Rattle.robust.proofs.cached_fit.Goals as goal
 pub returns-in_err-centered_ss : goal.returns-in_err-centered_ss
 returns-in_err-centered_ss c =
     let none = none_centered _ _ _ _ _ _ c.in_err-centered_ss.was c.centered_sum.ensures in
-    c.from_residual.ensures ∙ grid_missing _ _ _ _ _ _ (rw c.requires.0 at none)
+    c.from_residual.ensures ∙ grid_missing _ _ _ _ _ _ (rw c.requires at none)
 
 pub returns : goal.returns
 returns c =
@@ -22,4 +22,4 @@ returns c =
     let made = grid_made (P.cached_seed a.table.table.now a.mean) (length s) s r.ring_phi.now a.mean a.centered_var _ sum.0 best in
     let fit : ℕ → Option Started = λ k. second_of
     (R.grid_fit_by (P.cached_seed a.table.table.now a.mean) k s r.ring_phi.now a.mean a.centered_var) in
-    made c.refined.ensures ∙ ap fit c.requires.0
+    made c.refined.ensures ∙ ap fit c.requires

@@ -19,6 +19,6 @@ returns g c =
     let n = length s in
     let sum = sum_centered _ _ _ _ _ _ _ c.in_ok-centered_ss.was c.centered_sum.ensures in
     let seed = direct_seed_lem n s r.ring_phi.now a.mean a.centered_var r.ring.sphi.now r.ring.cphi.now _ _ _ r.phi r.sines r.cosines in
-    let best = seed sum.1 sum.2 (rw (← c.requires.0) at c.grid_seed-top.ensures) in
+    let best = seed sum.1 sum.2 (rw (← c.requires) at c.grid_seed-top.ensures) in
     let made = grid_made _ n s r.ring_phi.now a.mean a.centered_var _ sum.0 best c.refined.ensures in
     rw (direct_is n s r.ring_phi.now a.mean a.centered_var) made

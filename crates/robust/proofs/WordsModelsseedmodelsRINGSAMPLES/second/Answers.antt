@@ -9,7 +9,7 @@ pub returns-in_default : goal.returns-in_default
 returns-in_default c =
     let a = c.args in
     let r = a.ready.now in
-    let near = none_near a.self.now.words.now r.ring.samples.now r.ring_phi.now a.mean a.centered_var _ c.requires.0 c.first_table.ensures.0 in
+    let near = none_near a.self.now.words.now r.ring.samples.now r.ring_phi.now a.mean a.centered_var _ c.requires c.first_table.ensures.0 in
     rw (← near c.in_default.is) c.grid_fit.ensures
 
 pub table-requires : goal.table-requires
@@ -24,5 +24,5 @@ returns c =
     let told = c.in-Some.is in
     let first = c.first_table.ensures in
     let few = rw told at first.1 in
-    let near = one_near a.self.now.words.now r.ring.samples.now r.ring_phi.now a.mean a.centered_var _ c.requires.0 first.0 _ told few in
+    let near = one_near a.self.now.words.now r.ring.samples.now r.ring_phi.now a.mean a.centered_var _ c.requires first.0 _ told few in
     rw (← near, ← c.table.ensures) c.cached_fit.ensures
