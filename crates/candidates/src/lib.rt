@@ -135,7 +135,7 @@ fn next_bin(i: usize) -> usize
     i + 1
 }
 
-// 1/4, 1/2, 1/4 around the circle.
+// 1/4, 1/2, 1/4 around the circle. By place: each bin reads those on either side.
 fn smooth_bins(hist: &[f32; HIST_BINS]) -> [f32; HIST_BINS]
     ensures { result ≡ C.smoothed hist.now }
 {
@@ -172,7 +172,7 @@ fn better_bin(smooth: &[f32; HIST_BINS], i: usize, best: Option<usize>) -> Optio
     best
 }
 
-// The greatest unused bin, the lower on a tie; none where every bin is used.
+// The greatest unused bin, the lower on a tie; none where every bin is used. By place: the answer is one.
 fn best_bin(smooth: &[f32; HIST_BINS], used: &[bool; HIST_BINS]) -> Option<usize>
     ensures { IfSome result (λ b. b < hist_bins) × (result ≡ C.best_bin smooth.now used.now) }
 {
@@ -235,7 +235,7 @@ fn around(set: CandidateSet, seed: f32) -> CandidateSet
     candidates
 }
 
-// 0 to 150 degrees by 30.
+// 0 to 150 degrees by 30. By number: a `step_by` would ask for a measure, and k times the step is as plain.
 fn coarse(set: CandidateSet) -> CandidateSet
     requires { set.n ≤ 32 }
     ensures { (result.n ≤ set.n + 6) × (result ≡ C.coarse set) }
@@ -286,6 +286,7 @@ fn nearer(best: Nearby, c: usize, d: f32) -> Nearby
     best
 }
 
+// By place: the answer is one.
 fn nearest(candidates: CandidateSet, target_w: f32) -> Nearby
     requires { candidates.n ≤ C.max_candidates }
     ensures { (result.best_i ≤ candidates.n) × (result ≡ C.nearest candidates.angles target_w candidates.n) }
@@ -366,7 +367,7 @@ fn raised_tops(edge_align: &[f32], c: usize, t: Tops) -> Tops
     t
 }
 
-// The pair of the two greatest edge sums.
+// The pair of the two greatest edge sums. By place: the answer is two.
 pub fn forced_histogram_pair(candidates: CandidateSet, edge_align: &[f32]) -> Forced
     requires { candidates.n ≤ length edge_align.now }
     ensures { result ≡ C.forced_histogram_pair candidates edge_align.now }
