@@ -22,7 +22,8 @@ use Rattle.score_edges.specs.Edges.{refined_sum}
 use Rattle.score.specs.Score.{axis_row}
 use Rattle.search_rows.specs.declared.Slot.{Slot}
 use Rattle.search_rows.specs.declared.Slots.{Slots}
-use Rattle.search_rows.specs.Rows.{AxisRows, build_axis_rows, rows_of, rows_room, RowFilled, no_slot, beyond, key_at, is_same, slot_of, held_slots, held_rows, no_slots}
+use Rattle.search_rows.specs.Rows.{AxisRows, build_axis_rows, rows_of, rows_room, RowFilled, no_slot, beyond, key_at, is_same, slot_of, held_slots, held_rows}
+use Rattle.search_rows.specs.Rows.{no_slots}
 use Rattle.search_rows.specs.Rows.{Stands, SlotsKept, SlotHeld}
 
 -- ---- above 0 equal numbers are one value
