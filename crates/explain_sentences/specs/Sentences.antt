@@ -77,24 +77,24 @@ mismatch_rows a =
     ∷ (is_clean a && of_disk (kind_above a), "  warning: this does not answer line {a}: a disk frame of finite values has a disk fit, or refusal 4\n")
     ∷ []
 
--- ---- a fit, of its answer's kind
-unfoldable pub fit_rows : Kind → Reading → List (Bool × String)
-fit_rows kind r =
+-- ---- a fit, of its answer's kind, whose errors are known or not
+unfoldable pub fit_rows : Kind → Bool → List (Bool × String)
+fit_rows kind known =
     (of_ring Sixteen (Some kind), "line {a}: ring fit\n")
     ∷ (of_ring TwentyFour (Some kind), "line {a}: 24-point ring fit\n")
     ∷ (of_disk (Some kind), "line {a}: disk fit\n")
     ∷ (true, "  axes        {b} and {c} degrees, {d} apart\n")
-    ∷ (r.known, "  errors      {e} and {f} degrees\n")
-    ∷ (not r.known, "  errors      not known ({e} and {f} degrees stand in their place)\n")
+    ∷ (known, "  errors      {e} and {f} degrees\n")
+    ∷ (not known, "  errors      not known ({e} and {f} degrees stand in their place)\n")
     ∷ (true, "  amplitude   {g}\n")
     ∷ (true, "  residual    {h}{i}{j}{k}\n")
-    ∷ (not r.disk, "  work        {l} start{m}, {n}{o}{p} update{q}\n")
-    ∷ (r.disk, "  rel_rms     {r}\n")
-    ∷ (r.disk, "  width       {s}\n")
-    ∷ (r.disk, "  correlation {t}\n")
-    ∷ (r.disk, "  edge score  {u}\n")
-    ∷ (r.disk, "  objective   {v}\n")
-    ∷ (r.disk, "  work        {w} trial{x}\n")
+    ∷ (not (of_disk (Some kind)), "  work        {l} start{m}, {n}{o}{p} update{q}\n")
+    ∷ (of_disk (Some kind), "  rel_rms     {r}\n")
+    ∷ (of_disk (Some kind), "  width       {s}\n")
+    ∷ (of_disk (Some kind), "  correlation {t}\n")
+    ∷ (of_disk (Some kind), "  edge score  {u}\n")
+    ∷ (of_disk (Some kind), "  objective   {v}\n")
+    ∷ (of_disk (Some kind), "  work        {w} trial{x}\n")
     ∷ []
 
 -- ---- a refusal: number 3 has the place of a value, which has a name: a ring's samples, and behind them as many angles
@@ -318,7 +318,7 @@ line_rows w l = bad_rows w (length l) (foreign_byte l)
 
 -- ---- a line l of its sort, below a: first that the frame above has no answer, where this line is none; at the end that this is not its answer
 abbrev pub fit_text : List (List ℕ) → Kind → Reading → List ℕ
-fit_text ws kind r = telling ws (fit_rows kind r) ++ warnings_text r
+fit_text ws kind r = telling ws (fit_rows kind r.known) ++ warnings_text r
 
 -- a fit's line l told on the page p, which is q now, whatever the words in the blanks are
 pub record Fitted (l : List ℕ) (kind : Kind) (p q : Page) : Type 0 where
