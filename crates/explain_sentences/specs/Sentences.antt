@@ -48,11 +48,11 @@ kind_above (Aboves.Asked f) = Some (kind_asked f.asks)
 kind_above _ = None
 
 -- ---- a frame that no answer follows
-unfoldable pub alone_rows : Bool → Above → List (Bool × String)
-alone_rows alone a =
-    (alone && of_ring Sixteen (kind_above a), "line {a}: ring frame without an answer: run it through fitlines\n")
-    ∷ (alone && of_ring TwentyFour (kind_above a), "line {a}: 24-point ring frame without an answer: run it through fitlines\n")
-    ∷ (alone && of_disk (kind_above a), "line {a}: disk frame of {b} pixel{c} without an answer: run it through fitlines\n")
+unfoldable pub alone_rows : Above → List (Bool × String)
+alone_rows a =
+    (of_ring Sixteen (kind_above a), "line {a}: ring frame without an answer: run it through fitlines\n")
+    ∷ (of_ring TwentyFour (kind_above a), "line {a}: 24-point ring frame without an answer: run it through fitlines\n")
+    ∷ (of_disk (kind_above a), "line {a}: disk frame of {b} pixel{c} without an answer: run it through fitlines\n")
     ∷ []
 
 -- ---- an answer that is not that of the frame above it, which is due a refusal, or a fit: its values are finite
@@ -69,34 +69,32 @@ abbrev pub is_clean : Above → Bool
 is_clean (Aboves.Asked f) = is_fit_due f.due
 is_clean _ = false
 
-unfoldable pub mismatch_rows : Bool → Above → List (Bool × String)
-mismatch_rows strange a =
-    (strange && is_refused a, "  warning: this does not answer line {a}: its frame is refused, {b}\n")
-    ∷ (strange && (is_clean a && of_ring Sixteen (kind_above a)), "  warning: this does not answer line {a}: a ring frame of finite values has a ring fit\n")
-    ∷ (strange && (is_clean a && of_ring TwentyFour (kind_above a)),
-      "  warning: this does not answer line {a}: a 24-point ring frame of finite values has a 24-point ring fit\n")
-    ∷ (strange && (is_clean a && of_disk (kind_above a)),
-      "  warning: this does not answer line {a}: a disk frame of finite values has a disk fit, or refusal 4\n")
+unfoldable pub mismatch_rows : Above → List (Bool × String)
+mismatch_rows a =
+    (is_refused a, "  warning: this does not answer line {a}: its frame is refused, {b}\n")
+    ∷ (is_clean a && of_ring Sixteen (kind_above a), "  warning: this does not answer line {a}: a ring frame of finite values has a ring fit\n")
+    ∷ (is_clean a && of_ring TwentyFour (kind_above a), "  warning: this does not answer line {a}: a 24-point ring frame of finite values has a 24-point ring fit\n")
+    ∷ (is_clean a && of_disk (kind_above a), "  warning: this does not answer line {a}: a disk frame of finite values has a disk fit, or refusal 4\n")
     ∷ []
 
--- ---- a fit, of its answer's kind
-unfoldable pub fit_rows : Kind → Reading → List (Bool × String)
-fit_rows kind r =
+-- ---- a fit, of its answer's kind, whose errors are known or not
+unfoldable pub fit_rows : Kind → Bool → List (Bool × String)
+fit_rows kind known =
     (of_ring Sixteen (Some kind), "line {a}: ring fit\n")
     ∷ (of_ring TwentyFour (Some kind), "line {a}: 24-point ring fit\n")
     ∷ (of_disk (Some kind), "line {a}: disk fit\n")
     ∷ (true, "  axes        {b} and {c} degrees, {d} apart\n")
-    ∷ (r.known, "  errors      {e} and {f} degrees\n")
-    ∷ (not r.known, "  errors      not known ({e} and {f} degrees stand in their place)\n")
+    ∷ (known, "  errors      {e} and {f} degrees\n")
+    ∷ (not known, "  errors      not known ({e} and {f} degrees stand in their place)\n")
     ∷ (true, "  amplitude   {g}\n")
     ∷ (true, "  residual    {h}{i}{j}{k}\n")
-    ∷ (not r.disk, "  work        {l} start{m}, {n}{o}{p} update{q}\n")
-    ∷ (r.disk, "  rel_rms     {r}\n")
-    ∷ (r.disk, "  width       {s}\n")
-    ∷ (r.disk, "  correlation {t}\n")
-    ∷ (r.disk, "  edge score  {u}\n")
-    ∷ (r.disk, "  objective   {v}\n")
-    ∷ (r.disk, "  work        {w} trial{x}\n")
+    ∷ (not (of_disk (Some kind)), "  work        {l} start{m}, {n}{o}{p} update{q}\n")
+    ∷ (of_disk (Some kind), "  rel_rms     {r}\n")
+    ∷ (of_disk (Some kind), "  width       {s}\n")
+    ∷ (of_disk (Some kind), "  correlation {t}\n")
+    ∷ (of_disk (Some kind), "  edge score  {u}\n")
+    ∷ (of_disk (Some kind), "  objective   {v}\n")
+    ∷ (of_disk (Some kind), "  work        {w} trial{x}\n")
     ∷ []
 
 -- ---- a refusal: number 3 has the place of a value, which has a name: a ring's samples, and behind them as many angles
@@ -320,7 +318,7 @@ line_rows w l = bad_rows w (length l) (foreign_byte l)
 
 -- ---- a line l of its sort, below a: first that the frame above has no answer, where this line is none; at the end that this is not its answer
 abbrev pub fit_text : List (List ℕ) → Kind → Reading → List ℕ
-fit_text ws kind r = telling ws (fit_rows kind r) ++ warnings_text r
+fit_text ws kind r = telling ws (fit_rows kind r.known) ++ warnings_text r
 
 -- a fit's line l told on the page p, which is q now, whatever the words in the blanks are
 pub record Fitted (l : List ℕ) (kind : Kind) (p q : Page) : Type 0 where
@@ -333,5 +331,9 @@ body_of ws l (Fit kind) a = fit_text ws kind (reading_of l kind)
 body_of ws l (Refused r) a = telling ws (refused_rows r a)
 body_of ws l (Bad w) a = telling ws (line_rows w l)
 
+-- sentences that are told where it is so
+abbrev pub telling_if : Bool → List (List ℕ) → List (Bool × String) → List ℕ
+telling_if on ws rows = cond on (telling ws rows) []
+
 abbrev pub explained : List (List ℕ) → List (List ℕ) → List (List ℕ) → List ℕ → Sort → Above → List ℕ
-explained us vs ws l s a = telling us (alone_rows (is_alone s) a) ++ (body_of vs l s a ++ telling ws (mismatch_rows (is_strange s a) a))
+explained us vs ws l s a = telling_if (is_alone s) us (alone_rows a) ++ (body_of vs l s a ++ telling_if (is_strange s a) ws (mismatch_rows a))
