@@ -1,5 +1,6 @@
 -- Candidate angles and the pool of pairs: disk_sector/candidates.rs. Definitions only.
-use Rattle.std.specs.Prelude.{Bool, true, false, cond, ◌||◌, ◌&&◌, List, [], ◌∷◌, ℕ, ◌+◌, ◌-◌, ◌*◌, ◌/◌, get_or, set, replicate, eqb, leb, ltb, Float, Option, Some, None}
+use Rattle.std.specs.Prelude.{Bool, true, false, cond, ◌||◌, ◌&&◌, List, [], ◌∷◌, ℕ, ◌+◌, ◌-◌, ◌*◌, ◌/◌, get_or, set, replicate, eqb, leb, ltb, Float, Option}
+use Rattle.std.specs.Prelude.{Some, None}
 use Rattle.std.specs.Float.{inf}
 use Rattle.std.specs.Float.Ieee.{lt, le}
 use Rattle.floats.specs.Ops.{◌⊕◌, ◌⊗◌, ◌⊘◌, lit, nought, one, pi}

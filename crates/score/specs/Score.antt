@@ -113,6 +113,13 @@ fit_is_better a b =
     (lower a.width b.width
     (lower a.theta1 b.theta1 (lt a.theta2 b.theta2)))))
 
+-- what a key tells by itself: nothing within the margin
+unfoldable pub lower_told : Float → Float → Option Bool
+lower_told a b = cond (lt a (b ⊖ margin)) (Some true) (cond (lt margin (abs (a ⊖ b))) (Some false) None)
+
+unfoldable pub higher_told : Float → Float → Option Bool
+higher_told a b = cond (lt (b ⊕ margin) a) (Some true) (cond (lt margin (abs (a ⊖ b))) (Some false) None)
+
 -- ---- fit_std_errors
 -- a pixel's model, its two slopes and its error, in f32
 unfoldable pub slopes_at : Float → Float → SinCos → SinCos → Float → Float → Float → Slopes

@@ -4,10 +4,11 @@
 use Rattle.std.specs.Prelude.{◌≡◌, refl, Bool, true, false, cond, ℕ, T, Option, Some, None}
 use Rattle.std.proofs.Common.{sym}
 use Rattle.std.proofs.Math.Path.{subst}
-use Rattle.std.specs.Float.Ieee.{Float, binary32, le, fits}
+use Rattle.std.specs.Float.Ieee.{Float, binary32, lt, le, fits}
 use Rattle.std.specs.Float.Ieee.Fits.{div-fits}
-use Rattle.floats.specs.Ops.{◌⊖◌, ◌⊗◌, ◌⊘◌, nought, one}
-use Rattle.floats.specs.Library.{narrow}
+use Rattle.std.specs.Option.{unwrap_or, option_or}
+use Rattle.floats.specs.Ops.{◌⊕◌, ◌⊖◌, ◌⊗◌, ◌⊘◌, nought, one}
+use Rattle.floats.specs.Library.{abs, narrow}
 use Rattle.floats.specs.SquareSumLaws.{Upright}
 use Rattle.floats.specs.UprightLaws.{narrow_upright, max_upright}
 use Rattle.geometry.specs.Geometry.{valid_pair}
@@ -22,6 +23,7 @@ use Rattle.loops.proofs.TabLaws.{Stores}
 use Rattle.score.specs.declared.Fit.{Fit}
 use Rattle.score.specs.declared.Sums.{Sums}
 use Rattle.score.specs.Score as S
+use Rattle.score.specs.Score.{lower, higher, lower_told, higher_told, fit_is_better}
 use Rattle.score.specs.Score.{margin, fit_of, cached_sums, scored_sums, score_pair_cached, Alignments, precompute_edge_alignments, fit_std_errors, error_sum}
 
 -- ---- what every fit has that a pair's score can answer: P of every fit made of the two axes at the width
@@ -57,6 +59,44 @@ module _ (P : Fit → Type 0) (theta0 theta1 width edge_score : Float) where
       go false d = tt
       go true true = tt
       go true false = sums_every h D.val_energy (one ⊘ count D.n) (cached_sums D.n D.vals_centered h0 h1)
+
+-- ---- the order of fits: the first key that tells decides
+next_told : (x y : Option Bool) (d : Bool) → unwrap_or (option_or x y) d ≡ unwrap_or x (unwrap_or y d)
+next_told None y d = refl
+next_told (Some t) y d = refl
+
+lower_tells : (a b : Float) (d : Bool) → unwrap_or (lower_told a b) d ≡ lower a b d
+unfolding lower_told
+lower_tells a b d = go (lt a (b ⊖ margin)) (lt margin (abs (a ⊖ b)))
+  where
+    go : (t u : Bool) → unwrap_or (cond t (Some true) (cond u (Some false) None)) d ≡ cond t true (cond u false d)
+    go true u = refl
+    go false true = refl
+    go false false = refl
+
+higher_tells : (a b : Float) (d : Bool) → unwrap_or (higher_told a b) d ≡ higher a b d
+unfolding higher_told
+higher_tells a b d = go (lt (b ⊕ margin) a) (lt margin (abs (a ⊖ b)))
+  where
+    go : (t u : Bool) → unwrap_or (cond t (Some true) (cond u (Some false) None)) d ≡ cond t true (cond u false d)
+    go true u = refl
+    go false true = refl
+    go false false = refl
+
+pub better_told :
+    (a b : Fit) →
+    unwrap_or
+    (option_or
+    (option_or
+    (option_or
+    (option_or (lower_told a.objective b.objective) (lower_told a.rel_rms b.rel_rms))
+    (higher_told a.edge_score b.edge_score))
+    (lower_told a.width b.width))
+    (lower_told a.theta1 b.theta1))
+    (lt a.theta2 b.theta2)
+    ≡ fit_is_better a b
+unfolding fit_is_better
+better_told a b = rw (next_told, next_told, next_told, next_told, lower_tells, lower_tells, lower_tells, lower_tells, higher_tells)
 
 -- ---- a sound fit
 abbrev pub SoundFit : Fit → Type 0

@@ -173,28 +173,30 @@ pub fn precompute_edge_alignments(
     total
 }
 
-fn lower(a: f32, b: f32, next: bool) -> bool
-    ensures { result ≡ S.lower a b next }
+// Whether a fit goes before another by the lower of two keys; none where the keys lie within 1e-9 of each other.
+fn lower(a: f32, b: f32) -> Option<bool>
+    ensures { result ≡ S.lower_told a b }
 {
     if a < b - 1e-9 {
-        return true;
+        return Some(true);
     }
     if floats::abs(a - b) > 1e-9 {
-        return false;
+        return Some(false);
     }
-    next
+    None
 }
 
-fn higher(a: f32, b: f32, next: bool) -> bool
-    ensures { result ≡ S.higher a b next }
+// The same by the higher.
+fn higher(a: f32, b: f32) -> Option<bool>
+    ensures { result ≡ S.higher_told a b }
 {
     if a > b + 1e-9 {
-        return true;
+        return Some(true);
     }
     if floats::abs(a - b) > 1e-9 {
-        return false;
+        return Some(false);
     }
-    next
+    None
 }
 
 // Lower objective, lower rel_rms, higher edge_score, narrower width, smaller theta1, smaller theta2: the first
@@ -202,11 +204,12 @@ fn higher(a: f32, b: f32, next: bool) -> bool
 pub fn fit_is_better(a: Fit, b: Fit) -> bool
     ensures { result ≡ S.fit_is_better a b }
 {
-    let t = lower(a.theta1, b.theta1, a.theta2 < b.theta2);
-    let w = lower(a.width, b.width, t);
-    let e = higher(a.edge_score, b.edge_score, w);
-    let r = lower(a.rel_rms, b.rel_rms, e);
-    lower(a.objective, b.objective, r)
+    lower(a.objective, b.objective)
+        .or(lower(a.rel_rms, b.rel_rms))
+        .or(higher(a.edge_score, b.edge_score))
+        .or(lower(a.width, b.width))
+        .or(lower(a.theta1, b.theta1))
+        .unwrap_or(a.theta2 < b.theta2)
 }
 
 fn slopes_at(amp: f32, inv_w: f32, t1: SinCos, t2: SinCos, x: f32, y: f32, v: f32) -> Slopes

@@ -1,5 +1,6 @@
 -- A row that is filled stays the candidate's own while other rows are filled, and a score from the cache is the definition's. Assumes nothing.
-use Rattle.std.specs.Prelude.{◌≡◌, refl, Bool, false, List, [], ◌∷◌, ℕ, zero, suc, ◌*◌, ◌<◌, ◌≤◌, get_or, set, replicate, T, eqb, cond, Float, Option, Some, None}
+use Rattle.std.specs.Prelude.{◌≡◌, refl, Bool, false, List, [], ◌∷◌, ℕ, zero, suc, ◌*◌, ◌<◌, ◌≤◌, get_or, set, replicate, T, eqb, cond, Float, Option, Some}
+use Rattle.std.specs.Prelude.{None}
 use Rattle.std.proofs.Common.{sym, ap, ◌∙◌, subst, arith, get_or-set_same, get_or-set_other, eqb→eq}
 use Rattle.std.proofs.Math.Bool.{true}
 use Rattle.std.proofs.Math.ListN.{length, length-set}
@@ -24,13 +25,13 @@ use Rattle.search.specs.Search.{behind, insert_at, insert_top, beats, pair_score
 use Rattle.search.specs.Cache.{cache_room, Cached, Keeps, Listed, cached_score}
 
 -- where a place is taken, the code's way is the definition's
-pub inserted :
+pub insert_top_is :
     (top : Top) (fit : Fit) →
     insert_top top fit
     ≡ cond (beats fit top.first) (record { first = Some fit; second = top.first })
     (cond (beats fit top.second) (record { first = top.first; second = Some fit }) top)
 unfolding insert_top insert_at behind beats
-inserted top fit = go top.first top.second
+insert_top_is top fit = go top.first top.second
   where
     go :
         (a b : Option Fit) →

@@ -1,5 +1,5 @@
 -- The ranking is sorted, it has the pool's own pairs, and no other arrangement of them is sorted. Assumes nothing.
-use Rattle.std.specs.Prelude.{◌≡◌, refl, ◌⊎◌, Bool, true, false, cond, ℕ, zero, suc, ◌+◌, ◌≤◌, ◌<◌, length, take, get_or, ltb, Float}
+use Rattle.std.specs.Prelude.{◌≡◌, refl, ◌⊎◌, Bool, true, false, not, cond, ℕ, zero, suc, ◌+◌, ◌≤◌, ◌<◌, length, take, get_or, ltb, Float}
 use Rattle.std.proofs.Common.{sym, ap, ◌∙◌, subst, inl, inr, le_of_suc-le-suc, not-suc-le-zero, arith, lt-ltb, le-ltb, ltb-true, ltb-false, take-suc}
 use Rattle.std.proofs.Math.Logic.Or
 use Rattle.std.proofs.Math.Bool.{Bool-set}
@@ -8,7 +8,8 @@ use mathlib.Core.List.{List, [], ◌∷◌, ◌++◌, cons≢nil, Mem, not-mem-n
 use mathlib.Core.List.{Perm, perm_append_singleton}
 use mathlib.Core.List.{Permᴰ}
 use Rattle.std.proofs.Common.{Ordering, Less, Equal, Greater, is_lt, nat_cmp}
-use Rattle.std.specs.Ordering.{ordering_then, bool_cmp}
+use Rattle.std.specs.Ordering.{ordering_then}
+use Rattle.std.specs.Bool.{beq}
 use Rattle.std.specs.Cmp.{nat_cmp_is}
 use Rattle.floats.specs.Rows.{Row}
 use Rattle.floats.specs.Library.{total_key}
@@ -85,11 +86,12 @@ lex_above m n r h = rw (le-ltb m n (omega arith), lt-ltb n m h)
 lex_level : (m n : ℕ) (r : Bool) → m ≡ n → lex m n r ≡ r
 lex_level m n r e = rw (le-ltb m n (omega arith), le-ltb n m (omega arith))
 
--- the code compares key by key, and the first comparison that is not level decides
-then_then : (a b c : Ordering) → ordering_then (ordering_then a b) c ≡ ordering_then a (ordering_then b c)
-then_then Less b c = refl
-then_then Equal b c = refl
-then_then Greater b c = refl
+-- the code returns at the first test that decides
+lex_unlike : (m n : ℕ) (r : Bool) → (n ≡ m → ⊥) → ltb m n ≡ lex m n r
+lex_unlike m n r o = elim (compared m n) [
+  | inl h ↦ rw (lt-ltb m n h)
+  | inr h ↦ let g : n < m = omega arith in rw (le-ltb m n h, lt-ltb n m g)
+]
 
 lex_then : (m n : ℕ) (o : Ordering) → is_lt (ordering_then (nat_cmp m n) o) ≡ lex m n (is_lt o)
 lex_then m n o = elim (compared m n) [
@@ -109,42 +111,37 @@ last_then m n = elim (compared m n) [
   ]
 ]
 
-abbrev keys_compared : PairScore → PairScore → Ordering
-keys_compared a b =
-    ordering_then (nat_cmp (total_key b.edge_score) (total_key a.edge_score)) (ordering_then (nat_cmp a.i b.i) (nat_cmp a.j b.j))
+module _ (a b : PairScore) where
+  pub before_forced : not (beq a.forced b.forced) ≡ true → a.forced ≡ is_before a b
+  unfolding is_before
+  before_forced e = go a.forced b.forced e
+    where
+      go : (f g : Bool) → not (beq f g) ≡ true → f ≡ cond f (cond g (keys_before a b) true) (cond g false (keys_before a b))
+      go true true e = absurd (false≢true e)
+      go true false e = refl
+      go false true e = refl
+      go false false e = absurd (false≢true e)
 
-keys_then : (a b : PairScore) → is_lt (keys_compared a b) ≡ keys_before a b
-unfolding keys_before
-keys_then a b =
-    let m = total_key b.edge_score in
-    let n = total_key a.edge_score in
-    lex_then m n (ordering_then (nat_cmp a.i b.i) (nat_cmp a.j b.j))
-    ∙ ap (lex m n) (lex_then a.i b.i (nat_cmp a.j b.j) ∙ ap (lex a.i b.i) (last_then a.j b.j))
+  module _ (e : not (beq a.forced b.forced) ≡ false) where
+    before_keys : keys_before a b ≡ is_before a b
+    unfolding is_before
+    before_keys = go a.forced b.forced e
+      where
+        go : (f g : Bool) → not (beq f g) ≡ false → keys_before a b ≡ cond f (cond g (keys_before a b) true) (cond g false (keys_before a b))
+        go true true e = refl
+        go true false e = absurd (false≢true (sym e))
+        go false true e = absurd (false≢true (sym e))
+        go false false e = refl
 
-pub before_then :
-    (a b : PairScore) →
-    is_lt
-    (ordering_then
-    (ordering_then
-    (ordering_then (bool_cmp b.forced a.forced) (nat_cmp (total_key b.edge_score) (total_key a.edge_score)))
-    (nat_cmp a.i b.i))
-    (nat_cmp a.j b.j))
-    ≡ is_before a b
-unfolding is_before
-before_then a b =
-    let f = bool_cmp b.forced a.forced in
-    let k = nat_cmp (total_key b.edge_score) (total_key a.edge_score) in
-    let i = nat_cmp a.i b.i in
-    let j = nat_cmp a.j b.j in
-    ap is_lt (then_then (ordering_then f k) i j ∙ then_then f k (ordering_then i j)) ∙ go a.forced b.forced
-  where
-    go :
-        (f g : Bool) →
-        is_lt (ordering_then (bool_cmp g f) (keys_compared a b)) ≡ cond f (cond g (keys_before a b) true) (cond g false (keys_before a b))
-    go true true = keys_then a b
-    go true false = refl
-    go false true = refl
-    go false false = keys_then a b
+    pub before_scores : (total_key a.edge_score ≡ total_key b.edge_score → ⊥) → ltb (total_key b.edge_score) (total_key a.edge_score) ≡ is_before a b
+    unfolding keys_before
+    before_scores o = lex_unlike _ _ _ o ∙ before_keys
+
+    pub before_places :
+        total_key a.edge_score ≡ total_key b.edge_score → is_lt (ordering_then (nat_cmp a.i b.i) (nat_cmp a.j b.j)) ≡ is_before a b
+    unfolding keys_before
+    before_places q =
+        lex_then a.i b.i (nat_cmp a.j b.j) ∙ ap (lex a.i b.i) (last_then a.j b.j) ∙ sym (lex_level _ _ _ (sym q)) ∙ before_keys
 
 -- what the outcome tells
 lex_true : (m n : ℕ) (r : Bool) → lex m n r ≡ true → (m < n) ⊎ ((m ≡ n) × (r ≡ true))

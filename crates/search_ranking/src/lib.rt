@@ -22,12 +22,15 @@ pub struct Ranked {
 fn is_before(a: PairScore, b: PairScore) -> bool
     ensures { result ≡ R.is_before a b }
 {
-    b.forced
-        .cmp(&a.forced)
-        .then(floats::total_key(b.edge_score).cmp(&floats::total_key(a.edge_score)))
-        .then(a.i.cmp(&b.i))
-        .then(a.j.cmp(&b.j))
-        .is_lt()
+    if a.forced != b.forced {
+        return a.forced;
+    }
+    let ka = floats::total_key(a.edge_score);
+    let kb = floats::total_key(b.edge_score);
+    if ka != kb {
+        return kb < ka;
+    }
+    a.i.cmp(&b.i).then(a.j.cmp(&b.j)).is_lt()
 }
 
 fn unranked() -> Ranked

@@ -35,7 +35,8 @@ loop-angle-preserved c =
     let idx = c.bin_of-idx.ensures.value in
     let y = c.loop-angle.yielded in
     let z : length (y ++ ((c.in-Some.angle, c.in-Some.weight) ∷ [])) ≡ length y + 1 = length-append y _ in
-    rw z (omega (arith, a.2), search rules, a.1, w.1, iter_more (C.binned c.args.«grad_angles».now c.args.«grad_weights».now) _ _ _ _ i.4 (rw (← w.0, ← a.0, c.if-weight.false, idx)))
+    rw z (omega (arith, a.2), search rules, a.1, w.1,
+        iter_more (C.binned c.args.«grad_angles».now c.args.«grad_weights».now) _ _ _ _ i.4 (rw (← w.0, ← a.0, c.if-weight.false, idx)))
 
 pub returns : goal.returns
 unfolding C.histogram

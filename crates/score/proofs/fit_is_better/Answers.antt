@@ -1,8 +1,18 @@
--- Five calls, each handed what the later keys tell. Assumes nothing.
-use Rattle.score.specs.Score as S
+-- The first of five keys that tells, or else the last. Assumes nothing.
+use Rattle.score.specs.ScoreLaws.{better_told}
 use Rattle.score.proofs.fit_is_better.Goals as goal
 
 pub returns : goal.returns
-unfolding S.fit_is_better
 returns c =
-    rw (c.lower.ensures, c.lower-r.ensures, c.higher-e.ensures, c.lower-w.ensures, c.lower-t.ensures)
+    rw (
+      c.unwrap_or.ensures,
+      c.or-4.ensures,
+      c.or-3.ensures,
+      c.or-2.ensures,
+      c.or.ensures,
+      c.lower.ensures,
+      c.lower-2.ensures,
+      c.higher.ensures,
+      c.lower-3.ensures,
+      c.lower-4.ensures,
+    ) (better_told c.args.a c.args.b)
