@@ -1,36 +1,37 @@
 -- What explain does with its input, turn by turn: all that it says but what stands in its sentences' blanks. Definitions only.
 use Rattle.std.specs.Prelude.{◌≡◌, ℕ, ◌+◌, ◌%◌, ◌^◌, true, List}
-use Rattle.hexadecimal.specs.Hex.{Written}
 use Rattle.lines.specs.declared.Found.{Found}
 use Rattle.lines.specs.declared.Found.TheVariants.{Line, More, Done}
 use Rattle.lines.specs.Lines.{found_of}
 use Rattle.lines.specs.declared.State.{State}
 use Rattle.lines.specs.Turns.{Answered, Read, Run, closed, line_to, opening}
 use Rattle.shapes.specs.Shapes.{limit}
-use Rattle.explain_words.specs.Tell.{telling}
+use Rattle.explain_words.specs.declared.Page.{Page}
+use Rattle.explain_words.specs.Tell.{Said, telling}
 use Rattle.explain_sorts.specs.declared.Above.{Above}
+use Rattle.explain_sorts.specs.declared.Above.TheVariants.{Nothing}
 use Rattle.explain_sorts.specs.declared.Sort.{Sort}
-use Rattle.explain_sorts.specs.Sorts.{sort_of, above_of, nothing}
+use Rattle.explain_sorts.specs.Sorts.{sort_of, above_of}
 use Rattle.explain_sentences.specs.Sentences.{alone_rows, body_of, explained}
 use Rattle.explain.specs.declared.Explaining.{Explaining}
 
--- ---- a line l of its sort s, below a, in the text t, which is m now
-pub record Body (l : List ℕ) (s : Sort) (a : Above) (t : List ℕ) (at : ℕ) (m : List ℕ) (r : ℕ) : Type 0 where
+-- ---- a line l of its sort s, below a, on the page p, which is q now
+pub record Body (l : List ℕ) (s : Sort) (a : Above) (p q : Page) : Type 0 where
   pub words : List (List ℕ)
-  pub said : Written t at (body_of words l s a) m r
+  pub said : Said p q (body_of words l s a)
 
-pub record Explained (l : List ℕ) (s : Sort) (a : Above) (t : List ℕ) (at : ℕ) (m : List ℕ) (r : ℕ) : Type 0 where
+pub record Explained (l : List ℕ) (s : Sort) (a : Above) (p q : Page) : Type 0 where
   pub first : List (List ℕ)
   pub second : List (List ℕ)
   pub third : List (List ℕ)
-  pub said : Written t at (explained first second third l s a) m r
+  pub said : Said p q (explained first second third l s a)
 
 -- ---- a turn from x to y: its input goes from b to c, its text from l to m; lines are counted from 1, modulo 2^64
 abbrev pub text_room : ℕ
 text_room = 60000
 
 abbrev pub first_state : Explaining
-first_state = record { state = opening; above = nothing; lines = 0 }
+first_state = record { state = opening; above = Nothing; lines = 0 }
 
 abbrev pub line_number : Explaining → ℕ
 line_number x = (x.lines + 1) % 2 ^ 64

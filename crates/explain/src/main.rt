@@ -10,40 +10,39 @@ ghost use Rattle.explain_sorts.specs.Sorts.{SortSound};
 ghost use Rattle.explain.specs.Explain as E;
 
 use explain_sorts::{Above, Sort};
+use explain_words::Page;
 use lines::{Found, State};
 use std::io::{Read, Write};
 
 // More than is said of any line: 24 characters for each of its sentences' own.
 const ROOM: usize = 60000;
 
-// What is said of a line itself, at a place of the text; the place behind it.
-fn body_told(text: &mut [u8], at: usize, number: u64, line: &[u8], sort: Sort, a: Above) -> usize
-    requires { SortSound (length line.now) sort × (at + 44424 ≤ length text.old) }
-    ensures { (result ≤ at + 44424) × E.Body line.now sort a text.old at text.new result }
+// What is said of a line itself.
+fn body_told(page: &mut Page, number: u64, line: &[u8], sort: Sort, a: Above)
+    requires { SortSound (length line.now) sort × (page.old.at + 44424 ≤ length page.old.text.now) }
+    ensures { (page.new.at ≤ page.old.at + 44424) × E.Body line.now sort a page.old page.new }
 {
     match sort {
-        Sort::Frame(_) => at,
-        Sort::Fit(kind) => explain_sentences::fit::told(text, at, number, line, kind),
-        Sort::Refused(r) => explain_sentences::refusal::told(text, at, number, r, a),
-        Sort::Bad(w) => explain_sentences::bad::told(text, at, number, line, w),
+        Sort::Asked(_) => {}
+        Sort::Fit(kind) => explain_sentences::fit::told(page, number, line, kind),
+        Sort::Refused(r) => explain_sentences::refusal::told(page, number, r, a),
+        Sort::Bad(w) => explain_sentences::bad::told(page, number, line, w),
     }
 }
 
 // All that is said at a line: that the frame above has no answer, the line itself, that it is not the
 // answer of that frame.
-fn line_told(text: &mut [u8], at: usize, number: u64, line: &[u8], sort: Sort, a: Above) -> usize
-    requires { SortSound (length line.now) sort × (at + 60000 ≤ length text.old) }
-    ensures { (result ≤ at + 60000) × E.Explained line.now sort a text.old at text.new result }
+fn line_told(page: &mut Page, number: u64, line: &[u8], sort: Sort, a: Above)
+    requires { SortSound (length line.now) sort × (page.old.at + 60000 ≤ length page.old.text.now) }
+    ensures { (page.new.at ≤ page.old.at + 60000) × E.Explained line.now sort a page.old page.new }
 {
-    let alone = explain_sorts::is_alone(sort);
-    let strange = explain_sorts::is_strange(sort, a);
-    let p = explain_sentences::alone_told(text, at, alone, a);
-    let p = body_told(text, p, number, line, sort, a);
-    explain_sentences::mismatch_told(text, p, strange, a)
+    explain_sentences::alone_told(page, explain_sorts::is_alone(sort), a);
+    body_told(page, number, line, sort, a);
+    explain_sentences::mismatch_told(page, explain_sorts::is_strange(sort, a), a);
 }
 
 // How far the program is, the line above the next one, and how many lines there were.
-#[derive(Drop)]
+#[derive(Clone, Copy)]
 struct Explaining {
     state: State,
     above: Above,
@@ -64,18 +63,15 @@ fn line_turn<W: Write>(
 {
     let s = x.state;
     let f = s.feed;
-    let a = x.above;
-    let begin = f.from;
     let number = std::num::wrapping_add_u64(x.lines, 1);
-    let line = &buf[begin..e];
+    let line = &buf[f.from..e];
     let sort = explain_sorts::sort_of(line, f.skip, number);
-    let at = lines::room(writer, text, s.put, ROOM);
-    let put = line_told(text, at, number, line, sort, a);
-    let state = lines::answered(s, from, put);
-    let above = explain_sorts::above_of(sort, number);
+    let at = s.room(writer, text, ROOM);
+    let mut page = Page { text, at };
+    line_told(&mut page, number, line, sort, x.above);
     Explaining {
-        state,
-        above,
+        state: s.answered(from, page.at),
+        above: explain_sorts::above_of(sort, number),
         lines: number,
     }
 }
@@ -86,16 +82,12 @@ fn last_turn<W: Write>(writer: &mut W, text: &mut [u8], x: Explaining) -> Explai
     ensures { StateKept result.state × E.End x text.old text.new result }
 {
     let s = x.state;
-    let f = s.feed;
-    let above = x.above;
-    let at = lines::room(writer, text, s.put, ROOM);
-    let put = explain_sentences::alone_told(text, at, true, above);
-    let state = lines::finish(writer, text, lines::answered(s, f.from, put));
-    Explaining {
-        state,
-        above,
-        lines: x.lines,
-    }
+    let at = s.room(writer, text, ROOM);
+    let mut page = Page { text, at };
+    explain_sentences::alone_told(&mut page, true, x.above);
+    let said = s.answered(s.feed.from, page.at);
+    let state = said.finish(writer, text);
+    Explaining { state, ..x }
 }
 
 // One line explained, or one block read, or the end.
@@ -110,19 +102,12 @@ fn turn<R: Read, W: Write>(
     ensures { StateKept result.state × E.ExplainTurn x buf.old buf.new text.old text.new result }
 {
     let s = x.state;
-    let above = x.above;
-    let f = s.feed;
-    let found = lines::find(buf, f);
-    match found {
+    match s.feed.find(buf) {
         Found::Line(e, next) => line_turn(writer, buf, text, x, e, next),
-        Found::More => {
-            let state = lines::read_on(reader, writer, buf, text, s, shapes::LIMIT);
-            Explaining {
-                state,
-                above,
-                lines: x.lines,
-            }
-        }
+        Found::More => Explaining {
+            state: s.read_on(reader, writer, buf, text, shapes::LIMIT),
+            ..x
+        },
         Found::Done => last_turn(writer, text, x),
     }
 }
@@ -136,21 +121,16 @@ fn serve<R: Read, W: Write>(
     requires { (length buf.old ≡ input) × (length text.old ≡ output) }
     ensures { E.AllExplained buf.old text.old result buf.new text.new }
 {
-    let state = lines::begin();
-    let above = explain_sorts::nothing();
     let mut x = Explaining {
-        state,
-        above,
+        state: State::begin(),
+        above: Above::Nothing,
         lines: 0,
     };
-    let mut turns = u64::MAX;
-    while turns > 0 {
+    for _ in 0..u64::MAX {
         x = turn(reader, writer, buf, text, x);
-        let s = x.state;
-        if !s.more {
+        if !x.state.more {
             return x;
         }
-        turns -= 1;
     }
     x
 }

@@ -17,7 +17,8 @@ use Rattle.explain_sentences.specs.Sentences.{of_ring, of_disk, kind_asked, kind
 -- ---- of an answer that is not that of the frame above it, one of the four sentences is told
 abbrev pub is_told : Above → Bool
 is_told a =
-    is_refused a || (is_clean a && of_ring Sixteen (kind_above a)) || (is_clean a && of_ring TwentyFour (kind_above a)) || (is_clean a && of_disk (kind_above a))
+    is_refused a || (is_clean a && of_ring Sixteen (kind_above a)) || (is_clean a && of_ring TwentyFour (kind_above a))
+    || (is_clean a && of_disk (kind_above a))
 
 framed : (asks : Asks) (due : Due) →
     (not (is_fit_due due) || (is_fit_due due && of_ring Sixteen (Some (kind_asked asks))) || (is_fit_due due && of_ring TwentyFour (Some (kind_asked asks)))

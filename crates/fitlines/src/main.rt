@@ -25,10 +25,9 @@ fn line_turn<W: Write>(
     ensures { StateKept result × Answered 99 s from (P.answer s buf.now e) text.old text.new result }
 {
     let f = s.feed;
-    let begin = f.from;
-    let at = lines::room(writer, text, s.put, ANSWER);
-    let put = frames::append(f.skip, &buf[begin..e], text, at);
-    lines::answered(s, from, put)
+    let at = s.room(writer, text, ANSWER);
+    let put = frames::append(f.skip, &buf[f.from..e], text, at);
+    s.answered(from, put)
 }
 
 // One line answered, or one block read, or the end.
@@ -42,12 +41,10 @@ fn turn<R: Read, W: Write>(
     requires { StateKept s × (length buf.old ≡ input) × (length text.old ≡ output) }
     ensures { StateKept result × P.Turn s buf.old buf.new text.old text.new result }
 {
-    let f = s.feed;
-    let found = lines::find(buf, f);
-    match found {
+    match s.feed.find(buf) {
         Found::Line(e, next) => line_turn(writer, buf, text, s, e, next),
-        Found::More => lines::read_on(reader, writer, buf, text, s, shapes::LIMIT),
-        Found::Done => lines::finish(writer, text, s),
+        Found::More => s.read_on(reader, writer, buf, text, shapes::LIMIT),
+        Found::Done => s.finish(writer, text),
     }
 }
 
@@ -60,14 +57,12 @@ fn serve<R: Read, W: Write>(
     requires { (length buf.old ≡ input) × (length text.old ≡ output) }
     ensures { P.Served buf.old text.old result buf.new text.new }
 {
-    let mut s = lines::begin();
-    let mut turns = u64::MAX;
-    while turns > 0 {
+    let mut s = State::begin();
+    for _ in 0..u64::MAX {
         s = turn(reader, writer, buf, text, s);
         if !s.more {
             return s;
         }
-        turns -= 1;
     }
     s
 }
