@@ -157,7 +157,7 @@ fn ring_call<const N: usize, const V: usize>(
     Ok(())
 }
 
-// The same with tables, for the record.
+// The same with tables. A closure for the fit would ask for a longer contract than this function has lines.
 fn tables_call(
     tables: &[f32; seed_models::STATE_SIZE],
     samples: &[f32],
@@ -284,7 +284,7 @@ fn disk_counts(m: Measured) -> [u32; 2]
     [(m.trials % 4294967296) as u32, u32::from(s.known)]
 }
 
-// The value call of the disk: any seven slices. The slices of its pixels stay apart, since a Disk has them of one length.
+// The value call of the disk: any seven slices. Those of its pixels stay apart, since a Disk has them of one length.
 fn disk_call(
     val_energy: f32,
     base0: f32,
