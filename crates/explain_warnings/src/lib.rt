@@ -48,6 +48,7 @@ pub struct Reading {
     pub beside: Beside,
 }
 
+// Two readers, of a ring's line and of a disk's: most values stand elsewhere, so a common one would be two lists of places.
 fn ring_reading(line: &[u8]) -> Reading
     requires { 60 ≤ length line.now }
     ensures { result ≡ W.ring_reading line.now }
