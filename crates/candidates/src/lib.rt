@@ -1,7 +1,8 @@
 // Candidate angles and the pool of pairs: disk_sector/candidates.rs.
 #![tactic(auto)]
 
-ghost use Rattle.std.specs.Prelude.{◌≡◌, false, ◌+◌, ◌≤◌, ◌<◌, length, replicate, IfSome};
+ghost use Rattle.std.specs.Prelude.{◌≡◌, ◌+◌, ◌≤◌, ◌<◌, length, replicate, IfSome};
+ghost use Rattle.floats.specs.Ops.{nought};
 ghost use Rattle.floats.specs.Library.{hist_bins};
 ghost use Rattle.candidates.specs.Candidates as C;
 
@@ -99,12 +100,11 @@ impl CandidateSet {
 }
 
 // The weights of the gradients by their direction.
-fn histogram(grad_angles: &[f32], grad_weights: &[f32], hist: &mut [f32])
-    requires { (length grad_weights.now ≡ length grad_angles.now) × (length hist.old ≡ hist_bins) }
-    ensures { (length hist.new ≡ hist_bins)
-        × (hist.new
-        ≡ C.histogram (length grad_angles.now) grad_angles.now grad_weights.now hist.old) }
+fn histogram(grad_angles: &[f32], grad_weights: &[f32]) -> [f32; HIST_BINS]
+    requires { length grad_weights.now ≡ length grad_angles.now }
+    ensures { result ≡ C.histogram (length grad_angles.now) grad_angles.now grad_weights.now (replicate hist_bins nought) }
 {
+    let mut hist = [0.0f32; HIST_BINS];
     for (angle, weight) in grad_angles.iter().zip(grad_weights) {
         if *weight <= 0.0 {
             continue;
@@ -112,6 +112,7 @@ fn histogram(grad_angles: &[f32], grad_weights: &[f32], hist: &mut [f32])
         let idx = floats::bin_of(*angle);
         hist[idx] += *weight;
     }
+    hist
 }
 
 fn prev_bin(i: usize) -> usize
@@ -134,20 +135,20 @@ fn next_bin(i: usize) -> usize
     i + 1
 }
 
-// 1/4, 1/2, 1/4 around the circle.
-fn smooth_bins(hist: &[f32], smooth: &mut [f32])
-    requires { (length hist.now ≡ hist_bins) × (length smooth.old ≡ hist_bins) }
-    ensures { (length smooth.new ≡ hist_bins) × (smooth.new ≡ C.smoothed hist.now) }
+// 1/4, 1/2, 1/4 around the circle. By place: each bin reads those on either side.
+fn smooth_bins(hist: &[f32; HIST_BINS]) -> [f32; HIST_BINS]
+    ensures { result ≡ C.smoothed hist.now }
 {
+    let mut smooth = [0.0f32; HIST_BINS];
     for i in 0..HIST_BINS {
         let prev = prev_bin(i);
         let next = next_bin(i);
         smooth[i] = 0.25 * hist[prev] + 0.5 * hist[i] + 0.25 * hist[next];
     }
+    smooth
 }
 
-fn greatest(smooth: &[f32]) -> f32
-    requires { length smooth.now ≡ hist_bins }
+fn greatest(smooth: &[f32; HIST_BINS]) -> f32
     ensures { result ≡ C.greatest smooth.now }
 {
     let mut max_v = 0.0f32;
@@ -158,8 +159,8 @@ fn greatest(smooth: &[f32]) -> f32
 }
 
 // The greater of an unused bin and the best so far.
-fn better_bin(smooth: &[f32], i: usize, best: Option<usize>) -> Option<usize>
-    requires { (length smooth.now ≡ hist_bins) × (i < hist_bins) × IfSome best (λ b. b < hist_bins) }
+fn better_bin(smooth: &[f32; HIST_BINS], i: usize, best: Option<usize>) -> Option<usize>
+    requires { (i < hist_bins) × IfSome best (λ b. b < hist_bins) }
     ensures { IfSome result (λ b. b < hist_bins) × (result ≡ C.greater_bin smooth.now i best) }
 {
     let Some(b) = best else {
@@ -171,9 +172,8 @@ fn better_bin(smooth: &[f32], i: usize, best: Option<usize>) -> Option<usize>
     best
 }
 
-// The greatest unused bin, the lower on a tie; none where every bin is used.
-fn best_bin(smooth: &[f32], used: &[bool]) -> Option<usize>
-    requires { (length smooth.now ≡ hist_bins) × (length used.now ≡ hist_bins) }
+// The greatest unused bin, the lower on a tie; none where every bin is used. By place: the answer is one.
+fn best_bin(smooth: &[f32; HIST_BINS], used: &[bool; HIST_BINS]) -> Option<usize>
     ensures { IfSome result (λ b. b < hist_bins) × (result ≡ C.best_bin smooth.now used.now) }
 {
     let mut best = None;
@@ -194,13 +194,13 @@ fn bin_angle(best_i: usize) -> f32
 }
 
 // At most MAX_PICKS, until one is below 0.12 of the maximum. A pick that is dropped counts.
-fn peaks(smooth: &[f32], max_v: f32, used: &mut [bool]) -> CandidateSet
-    requires { (length smooth.now ≡ hist_bins) × (used.old ≡ replicate hist_bins false) }
+fn peaks(smooth: &[f32; HIST_BINS], max_v: f32) -> CandidateSet
     ensures { (result.n ≤ C.max_picks) × (result ≡ C.peaks smooth.now max_v) }
 {
+    let mut used = [false; HIST_BINS];
     let mut candidates = CandidateSet::new();
     for _ in 0..MAX_PICKS {
-        let Some(best_i) = best_bin(smooth, used) else {
+        let Some(best_i) = best_bin(smooth, &used) else {
             break;
         };
         if smooth[best_i] < max_v * 0.12 {
@@ -212,14 +212,12 @@ fn peaks(smooth: &[f32], max_v: f32, used: &mut [bool]) -> CandidateSet
     candidates
 }
 
-fn histogram_peaks(smooth: &[f32]) -> CandidateSet
-    requires { length smooth.now ≡ hist_bins }
+fn histogram_peaks(smooth: &[f32; HIST_BINS]) -> CandidateSet
     ensures { (result.n ≤ C.max_picks) × (result ≡ C.histogram_peaks smooth.now) }
 {
     let max_v = greatest(smooth);
     if max_v > 0.0 {
-        let mut used = [false; HIST_BINS];
-        return peaks(smooth, max_v, &mut used);
+        return peaks(smooth, max_v);
     }
     CandidateSet::new()
 }
@@ -237,7 +235,7 @@ fn around(set: CandidateSet, seed: f32) -> CandidateSet
     candidates
 }
 
-// 0 to 150 degrees by 30.
+// 0 to 150 degrees by 30. By number: a `step_by` would ask for a measure, and k times the step is as plain.
 fn coarse(set: CandidateSet) -> CandidateSet
     requires { set.n ≤ 32 }
     ensures { (result.n ≤ set.n + 6) × (result ≡ C.coarse set) }
@@ -261,10 +259,8 @@ pub fn histogram_candidates(
     ensures { (result.n ≤ C.max_paired)
         × (result ≡ C.gradient_candidates (length grad_angles.now) grad_angles.now grad_weights.now base0 base1) }
 {
-    let mut hist = [0.0f32; HIST_BINS];
-    let mut smooth = [0.0f32; HIST_BINS];
-    histogram(grad_angles, grad_weights, &mut hist);
-    smooth_bins(&hist, &mut smooth);
+    let hist = histogram(grad_angles, grad_weights);
+    let smooth = smooth_bins(&hist);
     let picked = histogram_peaks(&smooth);
     let first = around(picked, base0);
     let second = around(first, base1);
@@ -290,6 +286,7 @@ fn nearer(best: Nearby, c: usize, d: f32) -> Nearby
     best
 }
 
+// By place: the answer is one.
 fn nearest(candidates: CandidateSet, target_w: f32) -> Nearby
     requires { candidates.n ≤ C.max_candidates }
     ensures { (result.best_i ≤ candidates.n) × (result ≡ C.nearest candidates.angles target_w candidates.n) }
@@ -370,7 +367,7 @@ fn raised_tops(edge_align: &[f32], c: usize, t: Tops) -> Tops
     t
 }
 
-// The pair of the two greatest edge sums.
+// The pair of the two greatest edge sums. By place: the answer is two.
 pub fn forced_histogram_pair(candidates: CandidateSet, edge_align: &[f32]) -> Forced
     requires { candidates.n ≤ length edge_align.now }
     ensures { result ≡ C.forced_histogram_pair candidates edge_align.now }

@@ -70,7 +70,7 @@ pub struct Moments {
     pub see: f64,
 }
 
-// The model's factor of each pixel for an axis at theta.
+// The model's factor of each pixel for an axis at theta. By place: two rows are read and the third written in step.
 pub fn axis_row(xs: &[f32], ys: &[f32], theta: f32, width: f32, row: &mut [f32])
     requires { (length ys.now ≡ length xs.now) × (length row.old ≡ length xs.now) }
     ensures { row.new ≡ S.axis_row (length xs.now) xs.now ys.now theta width }
@@ -81,6 +81,7 @@ pub fn axis_row(xs: &[f32], ys: &[f32], theta: f32, width: f32, row: &mut [f32])
     }
 }
 
+// By place: three rows are read in step.
 fn cached_sums(vals_centered: &[f32], h0: &[f32], h1: &[f32]) -> Sums
     requires { (length h0.now ≡ length vals_centered.now) × (length h1.now ≡ length vals_centered.now) }
     ensures { result
@@ -247,6 +248,7 @@ fn gathered(t: Slopes, m: Moments) -> Moments
     }
 }
 
+// By place: three rows are read in step.
 fn moments_of(d: Disk, fit: Fit) -> Moments
     ensures { result ≡ S.moments_of (length d.entry.xs.now) d.entry.xs.now d.entry.ys.now d.entry.vals_centered.now fit }
 {

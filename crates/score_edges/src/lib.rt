@@ -106,6 +106,7 @@ fn all_near(grad_angles: &[f32], theta: f32) -> bool
     count == 0
 }
 
+// The terms of the gradients, where every difference can be found without `%`. By place: two rows are read and the third written in step.
 fn near_terms<G: Gaussian>(grad_angles: &[f32], grad_weights: &[f32], theta: f32, terms: &mut [f32])
     requires { (length grad_weights.now ≡ length grad_angles.now) × (length terms.old ≡ length grad_angles.now) }
     ensures { terms.new ≡ N.near_terms G.term (length grad_angles.now) grad_angles.now grad_weights.now theta }
@@ -116,6 +117,7 @@ fn near_terms<G: Gaussian>(grad_angles: &[f32], grad_weights: &[f32], theta: f32
     }
 }
 
+// The same of any differences.
 fn far_terms<G: Gaussian>(grad_angles: &[f32], grad_weights: &[f32], theta: f32, terms: &mut [f32])
     requires { (length grad_weights.now ≡ length grad_angles.now) × (length terms.old ≡ length grad_angles.now) }
     ensures { terms.new ≡ N.far_terms G.term (length grad_angles.now) grad_angles.now grad_weights.now theta }

@@ -179,27 +179,18 @@ fn try_width(
     pass.leaders
 }
 
-// Step 5: all widths, the widths outermost; `cache` is lent as scratch.
-fn try_widths(d: Disk, candidates: CandidateSet, ranked: Ranked, cache: &mut [f32]) -> Leaders
-    requires { K.Listed ranked × (length cache.old ≡ K.cache_room) }
-    ensures { (result.trials ≡ 4 * ranked.n)
-        × (result ≡ S.tried_all (the_disk d.entry) candidates (take ranked.n ranked.pairs)) }
-{
-    let mut leaders = Leaders::default();
-    for width in score::WIDTHS_PX {
-        leaders = try_width(d, leaders, candidates, ranked, width, cache);
-    }
-    leaders
-}
-
-// Step 5, with the cache on this call's stack.
+// Step 5: all widths, the widths outermost.
 fn try_all(d: Disk, candidates: CandidateSet, ranked: Ranked) -> Leaders
     requires { K.Listed ranked }
     ensures { (result.trials ≡ 4 * ranked.n)
         × (result ≡ S.tried_all (the_disk d.entry) candidates (take ranked.n ranked.pairs)) }
 {
     let mut cache = [0.0f32; CACHE];
-    try_widths(d, candidates, ranked, &mut cache)
+    let mut leaders = Leaders::default();
+    for width in score::WIDTHS_PX {
+        leaders = try_width(d, leaders, candidates, ranked, width, &mut cache);
+    }
+    leaders
 }
 
 // Step 6: a leader refined, and the better of it and what was found so far.

@@ -41,7 +41,7 @@ fn unranked() -> Ranked
     Ranked { n: 0, pairs }
 }
 
-// Each pair goes down the ranking so far; the one that falls off the last place is dropped.
+// Each pair goes down the ranking so far; the one that falls off the last place is dropped. By place: the ranking is written in step.
 pub fn rank(pool: Pool) -> Ranked
     requires { pool.n ≤ max_pairs }
     ensures { result ≡ R.rank pool }

@@ -1,6 +1,6 @@
 -- What a slot's key says stays true while other slots are filled: a row that is lent out of the buffer comes back in its place, and the
 -- others are as they were. Above 0 equal numbers are one value, so that a key tells its row. Assumes nothing.
-use Rattle.std.specs.Prelude.{◌≡◌, refl, ◌⊎◌, Bool, true, false, List, [], ℕ, zero, suc, ◌*◌, ◌+◌, ◌<◌, ◌≤◌, T, eqb, length, get_or, replicate, Float}
+use Rattle.std.specs.Prelude.{◌≡◌, refl, ◌⊎◌, Bool, true, false, List, [], ℕ, zero, suc, ◌*◌, ◌+◌, ◌<◌, ◌≤◌, T, eqb, length, get_or, replicate, cond, Float}
 use Rattle.std.proofs.Common.{sym, ap, ◌∙◌, inl, inr, arith, below_none, below_more, ltb→lt, eqb→eq, get_or-set_same, get_or-set_other, ext_get_or}
 use Rattle.std.proofs.Math.Path.{subst}
 use Rattle.std.proofs.lemmas.Bool.{false≢true}
@@ -22,7 +22,8 @@ use Rattle.score_edges.specs.Edges.{refined_sum}
 use Rattle.score.specs.Score.{axis_row}
 use Rattle.search_rows.specs.declared.Slot.{Slot}
 use Rattle.search_rows.specs.declared.Slots.{Slots}
-use Rattle.search_rows.specs.Rows.{AxisRows, build_axis_rows, rows_of, rows_room, RowFilled, no_slot, beyond, key_at, is_same, held_slots, held_rows, no_slots}
+use Rattle.search_rows.specs.Rows.{AxisRows, build_axis_rows, rows_of, rows_room, RowFilled, no_slot, beyond, key_at, is_same, slot_of, held_slots, held_rows}
+use Rattle.search_rows.specs.Rows.{no_slots}
 use Rattle.search_rows.specs.Rows.{Stands, SlotsKept, SlotHeld}
 
 -- ---- above 0 equal numbers are one value
@@ -232,3 +233,30 @@ module _ {D : DiskData} {theta width : Float} {slots : Slots} {rows : Row} where
             subst (λ (t : Float). Stands D t width new rows' j) (sym k)
             (still j _ l o (h.slot j l (subst (λ (t : Float). lt nought t ≡ true) k g)))
       ]
+
+-- ---- the slot of an axis: the first of the three that has theta, or else the one to fill
+module _ (slots : Slots) (from : ℕ) (base theta : Float) (k : ℕ) where
+  abbrev Unlike : ℕ → Type 0
+  Unlike q = (j : ℕ) → from ≤ j → j < q → is_same (key_at slots j) theta ≡ false
+
+  pub unlike_next : (q : ℕ) → Unlike q → is_same (key_at slots q) theta ≡ false → Unlike (q + 1)
+  unlike_next q u e j l h = elim (same_or_not j q) [
+    | inl i ↦ subst (λ (x : ℕ). is_same (key_at slots x) theta ≡ false) (sym i) e
+    | inr o ↦ u j l (omega arith)
+  ]
+
+  pub slot_found : (q : ℕ) → from ≤ q → q < from + 3 → Unlike q → is_same (key_at slots q) theta ≡ true → q ≡ slot_of slots from base theta k
+  unfolding slot_of
+  slot_found q l h u e = elim (same_or_not q from) [
+    | inl i ↦ rw (← i, e)
+    | inr o ↦ elim (same_or_not q (from + 1)) [
+      | inl i ↦ rw (u from (omega arith) (omega arith), ← i, e)
+      | inr p ↦
+          let i : q ≡ from + 2 = omega arith in
+          rw (u from (omega arith) (omega arith), u (from + 1) (omega arith) (omega arith), ← i, e)
+    ]
+  ]
+
+  pub slot_filled : Unlike (from + 3) → slot_of slots from base theta k ≡ cond (eq (key_at slots (from + k)) base) (from + 1) (from + k)
+  unfolding slot_of
+  slot_filled u = rw (u from (omega arith) (omega arith), u (from + 1) (omega arith) (omega arith), u (from + 2) (omega arith) (omega arith))

@@ -96,20 +96,14 @@ pub fn slot_of(slots: Slots, from: usize, base: f32, theta: f32, k: usize) -> us
     requires { (from ≤ 3) × (k < 3) }
     ensures { (result ≡ R.slot_of slots from base theta k) × (from ≤ result) × (result < from + 3) }
 {
-    let middle = from + 1;
-    let last = from + 2;
-    if is_same(slots.held[from].key, theta) {
-        return from;
-    }
-    if is_same(slots.held[middle].key, theta) {
-        return middle;
-    }
-    if is_same(slots.held[last].key, theta) {
-        return last;
+    for q in from..from + 3 {
+        if is_same(slots.held[q].key, theta) {
+            return q;
+        }
     }
     let q = from + k;
     if slots.held[q].key == base {
-        return middle;
+        return from + 1;
     }
     q
 }

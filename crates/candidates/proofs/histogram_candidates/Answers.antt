@@ -9,5 +9,5 @@ returns c =
     let first = c.around-first.ensures.1 in
     let second = c.around-second.ensures.1 in (
       omega arith,
-      rw (← c.histogram.ensures.1, ← c.smooth_bins.ensures.1, ← c.histogram_peaks-picked.ensures.1, ← first, ← second) c.coarse.ensures.1,
+      rw (← c.histogram-hist.ensures, ← c.smooth_bins-smooth.ensures, ← c.histogram_peaks-picked.ensures.1, ← first, ← second) c.coarse.ensures.1,
     )

@@ -21,4 +21,4 @@ unfolding C.smoothed
 returns c =
     let s = c.loop-i.invariant.1 in
     let h : c.loop-i.i ≡ hist_bins = omega arith in
-    (omega (arith, s.len), stores_all _ _ _ nan _ (rw h at s) (search rules))
+    stores_all _ _ _ nan _ (rw h at s) (search rules)

@@ -1,37 +1,36 @@
--- Each test of the code is that of the definition, in the same order; the three slots of an axis start at `from`. Assumes nothing.
-use mathlib.Core.Path.{sym, ◌∙◌}
+-- The first slot that has theta, or else the one to fill, as in the definition. Assumes nothing.
+use mathlib.Core.Path.{◌≡◌, ◌∙◌, sym}
+use Prim.Native.Nat.{◌+◌}
+use native.Mathlib.Omega.{arith}
+use Rattle.search_rows.specs.RowsLaws.{unlike_next, slot_found, slot_filled}
 use borrow.Author.Rules.{rules}
-use Rattle.search_rows.specs.Rows.{slot_of}
 use Rattle.search_rows.proofs.slot_of.Goals as goal
 
+pub loop-q-init : goal.loop-q-init
+loop-q-init c = λ j l h. absurd (let no : ⊥ = omega arith in no)
+
 pub returns-then-is_same : goal.returns-then-is_same
-unfolding slot_of
-returns-then-is_same c = (rw (sym c.is_same.ensures.0 ∙ c.if-is_same.true), search rules, search rules)
+returns-then-is_same c =
+    let a = c.args in
+    let q = c.loop-q in
+    let same = sym c.is_same.ensures.0 ∙ c.if-is_same.true in
+    (slot_found a.slots a.from a.base a.theta a.k q.q (search rules) (search rules) q.invariant same, search rules, search rules)
 
-pub returns-then-is_same-2 : goal.returns-then-is_same-2
-unfolding slot_of
-returns-then-is_same-2 c =
-    (rw (sym c.is_same.ensures.0 ∙ c.if-is_same.false, sym c.is_same-2.ensures.0 ∙ c.if-is_same-2.true), search rules, search rules)
-
-pub returns-then-is_same-3 : goal.returns-then-is_same-3
-unfolding slot_of
-returns-then-is_same-3 c =
-    let first = sym c.is_same.ensures.0 ∙ c.if-is_same.false in
-    let second = sym c.is_same-2.ensures.0 ∙ c.if-is_same-2.false in
-    (rw (first, second, sym c.is_same-3.ensures.0 ∙ c.if-is_same-3.true), search rules, search rules)
+pub loop-q-preserved : goal.loop-q-preserved
+loop-q-preserved c =
+    let a = c.args in
+    unlike_next a.slots a.from a.base a.theta a.k _ c.loop-q.invariant (sym c.is_same.ensures.0 ∙ c.if-is_same.false)
 
 pub returns-then-slots-q : goal.returns-then-slots-q
-unfolding slot_of
 returns-then-slots-q c =
-    let first = sym c.is_same.ensures.0 ∙ c.if-is_same.false in
-    let second = sym c.is_same-2.ensures.0 ∙ c.if-is_same-2.false in
-    let third = sym c.is_same-3.ensures.0 ∙ c.if-is_same-3.false in
-    (rw (first, second, third, c.if-slots-q.true), search rules, search rules)
+    let a = c.args in
+    let h : c.loop-q.q ≡ a.from + 3 = search rules in
+    let e = slot_filled a.slots a.from a.base a.theta a.k (rw h at c.loop-q.invariant) in
+    (rw (e, c.if-slots-q.true), search rules, search rules)
 
 pub returns : goal.returns
-unfolding slot_of
 returns c =
-    let first = sym c.is_same.ensures.0 ∙ c.if-is_same.false in
-    let second = sym c.is_same-2.ensures.0 ∙ c.if-is_same-2.false in
-    let third = sym c.is_same-3.ensures.0 ∙ c.if-is_same-3.false in
-    (rw (first, second, third, c.if-slots-q.false), search rules, search rules)
+    let a = c.args in
+    let h : c.loop-q.q ≡ a.from + 3 = search rules in
+    let e = slot_filled a.slots a.from a.base a.theta a.k (rw h at c.loop-q.invariant) in
+    (rw (e, c.if-slots-q.false), search rules, search rules)

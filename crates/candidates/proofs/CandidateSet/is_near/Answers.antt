@@ -22,9 +22,13 @@ returns-then-line_delta-min_sep c =
 pub loop-kept-preserved : goal.loop-kept-preserved
 loop-kept-preserved c =
     let a = c.args.self in
-    let i : c.loop-kept.kept-index < a.n = search rules in
-    (search rules, near_not _ _ _ _ c.loop-kept.invariant.1 (rw (c.line_delta.ensures.value,
-        get_or-take a.n a.angles _ nan i) at c.if-line_delta-min_sep.false))
+    let i : c.loop-kept.kept-index < a.n = search rules in (
+      search rules,
+      near_not _ _ _ _ c.loop-kept.invariant.1 (rw (
+        c.line_delta.ensures.value,
+        get_or-take a.n a.angles _ nan i,
+      ) at c.if-line_delta-min_sep.false),
+    )
 
 pub returns : goal.returns
 returns c = let h : c.loop-kept.kept-index ≡ c.args.self.n = search rules in rw h at (sym c.loop-kept.invariant.1)

@@ -5,7 +5,7 @@ use Rattle.loops.specs.Loops.{iter}
 use Rattle.loops.proofs.IterLaws.{iter_zero, iter_more}
 use Rattle.search.specs.Search as S
 use borrow.Author.Rules.{rules}
-use Rattle.search.proofs.try_widths.Goals as goal
+use Rattle.search.proofs.try_all.Goals as goal
 
 pub loop-width-init : goal.loop-width-init
 loop-width-init c =
@@ -17,7 +17,7 @@ loop-width-init c =
 pub try_width-leaders-requires : goal.try_width-leaders-requires
 try_width-leaders-requires c =
     let i = c.loop-width.invariant in
-    (omega (arith, i.2), c.requires.0, i.1)
+    (omega (arith, i.2), c.requires, i.1)
 
 pub loop-width-preserved : goal.loop-width-preserved
 loop-width-preserved c =
@@ -25,7 +25,7 @@ loop-width-preserved c =
     let i = c.loop-width.invariant in (
       search rules,
       t.0,
-      omega (arith, t.1, i.2, c.requires.0.most),
+      omega (arith, t.1, i.2, c.requires.most),
       iter_more _ _ _ _ _ i.3 t.1,
       iter_more _ _ _ _ _ i.4 t.2,
     )

@@ -8,7 +8,7 @@ use Rattle.data.specs.Disk.{the_disk}
 use Rattle.score.specs.Score.{widths_px}
 use Rattle.search.specs.Search as S
 use Rattle.search.specs.Cache.{cache_room}
-use Rattle.search.proofs.try_widths.Given as goal
+use Rattle.search.proofs.try_all.Given as goal
 
 abbrev pub invariant-loop-width : goal.invariant-loop-width
 invariant-loop-width l = let ps = take l.ranked.n l.ranked.pairs in
