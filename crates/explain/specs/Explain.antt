@@ -1,5 +1,5 @@
 -- What explain does with its input, turn by turn: all that it says but what stands in its sentences' blanks. Definitions only.
-use Rattle.std.specs.Prelude.{◌≡◌, ℕ, ◌+◌, ◌%◌, ◌^◌, true, List}
+use Rattle.std.specs.Prelude.{◌≡◌, ℕ, ◌+◌, ◌%◌, ◌^◌, List}
 use Rattle.lines.specs.declared.Found.{Found}
 use Rattle.lines.specs.declared.Found.TheVariants.{Line, More, Done}
 use Rattle.lines.specs.Lines.{found_of}
@@ -58,7 +58,7 @@ pub record Block (x : Explaining) (b c : List ℕ) (y : Explaining) : Type 0 whe
 pub record End (x : Explaining) (l m : List ℕ) (y : Explaining) : Type 0 where
   pub words : List (List ℕ)
   pub said : State
-  pub text : Answered text_room x.state x.state.feed.from (telling words (alone_rows true x.above)) l m said
+  pub text : Answered text_room x.state x.state.feed.from (telling words (alone_rows x.above)) l m said
   pub state : y.state ≡ closed said
   pub above : y.above ≡ x.above
   pub counted : y.lines ≡ x.lines

@@ -36,9 +36,13 @@ fn line_told(page: &mut Page, number: u64, line: &[u8], sort: Sort, a: Above)
     requires { SortSound (length line.now) sort × (page.old.at + 60000 ≤ length page.old.text.now) }
     ensures { (page.new.at ≤ page.old.at + 60000) × E.Explained line.now sort a page.old page.new }
 {
-    explain_sentences::alone_told(page, explain_sorts::is_alone(sort), a);
+    if explain_sorts::is_alone(sort) {
+        explain_sentences::alone_told(page, a);
+    }
     body_told(page, number, line, sort, a);
-    explain_sentences::mismatch_told(page, explain_sorts::is_strange(sort, a), a);
+    if explain_sorts::is_strange(sort, a) {
+        explain_sentences::mismatch_told(page, a);
+    }
 }
 
 // How far the program is, the line above the next one, and how many lines there were.
@@ -84,7 +88,7 @@ fn last_turn<W: Write>(writer: &mut W, text: &mut [u8], x: Explaining) -> Explai
     let s = x.state;
     let at = s.room(writer, text, ROOM);
     let mut page = Page { text, at };
-    explain_sentences::alone_told(&mut page, true, x.above);
+    explain_sentences::alone_told(&mut page, x.above);
     let said = s.answered(s.feed.from, page.at);
     let state = said.finish(writer, text);
     Explaining { state, ..x }

@@ -48,11 +48,11 @@ kind_above (Aboves.Asked f) = Some (kind_asked f.asks)
 kind_above _ = None
 
 -- ---- a frame that no answer follows
-unfoldable pub alone_rows : Bool → Above → List (Bool × String)
-alone_rows alone a =
-    (alone && of_ring Sixteen (kind_above a), "line {a}: ring frame without an answer: run it through fitlines\n")
-    ∷ (alone && of_ring TwentyFour (kind_above a), "line {a}: 24-point ring frame without an answer: run it through fitlines\n")
-    ∷ (alone && of_disk (kind_above a), "line {a}: disk frame of {b} pixel{c} without an answer: run it through fitlines\n")
+unfoldable pub alone_rows : Above → List (Bool × String)
+alone_rows a =
+    (of_ring Sixteen (kind_above a), "line {a}: ring frame without an answer: run it through fitlines\n")
+    ∷ (of_ring TwentyFour (kind_above a), "line {a}: 24-point ring frame without an answer: run it through fitlines\n")
+    ∷ (of_disk (kind_above a), "line {a}: disk frame of {b} pixel{c} without an answer: run it through fitlines\n")
     ∷ []
 
 -- ---- an answer that is not that of the frame above it, which is due a refusal, or a fit: its values are finite
@@ -69,14 +69,12 @@ abbrev pub is_clean : Above → Bool
 is_clean (Aboves.Asked f) = is_fit_due f.due
 is_clean _ = false
 
-unfoldable pub mismatch_rows : Bool → Above → List (Bool × String)
-mismatch_rows strange a =
-    (strange && is_refused a, "  warning: this does not answer line {a}: its frame is refused, {b}\n")
-    ∷ (strange && (is_clean a && of_ring Sixteen (kind_above a)), "  warning: this does not answer line {a}: a ring frame of finite values has a ring fit\n")
-    ∷ (strange && (is_clean a && of_ring TwentyFour (kind_above a)),
-      "  warning: this does not answer line {a}: a 24-point ring frame of finite values has a 24-point ring fit\n")
-    ∷ (strange && (is_clean a && of_disk (kind_above a)),
-      "  warning: this does not answer line {a}: a disk frame of finite values has a disk fit, or refusal 4\n")
+unfoldable pub mismatch_rows : Above → List (Bool × String)
+mismatch_rows a =
+    (is_refused a, "  warning: this does not answer line {a}: its frame is refused, {b}\n")
+    ∷ (is_clean a && of_ring Sixteen (kind_above a), "  warning: this does not answer line {a}: a ring frame of finite values has a ring fit\n")
+    ∷ (is_clean a && of_ring TwentyFour (kind_above a), "  warning: this does not answer line {a}: a 24-point ring frame of finite values has a 24-point ring fit\n")
+    ∷ (is_clean a && of_disk (kind_above a), "  warning: this does not answer line {a}: a disk frame of finite values has a disk fit, or refusal 4\n")
     ∷ []
 
 -- ---- a fit, of its answer's kind
@@ -333,5 +331,9 @@ body_of ws l (Fit kind) a = fit_text ws kind (reading_of l kind)
 body_of ws l (Refused r) a = telling ws (refused_rows r a)
 body_of ws l (Bad w) a = telling ws (line_rows w l)
 
+-- sentences that are told where it is so
+abbrev pub telling_if : Bool → List (List ℕ) → List (Bool × String) → List ℕ
+telling_if on ws rows = cond on (telling ws rows) []
+
 abbrev pub explained : List (List ℕ) → List (List ℕ) → List (List ℕ) → List ℕ → Sort → Above → List ℕ
-explained us vs ws l s a = telling us (alone_rows (is_alone s) a) ++ (body_of vs l s a ++ telling ws (mismatch_rows (is_strange s a) a))
+explained us vs ws l s a = telling_if (is_alone s) us (alone_rows a) ++ (body_of vs l s a ++ telling_if (is_strange s a) ws (mismatch_rows a))

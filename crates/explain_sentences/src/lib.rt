@@ -98,15 +98,15 @@ fn pixels_above(a: Above) -> u32 {
 }
 
 // A frame that no answer follows. A bar ends a sentence, here and in all that follow.
-pub fn alone_told(page: &mut Page, alone: bool, a: Above)
+pub fn alone_told(page: &mut Page, a: Above)
     requires { page.old.at + 5280 ≤ length page.old.text.now }
-    ensures { (page.new.at ≤ page.old.at + 5280) × Told (S.alone_rows alone a) page.old page.new }
+    ensures { (page.new.at ≤ page.old.at + 5280) × Told (S.alone_rows a) page.old page.new }
 {
     let kind = kind_above(a);
     let flags = [
-        alone & of_ring(kind, RingKind::Sixteen),
-        alone & of_ring(kind, RingKind::TwentyFour),
-        alone & of_disk(kind),
+        of_ring(kind, RingKind::Sixteen),
+        of_ring(kind, RingKind::TwentyFour),
+        of_disk(kind),
     ];
     let n = u64::from(pixels_above(a));
     let words = [line_above(a), number(n), plural(n)];
@@ -143,17 +143,17 @@ fn due(a: Above) -> Word {
 }
 
 // An answer that is not that of the frame above it.
-pub fn mismatch_told(page: &mut Page, strange: bool, a: Above)
+pub fn mismatch_told(page: &mut Page, a: Above)
     requires { page.old.at + 8760 ≤ length page.old.text.now }
-    ensures { (page.new.at ≤ page.old.at + 8760) × Told (S.mismatch_rows strange a) page.old page.new }
+    ensures { (page.new.at ≤ page.old.at + 8760) × Told (S.mismatch_rows a) page.old page.new }
 {
     let kind = kind_above(a);
     let clean = is_clean(a);
     let flags = [
-        strange & is_refused(a),
-        strange & (clean & of_ring(kind, RingKind::Sixteen)),
-        strange & (clean & of_ring(kind, RingKind::TwentyFour)),
-        strange & (clean & of_disk(kind)),
+        is_refused(a),
+        clean & of_ring(kind, RingKind::Sixteen),
+        clean & of_ring(kind, RingKind::TwentyFour),
+        clean & of_disk(kind),
     ];
     let words = [line_above(a), due(a)];
     page.tell(

@@ -8,6 +8,8 @@ use Rattle.explain_sentences.proofs.alone_told.Goals as goal
 
 pub returns : goal.returns
 unfolding S.alone_rows flags_of barred bytes codes all_barless barless
-returns c =
-    (omega (arith, c.tell.ensures.fits), rows_told (S.alone_rows c.args.alone c.args.a) _ c.tell.ensures.said
-    (rw (c.of_ring.ensures, c.of_ring-2.ensures, c.of_disk.ensures, c.kind_above-kind.ensures)) refl)
+returns c = (
+  omega (arith, c.tell.ensures.fits),
+  rows_told (S.alone_rows c.args.a) _ c.tell.ensures.said
+      (rw (c.of_ring.ensures, c.of_ring-2.ensures, c.of_disk.ensures, c.kind_above-kind.ensures)) refl,
+)

@@ -8,6 +8,8 @@ use Rattle.explain_sentences.proofs.mismatch_told.Goals as goal
 
 pub returns : goal.returns
 unfolding S.mismatch_rows flags_of barred bytes codes all_barless barless
-returns c =
-    (omega (arith, c.tell.ensures.fits), rows_told (S.mismatch_rows c.args.strange c.args.a) _ c.tell.ensures.said
-    (rw (c.is_refused.ensures, c.is_clean-clean.ensures, c.of_ring.ensures, c.of_ring-2.ensures, c.of_disk.ensures, c.kind_above-kind.ensures)) refl)
+returns c = (
+  omega (arith, c.tell.ensures.fits),
+  rows_told (S.mismatch_rows c.args.a) _ c.tell.ensures.said
+      (rw (c.is_refused.ensures, c.is_clean-clean.ensures, c.of_ring.ensures, c.of_ring-2.ensures, c.of_disk.ensures, c.kind_above-kind.ensures)) refl,
+)
