@@ -8,6 +8,7 @@ ghost use Rattle.std.specs.Prelude.{◌^◌, ◌<◌};
 
 use robust_choice::RingFit;
 use seed::SeedCandidate;
+use solver::Sample;
 use solver_record::{Params, Started, TwoAxisFit};
 
 // ---- what crosses to C, under the names of tests/funclines.h; `some` is false where there is nothing
@@ -307,14 +308,16 @@ pub extern "C" fn fl_fit_with_seed(
         theta1: seed[0],
         theta2: seed[1],
     };
+    let mut turned = [0.0f32; 16];
     let mut sphi = [0.0f32; 16];
     let mut cphi = [0.0f32; 16];
-    let mut js = [0.0f32; 64];
+    let mut js = [Sample::NONE; 16];
     start_of(solver::fit_with_seed(
         samples,
         ring_phi,
         p,
         centered_var,
+        &mut turned,
         &mut sphi,
         &mut cphi,
         &mut js,
@@ -391,12 +394,12 @@ fn ring_of(r: RingFit) -> Ring {
 
 #[unsafe(no_mangle)]
 pub extern "C" fn fl_fit_ring(samples: &[f32; 16], ring_phi: &[f32; 16]) -> Ring {
-    ring_of(robust::fit_ring(samples, ring_phi))
+    ring_of(robust::fit_ring::<16>(samples, ring_phi))
 }
 
 #[unsafe(no_mangle)]
 pub extern "C" fn fl_fit_ring24(samples: &[f32; 24], ring_phi: &[f32; 24]) -> Ring {
-    ring_of(robust::fit_ring24(samples, ring_phi))
+    ring_of(robust::fit_ring::<24>(samples, ring_phi))
 }
 
 #[unsafe(no_mangle)]
@@ -434,20 +437,7 @@ pub extern "C" fn fl_robust_grid_fit(
     mean: f32,
     centered_var: f32,
 ) -> Start {
-    let mut sphi = [0.0f32; 16];
-    let mut cphi = [0.0f32; 16];
-    let mut js = [0.0f32; 64];
-    let mut h = [0.0f32; 386];
-    second_of(robust::robust_grid_fit(
-        samples,
-        ring_phi,
-        mean,
-        centered_var,
-        &mut sphi,
-        &mut cphi,
-        &mut js,
-        &mut h,
-    ))
+    second_of(robust::robust_grid_fit::<16>(samples, ring_phi, mean, centered_var))
 }
 
 #[unsafe(no_mangle)]
@@ -457,16 +447,5 @@ pub extern "C" fn fl_refine_seed_candidates(
     centered_var: f32,
     top: Seed5,
 ) -> Start {
-    let mut sphi = [0.0f32; 16];
-    let mut cphi = [0.0f32; 16];
-    let mut js = [0.0f32; 64];
-    second_of(robust::refine_seed_candidates(
-        samples,
-        ring_phi,
-        centered_var,
-        top_of(top),
-        &mut sphi,
-        &mut cphi,
-        &mut js,
-    ))
+    second_of(robust::refine_seed_candidates::<16>(samples, ring_phi, centered_var, top_of(top)))
 }

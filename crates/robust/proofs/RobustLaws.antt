@@ -1,8 +1,8 @@
 -- What the code's own steps come to: constants as they are derived, a refused start that is never suspicious, the starts of a seed and of the grid, and the
 -- whole fit. Assumes nothing.
-use Rattle.std.specs.Prelude.{◌≡◌, Bool, cond, not, ◌||◌, List, [], ◌++◌, ℕ, ◌+◌, ◌-◌, ◌*◌, ◌≤◌, ◌<◌, length, take, drop, Option, Some, None, Float}
+use Rattle.std.specs.Prelude.{◌≡◌, Bool, cond, not, ◌||◌, List, [], ℕ, ◌<◌, length, Option, Some, None, Float}
 use Rattle.std.proofs.Math.Path.{refl, sym, ap}
-use Rattle.std.proofs.Common.{◌∙◌, subst, zero-le, arith}
+use Rattle.std.proofs.Common.{◌∙◌, subst}
 use Rattle.std.proofs.Math.Bool.{true, false}
 use Rattle.std.proofs.lemmas.Bool.{false≢true}
 use Rattle.std.specs.Float.Ieee.{lt, mul, of_bits}
@@ -10,21 +10,18 @@ use Rattle.std.specs.Float.Ieee.Scale.{finite}
 use Rattle.floats.specs.Ops.{lit}
 use Rattle.floats.specs.Rows.{Row}
 use Rattle.floats.specs.Library.{to_radians}
-use Rattle.loops.proofs.TabLaws.{tab_length, tab_at, part_same}
+use Rattle.loops.proofs.TabLaws.{tab_length, tab_at}
 use Rattle.solver_record.specs.Fit.{degenerate, degenerate_fit}
 use Rattle.solver_record.specs.Record.{without_mean, degenerate_record, refused}
 use Rattle.solver.specs.Solver.{sines, cosines, updates}
 use Rattle.solver.specs.Record.{start_from, record_with_seed}
-use Rattle.solver.specs.Buffers.{Prepared, PassRoom, max_samples}
-use Rattle.robust_lanes.specs.Lanes.{grid_places}
-use Rattle.solver.proofs.SolverLaws.{prepared_length, whole_prepared}
+use Rattle.solver.specs.Buffers.{Prepared}
+use Rattle.solver.proofs.SolverLaws.{whole_prepared}
 use Rattle.solver_record.specs.declared.Params.{Params}
 use Rattle.solver_record.specs.declared.Started.{Started}
 use Rattle.seed.specs.Seed.{flat, second_harmonic}
 use Rattle.seed.specs.declared.SeedCandidate.{SeedCandidate}
-use Rattle.robust_grid.specs.Grid.{best_of, best_seed}
-use Rattle.robust_grid.specs.Places.{Grid, score_at}
-use Rattle.robust_grid.specs.PlaceLaws.{grid_best}
+use Rattle.robust_grid.specs.Grid.{best_seed}
 use Rattle.seed_models.specs.Models.{Table, table_at, best_cached, first_from, first_table}
 use Rattle.seed_models.specs.Words.{ring_samples, held_in, table_part, table_in, tables_in}
 use Rattle.robust.specs.declared.First.{First}
@@ -35,7 +32,7 @@ use Rattle.robust.proofs.RecordLaws.{start_is}
 use Rattle.robust_choice.specs.Choice.{Start}
 use Rattle.robust_choice.specs.Parts.{started_of, second_of, alone_of, chosen_of}
 use Rattle.robust_choice.specs.ChoiceLaws.{alone_is, chosen_is}
-use Rattle.robust.specs.Parts.{Ready, Rows, first_of, no_grid, CenteredIn, cached_seed, direct_seed}
+use Rattle.robust.specs.Parts.{first_of, no_grid, CenteredIn, cached_seed, direct_seed}
 
 -- ---- the literals of the code
 pub min_rad_is : R.robust_sep_trigger_min_rad ≡ lit 0x3f91_361e
@@ -61,20 +58,6 @@ unfolding degenerate_record
 refused_calm s centered_var mean e t =
     absurd (false≢true (sym (degenerate_calm centered_var) ∙ sym (ap (λ (x : Started). R.fit_is_suspicious (without_mean x.fit)) e) ∙ t))
 
--- ---- the buffers of a start are those of the solver
-pub ready_room : {samples ring_phi sphi cphi js : Row} → Ready samples ring_phi sphi cphi js → PassRoom samples sphi cphi js
-ready_room {samples} {ring_phi} {sphi} {cphi} r =
-    let l = prepared_length ring_phi sphi cphi r.sines in
-    let few = r.few in
-    record { few = omega arith; s = l.0 ∙ r.phi; c = l.1 ∙ r.phi; j = r.j }
-
-pub ready_rows : {samples ring_phi sphi cphi js h : Row} → Ready samples ring_phi sphi cphi js → Rows samples h
-    → (length cphi ≡ length sphi) × (length sphi ≤ max_samples) × (length h ≡ grid_places * length sphi + 2)
-ready_rows {samples} {ring_phi} {sphi} {cphi} r w =
-    let l = prepared_length ring_phi sphi cphi r.sines in
-    let n : length sphi ≡ length samples = l.0 ∙ r.phi in
-    (l.1 ∙ sym l.0, omega (arith, n, r.few), w.places ∙ ap (λ (k : ℕ). grid_places * k + 2) (sym n))
-
 -- ---- a start, where it is refused and where the sines and cosines are at hand
 module _ (n : ℕ) (samples ring_phi : Row) (seed : Params) (centered_var : Float) where
   pub start_refused : {b : Bool} {s : Started} → b ≡ degenerate seed.amp centered_var → b ≡ true → s ≡ refused centered_var seed.mu
@@ -99,13 +82,6 @@ module _ (n : ℕ) (samples ring_phi : Row) (centered_var : Float) (top : Option
   refined_made s f e h = rw e (ap Some (h ∙ start_is n samples ring_phi (R.seeded s) centered_var))
 
 -- ---- the grid's start: refused by the variance or the sum of squares, or made
--- the centred samples stand at the front of js
-pub centered_part : (n : ℕ) (samples : Row) (mean : Float) (js row x : Row) → row ≡ R.centered_of n samples mean
-    → take (n - 0) (drop 0 (take 0 js ++ (row ++ x))) ≡ R.centered_of n samples mean
-centered_part n samples mean js row x e =
-    let l : n ≡ n - 0 = omega arith in
-    part_same js row x 0 (n - 0) zero-le (ap length e ∙ tab_length _ n ∙ l) ∙ e
-
 -- the two tests that leave the grid
 pub low_none : (n : ℕ) (samples : Row) (mean centered_var : Float) → lt centered_var (lit 0x3586_37bd) ≡ true → no_grid n samples mean centered_var ≡ true
 low_none n samples mean centered_var e = rw e
@@ -126,12 +102,12 @@ module _ (n : ℕ) (samples : Row) (mean centered_var : Float) (centered : Row) 
   some_grid el eb et = rw (← sum_is, el, ← eb, et)
 
 -- what was told of them, where the case is known
-module _ (n : ℕ) (samples : Row) (mean centered_var : Float) (js : Row) (r : Option Float) where
-  pub none_centered : r ≡ None → CenteredIn n samples mean centered_var js r → no_grid n samples mean centered_var ≡ true
-  none_centered e h = subst (CenteredIn n samples mean centered_var js) e h
+module _ (n : ℕ) (samples : Row) (mean centered_var : Float) (centered : Row) (r : Option Float) where
+  pub none_centered : r ≡ None → CenteredIn n samples mean centered_var centered r → no_grid n samples mean centered_var ≡ true
+  none_centered e h = subst (CenteredIn n samples mean centered_var centered) e h
 
-  pub sum_centered : (s : Float) → r ≡ Some s → CenteredIn n samples mean centered_var js r → CenteredIn n samples mean centered_var js (Some s)
-  sum_centered s e h = subst (CenteredIn n samples mean centered_var js) e h
+  pub sum_centered : (s : Float) → r ≡ Some s → CenteredIn n samples mean centered_var centered r → CenteredIn n samples mean centered_var centered (Some s)
+  sum_centered s e h = subst (CenteredIn n samples mean centered_var centered) e h
 
 module _ (search : Row → Float → Option SeedCandidate) (n : ℕ) (samples ring_phi : Row) (mean centered_var : Float) where
   pub grid_missing : no_grid n samples mean centered_var ≡ true → None ≡ second_of (R.grid_fit_by search n samples ring_phi mean centered_var)
@@ -151,18 +127,15 @@ module _ (n : ℕ) (samples ring_phi : Row) (mean centered_var : Float) where
   unfolding R.robust_grid_fit R.grid_seed first_table first_from
   direct_is = refl
 
-  pub direct_seed_lem : (sphi cphi h centered : Row) (s : Float) (top : Option SeedCandidate) → length ring_phi ≡ n → Prepared ring_phi sphi cphi
-      → Grid sphi cphi h (length sphi) → centered ≡ R.centered_of n samples mean → s ≡ R.squares n (R.centered_of n samples mean)
-      → top ≡ best_of (score_at (length centered) h centered s mean)
+  pub direct_seed_lem : (sphi cphi centered : Row) (s : Float) (top : Option SeedCandidate) → length ring_phi ≡ n
+      → sphi ≡ sines (length ring_phi) ring_phi → cphi ≡ cosines (length ring_phi) ring_phi
+      → centered ≡ R.centered_of n samples mean → s ≡ R.squares n (R.centered_of n samples mean)
+      → top ≡ best_seed n sphi cphi centered s mean
       → top ≡ direct_seed n ring_phi mean (R.centered_of n samples mean) (R.squares n (R.centered_of n samples mean))
-  direct_seed_lem sphi cphi h centered s top el p g ec es eh =
-      let ls : length sphi ≡ n = (prepared_length ring_phi sphi cphi p).0 ∙ el in
-      let lc : length centered ≡ n = ap length ec ∙ tab_length _ n in
-      let best : top ≡ best_seed n sphi cphi centered s mean =
-      eh ∙ ap (λ (k : ℕ). best_of (score_at k h centered s mean)) lc ∙ grid_best (subst (Grid sphi cphi h) ls g) centered s mean in
-      let e_s : sphi ≡ sines n ring_phi = p.s ∙ ap (λ (k : ℕ). sines k ring_phi) el in
-      let e_c : cphi ≡ cosines n ring_phi = p.c ∙ ap (λ (k : ℕ). cosines k ring_phi) el in
-      rw (← es, ← ec, ← e_s, ← e_c) best
+  direct_seed_lem sphi cphi centered s top el es_ ec_ ec es eh =
+      let e_s : sphi ≡ sines n ring_phi = es_ ∙ ap (λ (k : ℕ). sines k ring_phi) el in
+      let e_c : cphi ≡ cosines n ring_phi = ec_ ∙ ap (λ (k : ℕ). cosines k ring_phi) el in
+      rw (← es, ← ec, ← e_s, ← e_c) eh
 
 -- with the tables of a caller's words: none is near, or the seed is that of the first that is
 module _ (words samples ring_phi : Row) (mean centered_var : Float) (w : Option ℕ) (n : length samples ≡ ring_samples)

@@ -1,40 +1,24 @@
 -- What the contracts of crates/robust speak of besides the definitions: the lent buffers, and the first start. Definitions only.
-use Rattle.std.specs.Prelude.{◌≡◌, Bool, true, false, ◌||◌, List, ℕ, ◌+◌, ◌-◌, ◌*◌, ◌≤◌, length, take, drop, Option, Some, None, Float}
+use Rattle.std.specs.Prelude.{◌≡◌, Bool, true, false, ◌||◌, ℕ, ◌≤◌, length, Option, Some, None, Float}
 use Rattle.std.specs.Float.Ieee.{lt}
 use Rattle.floats.specs.Ops.{lit}
 use Rattle.floats.specs.Rows.{Row}
 use Rattle.solver.specs.Solver.{sines, cosines}
 use Rattle.solver.specs.Record.{record_with_seed}
-use Rattle.solver.specs.Buffers.{Prepared, max_samples}
+use Rattle.solver.specs.Buffers.{max_samples}
 use Rattle.seed.specs.Seed.{second_harmonic, flat}
 use Rattle.seed.specs.declared.SeedCandidate.{SeedCandidate}
-use Rattle.robust_lanes.specs.Lanes.{grid_places}
 use Rattle.robust_grid.specs.Grid.{best_seed}
-use Rattle.seed_models.specs.Models.{Table, best_cached}
+use Rattle.seed_models.specs.Models.{best_cached}
 use Rattle.seed_models.specs.Words.{ring_samples, models_in}
 use Rattle.robust.specs.declared.First.{First}
-use Rattle.robust_choice.specs.Parts.{second_of, chosen_of}
-use Rattle.robust_choice.specs.declared.RingFit.{RingFit}
 use Rattle.robust.specs.Robust as R
 
--- ---- the buffers: an angle, a sine and a cosine for each sample, and four places in js
-pub record Lent (samples ring_phi sphi cphi js : Row) : Type 0 where
-  pub few : length samples ≤ max_samples
-  pub phi : length ring_phi ≡ length samples
-  pub s : length sphi ≡ length samples
-  pub c : length cphi ≡ length samples
-  pub j : length js ≡ 4 * length samples
-
--- the same, with the sines and cosines of the angles in their buffers
-pub record Ready (samples ring_phi sphi cphi js : Row) : Type 0 where
-  pub few : length samples ≤ max_samples
-  pub phi : length ring_phi ≡ length samples
-  pub sines : Prepared ring_phi sphi cphi
-  pub j : length js ≡ 4 * length samples
-
--- the grid's rows: their places for each sample, and two
-pub record Rows (samples h : Row) : Type 0 where
-  pub places : length h ≡ grid_places * length samples + 2
+-- ---- n samples and their angles, at most as many as there may be
+pub record Sized (n : ℕ) (samples ring_phi : Row) : Type 0 where
+  pub few : n ≤ max_samples
+  pub size : length samples ≡ n
+  pub angles : length ring_phi ≡ n
 
 -- the first start, with the mean and the variance
 abbrev pub first_of : ℕ → Row → Row → First
@@ -44,20 +28,15 @@ first_of n samples ring_phi =
     let seed = R.first_seed (second_harmonic n samples ring_phi mean) mean in
     record { primary = record_with_seed n samples ring_phi seed centered_var; mean = mean; centered_var = centered_var }
 
--- r is the answer of the first start f and of the grid's
-abbrev pub WithGrid : List Table → Row → Row → First → RingFit → Type 0
-WithGrid tables samples ring_phi f r =
-    r ≡ chosen_of f.primary (second_of (R.robust_grid_fit tables (length samples) samples ring_phi f.mean f.centered_var))
-
 -- whether the grid is worth its search: the variance, or the sum of squares of the centred samples, is too small
 abbrev pub no_grid : ℕ → Row → Float → Float → Bool
 no_grid n samples mean centered_var = lt centered_var (lit 0x3586_37bd) || flat (R.squares n (R.centered_of n samples mean))
 
--- if it is, that sum, and the centred samples stand in front of js
+-- if it is, that sum, and the centred samples
 abbrev pub CenteredIn : ℕ → Row → Float → Float → Row → Option Float → Type 0
-CenteredIn n samples mean centered_var js None = no_grid n samples mean centered_var ≡ true
-CenteredIn n samples mean centered_var js (Some s) =
-    (no_grid n samples mean centered_var ≡ false) × (take (n - 0) (drop 0 js) ≡ R.centered_of n samples mean) ×
+CenteredIn n samples mean centered_var centered None = no_grid n samples mean centered_var ≡ true
+CenteredIn n samples mean centered_var centered (Some s) =
+    (no_grid n samples mean centered_var ≡ false) × (centered ≡ R.centered_of n samples mean) ×
     (s ≡ R.squares n (R.centered_of n samples mean))
 
 -- the best seed of the table in these words
@@ -67,8 +46,3 @@ cached_seed table mean centered centered_ss = best_cached ring_samples centered 
 -- the best seed of the grid
 abbrev pub direct_seed : ℕ → Row → Float → Row → Float → Option SeedCandidate
 direct_seed n ring_phi mean centered centered_ss = best_seed n (sines n ring_phi) (cosines n ring_phi) centered centered_ss mean
-
--- r is the answer of the first start f and of the table in these words
-abbrev pub WithTable : Row → Row → Row → First → RingFit → Type 0
-WithTable table samples ring_phi f r =
-    r ≡ chosen_of f.primary (second_of (R.grid_fit_by (cached_seed table f.mean) ring_samples samples ring_phi f.mean f.centered_var))

@@ -2,10 +2,13 @@
 // robust_grid.
 #![tactic(auto)]
 
-ghost use Rattle.std.specs.Prelude.{◌≡◌, true, [], ◌*◌, ◌<◌, length};
+ghost use Rattle.std.specs.Prelude.{◌≡◌, true, List, [], ◌<◌, length};
 ghost use Rattle.solver_record.specs.Record.{without_mean};
 ghost use Rattle.solver.specs.Record.{record_with_seed};
+ghost use Rattle.solver.specs.Solver.{sines, cosines};
 ghost use Rattle.solver.specs.Buffers.{Prepared};
+ghost use Rattle.robust_grid.specs.Grid.{best_seed};
+ghost use Rattle.seed_models.specs.Models.{Table};
 ghost use Rattle.robust.specs.Robust as R;
 ghost use Rattle.robust.specs.Record.{record_ring};
 ghost use Rattle.robust_choice.specs.Parts.{second_of};
@@ -14,6 +17,8 @@ ghost use Rattle.seed_models.specs.Words as W;
 
 use robust_choice::RingFit;
 use seed::{Harmonic, SeedCandidate};
+use seed_models::{Grid, Stored};
+use solver::{Ring, Sample};
 use solver_record::{Params, Started, TwoAxisFit};
 
 const AMP_FLOOR: f32 = 1.0;
@@ -24,11 +29,6 @@ const ROBUST_REL_RMS_TRIGGER: f32 = 0.12;
 const ROBUST_SEP_TRIGGER_MIN_RAD: f32 = 1.13446403;
 
 const ROBUST_SEP_TRIGGER_MAX_RAD: f32 = 2.00712872;
-
-// The grid's rows for 16 and for 24 samples, and the two places that the last lanes look at.
-const GRID_16: usize = robust_lanes::GRID_PLACES * 16 + 2;
-
-const GRID_24: usize = robust_lanes::GRID_PLACES * 24 + 2;
 
 // Rust's `sum` begins at -0.
 fn total(samples: &[f32]) -> f32
@@ -108,38 +108,40 @@ fn squares(centered: &[f32]) -> f32
     s
 }
 
-// A start from a seed, with the sines and cosines of the angles at hand: solver.rs, fit_with_seed behind its sin_cos.
-fn started(
-    samples: &[f32],
-    ring_phi: &[f32],
-    seed: Params,
-    centered_var: f32,
-    sphi: &[f32],
-    cphi: &[f32],
-    js: &mut [f32],
-) -> Started
-    requires { P.Ready samples.now ring_phi.now sphi.now cphi.now js.old }
-    ensures { result ≡ record_with_seed (length samples.now) samples.now ring_phi.now seed centered_var }
+// A ring with the sines and cosines of its angles at hand.
+#[derive(Clone, Copy)]
+struct Ready<'a> {
+    ring: Ring<'a>,
+    ring_phi: &'a [f32],
+    ghost phi: { length ring_phi.now ≡ length ring.samples.now },
+    ghost sines: { ring.sphi.now ≡ sines (length ring_phi.now) ring_phi.now },
+    ghost cosines: { ring.cphi.now ≡ cosines (length ring_phi.now) ring_phi.now },
+}
+
+// A start from a seed: solver.rs, fit_with_seed behind its sin_cos. Its working buffer is not on a caller's stack, where the
+// grid's rows come next.
+#[inline(never)]
+fn started<const N: usize>(ready: &Ready, seed: Params, centered_var: f32) -> Started
+    requires { length ready.now.ring.samples.now ≡ N }
+    ensures { result ≡ record_with_seed (length ready.now.ring.samples.now) ready.now.ring.samples.now
+        ready.now.ring_phi.now seed centered_var }
 {
     if solver_record::is_degenerate(seed.amp, centered_var) {
         return solver_record::refused(centered_var, seed.mu);
     }
-    solver::fit_prepared(samples, seed, sphi, cphi, js)
+    let mut js = [Sample::NONE; N];
+    solver::fit_prepared(&ready.ring, seed, &mut js)
 }
 
-// The one seed's fit, where there is a seed; the sines and cosines are at hand.
-fn refined(
-    samples: &[f32],
-    ring_phi: &[f32],
+// The one seed's fit, where there is a seed.
+fn refined<const N: usize>(
+    ready: &Ready,
     centered_var: f32,
     top: Option<SeedCandidate>,
-    sphi: &[f32],
-    cphi: &[f32],
-    js: &mut [f32],
 ) -> Option<Started>
-    requires { P.Ready samples.now ring_phi.now sphi.now cphi.now js.old }
-    ensures { result ≡ second_of (R.refine_seed_candidates (length samples.now) samples.now ring_phi.now
-        centered_var top) }
+    requires { length ready.now.ring.samples.now ≡ N }
+    ensures { result ≡ second_of (R.refine_seed_candidates (length ready.now.ring.samples.now)
+        ready.now.ring.samples.now ready.now.ring_phi.now centered_var top) }
 {
     let s = top?;
     let seed = Params {
@@ -148,109 +150,109 @@ fn refined(
         theta1: s.theta1,
         theta2: s.theta2,
     };
-    let f = started(samples, ring_phi, seed, centered_var, sphi, cphi, js);
-    Some(f)
+    Some(started::<N>(ready, seed, centered_var))
 }
 
-// The sum of squares of the centred samples, where the grid is worth its search. `js` holds the centred samples until the
-// fit takes it.
-fn centered_sum(samples: &[f32], mean: f32, centered_var: f32, js: &mut [f32]) -> Option<f32>
-    requires { length js.old ≡ 4 * length samples.now }
-    ensures { P.CenteredIn (length samples.now) samples.now mean centered_var js.new result }
+// The centred samples and the sum of their squares, where the grid is worth its search.
+fn centered_sum(samples: &[f32], mean: f32, centered_var: f32, centered: &mut [f32]) -> Option<f32>
+    requires { length centered.old ≡ length samples.now }
+    ensures { P.CenteredIn (length samples.now) samples.now mean centered_var centered.new result }
 {
     if centered_var < 1e-6 {
         return None;
     }
-    let n = samples.len();
-    center(samples, mean, &mut js[0..n]);
-    let s = squares(&js[0..n]);
+    center(samples, mean, centered);
+    let s = squares(centered);
     if seed::is_flat(s) {
         return None;
     }
     Some(s)
 }
 
-// The start behind the grid, the sines and cosines at hand.
-fn grid_fit(
-    samples: &[f32],
-    ring_phi: &[f32],
+// The best seed of the grid. Its rows are on this call's stack: not put into a caller, they are cleared only where the grid is
+// searched, and gone when the start is made.
+#[inline(never)]
+fn grid_seed<const N: usize>(
+    ring: &Ring,
+    centered: &[f32; N],
+    centered_ss: f32,
     mean: f32,
-    centered_var: f32,
-    sphi: &[f32],
-    cphi: &[f32],
-    js: &mut [f32],
-    h: &mut [f32],
-) -> Option<Started>
-    requires { P.Ready samples.now ring_phi.now sphi.now cphi.now js.old × P.Rows samples.now h.old }
-    ensures { result ≡ second_of (R.robust_grid_fit [] (length samples.now) samples.now ring_phi.now
-        mean centered_var) }
+) -> Option<SeedCandidate>
+    requires { length ring.now.samples.now ≡ N }
+    ensures { result ≡ best_seed N ring.now.sphi.now ring.now.cphi.now centered.now centered_ss mean }
 {
-    let centered_ss = centered_sum(samples, mean, centered_var, js)?;
-    robust_grid::fill_grid(sphi, cphi, h);
-    let n = samples.len();
-    let top = seed_models::best_seed(h, false, &js[0..n], centered_ss, mean);
-    refined(samples, ring_phi, centered_var, top, sphi, cphi, js)
+    let mut rows = [[0.0f32; robust_lanes::ROW_PLACES]; N];
+    robust_grid::fill_grid(ring.sphi, ring.cphi, &mut rows);
+    seed_models::best_seed(&Grid { rows: &rows }, centered, centered_ss, mean)
+}
+
+// The start behind the grid.
+fn grid_fit<const N: usize>(ready: &Ready, mean: f32, centered_var: f32) -> Option<Started>
+    requires { length ready.now.ring.samples.now ≡ N }
+    ensures { result ≡ second_of (R.robust_grid_fit [] (length ready.now.ring.samples.now)
+        ready.now.ring.samples.now ready.now.ring_phi.now mean centered_var) }
+{
+    let ring = &ready.ring;
+    let mut centered = [0.0f32; N];
+    let centered_ss = centered_sum(ring.samples, mean, centered_var, &mut centered)?;
+    let top = grid_seed(ring, &centered, centered_ss, mean);
+    refined::<N>(ready, centered_var, top)
 }
 
 // The start behind a table's models: robust_grid_fit_cached.
-fn cached_fit(
-    table: &[f32],
-    samples: &[f32],
-    ring_phi: &[f32],
-    mean: f32,
-    centered_var: f32,
-    sphi: &[f32],
-    cphi: &[f32],
-    js: &mut [f32],
-) -> Option<Started>
-    requires { (length table.now ≡ W.table_size) × (length samples.now ≡ W.ring_samples)
-        × P.Ready samples.now ring_phi.now sphi.now cphi.now js.old }
-    ensures { result ≡ second_of (R.grid_fit_by (P.cached_seed table.now mean) W.ring_samples samples.now ring_phi.now
-        mean centered_var) }
+fn cached_fit(table: Stored, ready: &Ready, mean: f32, centered_var: f32) -> Option<Started>
+    requires { length ready.now.ring.samples.now ≡ W.ring_samples }
+    ensures { result ≡ second_of (R.grid_fit_by (P.cached_seed table.entry.table.now mean) W.ring_samples
+        ready.now.ring.samples.now ready.now.ring_phi.now mean centered_var) }
 {
-    let centered_ss = centered_sum(samples, mean, centered_var, js)?;
-    let n = samples.len();
-    let top = seed_models::best_seed(table, true, &js[0..n], centered_ss, mean);
-    refined(samples, ring_phi, centered_var, top, sphi, cphi, js)
+    let mut centered = [0.0f32; seed_models::RING_SAMPLES];
+    let centered_ss = centered_sum(ready.ring.samples, mean, centered_var, &mut centered)?;
+    let top = seed_models::best_seed(&table, &centered, centered_ss, mean);
+    refined::<{ seed_models::RING_SAMPLES }>(ready, centered_var, top)
 }
 
-// The buffers are lent: `sphi` and `cphi` as long as the samples, `js` four times that; of no meaning afterwards.
-pub fn refine_seed_candidates(
-    samples: &[f32],
-    ring_phi: &[f32],
+pub fn refine_seed_candidates<'a, const N: usize>(
+    samples: &'a [f32],
+    ring_phi: &'a [f32],
     centered_var: f32,
     top: Option<SeedCandidate>,
-    sphi: &mut [f32],
-    cphi: &mut [f32],
-    js: &mut [f32],
 ) -> Option<Started>
-    requires { P.Lent samples.now ring_phi.now sphi.old cphi.old js.old }
+    requires { P.Sized N samples.now ring_phi.now }
     ensures { result ≡ second_of (R.refine_seed_candidates (length samples.now) samples.now ring_phi.now
         centered_var top) }
 {
-    let n = ring_phi.len();
-    solver::prepare(ring_phi, &mut js[0..n], sphi, cphi);
-    refined(samples, ring_phi, centered_var, top, sphi, cphi, js)
+    let mut turned = [0.0f32; N];
+    let mut sphi = [0.0f32; N];
+    let mut cphi = [0.0f32; N];
+    solver::prepare(ring_phi, &mut turned, &mut sphi, &mut cphi);
+    let ring = Ring {
+        samples,
+        sphi: &sphi,
+        cphi: &cphi,
+    };
+    refined::<N>(&Ready { ring, ring_phi }, centered_var, top)
 }
 
-// `h` has 24 places for each sample, and two more.
-pub fn robust_grid_fit(
-    samples: &[f32],
-    ring_phi: &[f32],
+pub fn robust_grid_fit<'a, const N: usize>(
+    samples: &'a [f32],
+    ring_phi: &'a [f32],
     mean: f32,
     centered_var: f32,
-    sphi: &mut [f32],
-    cphi: &mut [f32],
-    js: &mut [f32],
-    h: &mut [f32],
 ) -> Option<Started>
-    requires { P.Lent samples.now ring_phi.now sphi.old cphi.old js.old × P.Rows samples.now h.old }
+    requires { P.Sized N samples.now ring_phi.now }
     ensures { result ≡ second_of (R.robust_grid_fit [] (length samples.now) samples.now ring_phi.now
         mean centered_var) }
 {
-    let n = ring_phi.len();
-    solver::prepare(ring_phi, &mut js[0..n], sphi, cphi);
-    grid_fit(samples, ring_phi, mean, centered_var, sphi, cphi, js, h)
+    let mut turned = [0.0f32; N];
+    let mut sphi = [0.0f32; N];
+    let mut cphi = [0.0f32; N];
+    solver::prepare(ring_phi, &mut turned, &mut sphi, &mut cphi);
+    let ring = Ring {
+        samples,
+        sphi: &sphi,
+        cphi: &cphi,
+    };
+    grid_fit::<N>(&Ready { ring, ring_phi }, mean, centered_var)
 }
 
 // The axes lie PI/4 on either side of the sector's midpoint.
@@ -266,7 +268,7 @@ fn first_seed(h: Harmonic, mean: f32) -> Params
 }
 
 // The first start, with the mean and the variance of the samples.
-#[derive(Drop)]
+#[derive(Clone, Copy)]
 pub struct First {
     pub primary: Started,
     pub mean: f32,
@@ -275,46 +277,50 @@ pub struct First {
 
 // What solver::fit_with_seed does. A start that is not refused leaves the sines and cosines for the grid, and no refused
 // start is suspicious.
-fn start(
+fn start<const N: usize>(
     samples: &[f32],
     ring_phi: &[f32],
     seed: Params,
     centered_var: f32,
-    sphi: &mut [f32],
-    cphi: &mut [f32],
-    js: &mut [f32],
+    sphi: &mut [f32; N],
+    cphi: &mut [f32; N],
 ) -> Started
-    requires { P.Lent samples.now ring_phi.now sphi.old cphi.old js.old }
+    requires { P.Sized N samples.now ring_phi.now }
     ensures value { result ≡ record_with_seed (length samples.now) samples.now ring_phi.now seed centered_var }
     ensures prepared { R.fit_is_suspicious (without_mean result.fit) ≡ true → Prepared ring_phi.now sphi.new cphi.new }
 {
     if solver_record::is_degenerate(seed.amp, centered_var) {
         return solver_record::refused(centered_var, seed.mu);
     }
-    let n = ring_phi.len();
-    solver::prepare(ring_phi, &mut js[0..n], sphi, cphi);
-    solver::fit_prepared(samples, seed, sphi, cphi, js)
+    let mut turned = [0.0f32; N];
+    let mut js = [Sample::NONE; N];
+    solver::prepare(ring_phi, &mut turned, sphi, cphi);
+    let ring = Ring {
+        samples,
+        sphi,
+        cphi,
+    };
+    solver::fit_prepared(&ring, seed, &mut js)
 }
 
-fn first_start(
+fn first_start<const N: usize>(
     samples: &[f32],
     ring_phi: &[f32],
-    sphi: &mut [f32],
-    cphi: &mut [f32],
-    js: &mut [f32],
+    sphi: &mut [f32; N],
+    cphi: &mut [f32; N],
 ) -> First
-    requires { P.Lent samples.now ring_phi.now sphi.old cphi.old js.old }
+    requires { P.Sized N samples.now ring_phi.now }
     ensures value { result ≡ P.first_of (length samples.now) samples.now ring_phi.now }
     ensures prepared { R.fit_is_suspicious (without_mean result.primary.fit) ≡ true →
         Prepared ring_phi.now sphi.new cphi.new }
 {
-    let n = samples.len();
-    let count = floats::count_f32(n);
+    let count = floats::count_f32(N);
     let mean = total(samples) / count;
     let centered_var = deviations(samples, mean) / count;
-    let h = seed::second_harmonic(samples, ring_phi, mean, &mut js[0..n], sphi, cphi);
+    let mut turned = [0.0f32; N];
+    let h = seed::second_harmonic(samples, ring_phi, mean, &mut turned, sphi, cphi);
     let seed = first_seed(h, mean);
-    let primary = start(samples, ring_phi, seed, centered_var, sphi, cphi, js);
+    let primary = start(samples, ring_phi, seed, centered_var, sphi, cphi);
     First {
         primary,
         mean,
@@ -322,119 +328,94 @@ fn first_start(
     }
 }
 
-// The answer behind a suspicious first start.
-fn with_grid(
-    samples: &[f32],
-    ring_phi: &[f32],
-    f: First,
-    sphi: &[f32],
-    cphi: &[f32],
-    js: &mut [f32],
-    h: &mut [f32],
-) -> RingFit
-    requires { P.Ready samples.now ring_phi.now sphi.now cphi.now js.old × P.Rows samples.now h.old }
-    ensures { P.WithGrid [] samples.now ring_phi.now f result }
-{
-    let s = grid_fit(samples, ring_phi, f.mean, f.centered_var, sphi, cphi, js, h);
-    robust_choice::chosen(f.primary, s)
+// What a ring's second start may be had from.
+trait Models<const N: usize> {
+    ghost tables: { Self → List Table };
+
+    // The start behind a suspicious first one.
+    fn second(&self, ready: &Ready, mean: f32, centered_var: f32) -> Option<Started>
+        requires { length ready.now.ring.samples.now ≡ N }
+        ensures { result ≡ second_of (R.robust_grid_fit (tables self.now) (length ready.now.ring.samples.now)
+            ready.now.ring.samples.now ready.now.ring_phi.now mean centered_var) };
 }
 
-// The same of 16 samples. The grid's rows are on this call's stack, so they are cleared only where the grid is reached.
-fn with_grid_16(
-    samples: &[f32],
-    ring_phi: &[f32],
-    f: First,
-    sphi: &[f32],
-    cphi: &[f32],
-    js: &mut [f32],
-) -> RingFit
-    requires { (length samples.now ≡ 16) × P.Ready samples.now ring_phi.now sphi.now cphi.now js.old }
-    ensures { P.WithGrid [] samples.now ring_phi.now f result }
-{
-    let mut h = [0.0f32; GRID_16];
-    with_grid(samples, ring_phi, f, sphi, cphi, js, &mut h)
+// No table: the grid is searched.
+#[derive(Drop)]
+struct Untabled;
+
+impl<const N: usize> Models<N> for Untabled {
+    ghost tables = { λ s. [] };
+
+    fn second(&self, ready: &Ready, mean: f32, centered_var: f32) -> Option<Started> {
+        grid_fit::<N>(ready, mean, centered_var)
+    }
 }
 
-fn with_grid_24(
-    samples: &[f32],
-    ring_phi: &[f32],
-    f: First,
-    sphi: &[f32],
-    cphi: &[f32],
-    js: &mut [f32],
-) -> RingFit
-    requires { (length samples.now ≡ 24) × P.Ready samples.now ring_phi.now sphi.now cphi.now js.old }
-    ensures { P.WithGrid [] samples.now ring_phi.now f result }
-{
-    let mut h = [0.0f32; GRID_24];
-    with_grid(samples, ring_phi, f, sphi, cphi, js, &mut h)
+// All tables that the words hold: a ring whose angles are near a table's has its second seed from the first.
+#[derive(Clone, Copy)]
+struct Words<'a> {
+    words: &'a [f32],
+    ghost sized: { length words.now ≡ W.state_size },
 }
 
-// The fit of 16 samples, with its working buffers on this call's stack. What a call has there follows from the number of
-// samples, so each number has its own two functions, and all that they call serves both.
-pub fn fit_ring(samples: &[f32], ring_phi: &[f32]) -> RingFit
-    requires { (length samples.now ≡ 16) × (length ring_phi.now ≡ 16) }
+impl<'a> Words<'a> {
+    fn table(self, t: usize) -> Stored<'a>
+        requires { t < W.most_tables }
+        ensures { result.table.now ≡ W.table_part self.entry.words.now t }
+    {
+        let words = self.words;
+        let b = 1 + t * seed_models::TABLE_SIZE;
+        Stored {
+            table: &words[b..b + seed_models::TABLE_SIZE],
+        }
+    }
+}
+
+impl<'a> Models<{ seed_models::RING_SAMPLES }> for Words<'a> {
+    ghost tables = { λ s. W.tables_in s.words.now };
+
+    fn second(&self, ready: &Ready, mean: f32, centered_var: f32) -> Option<Started> {
+        let words = *self;
+        let Some(t) = seed_models::first_table(words.words, ready.ring_phi) else {
+            return grid_fit::<{ seed_models::RING_SAMPLES }>(ready, mean, centered_var);
+        };
+        cached_fit(words.table(t), ready, mean, centered_var)
+    }
+}
+
+// The fit of N samples. Each step has its working buffers on its own stack.
+fn fit_by<'a, const N: usize, M: Models<N>>(
+    models: &M,
+    samples: &'a [f32],
+    ring_phi: &'a [f32],
+) -> RingFit
+    requires { P.Sized N samples.now ring_phi.now }
+    ensures { result ≡ record_ring (M.tables models.now) (length samples.now) samples.now ring_phi.now }
+{
+    let mut sphi = [0.0f32; N];
+    let mut cphi = [0.0f32; N];
+    let f = first_start(samples, ring_phi, &mut sphi, &mut cphi);
+    if !fit_is_suspicious(f.primary.fit) {
+        return robust_choice::alone(f.primary);
+    }
+    let ready = Ready {
+        ring: Ring {
+            samples,
+            sphi: &sphi,
+            cphi: &cphi,
+        },
+        ring_phi,
+    };
+    let second = models.second(&ready, f.mean, f.centered_var);
+    robust_choice::chosen(f.primary, second)
+}
+
+// The Rust's ring has 16 samples; another number is ours, without a counterpart there.
+pub fn fit_ring<const N: usize>(samples: &[f32], ring_phi: &[f32]) -> RingFit
+    requires { P.Sized N samples.now ring_phi.now }
     ensures { result ≡ record_ring [] (length samples.now) samples.now ring_phi.now }
 {
-    let mut sphi = [0.0f32; 16];
-    let mut cphi = [0.0f32; 16];
-    let mut js = [0.0f32; 64];
-    let f = first_start(samples, ring_phi, &mut sphi, &mut cphi, &mut js);
-    let primary = f.primary;
-    if fit_is_suspicious(primary.fit) {
-        return with_grid_16(samples, ring_phi, f, &sphi, &cphi, &mut js);
-    }
-    robust_choice::alone(primary)
-}
-
-// The answer behind a suspicious first start, by the table t.
-fn with_table(
-    words: &[f32],
-    t: usize,
-    samples: &[f32],
-    ring_phi: &[f32],
-    f: First,
-    sphi: &[f32],
-    cphi: &[f32],
-    js: &mut [f32],
-) -> RingFit
-    requires { (length words.now ≡ W.state_size) × (t < W.most_tables) × (length samples.now ≡ W.ring_samples)
-        × P.Ready samples.now ring_phi.now sphi.now cphi.now js.old }
-    ensures { P.WithTable (W.table_part words.now t) samples.now ring_phi.now f result }
-{
-    let b = 1 + t * seed_models::TABLE_SIZE;
-    let e = b + seed_models::TABLE_SIZE;
-    let s = cached_fit(
-        &words[b..e],
-        samples,
-        ring_phi,
-        f.mean,
-        f.centered_var,
-        sphi,
-        cphi,
-        js,
-    );
-    robust_choice::chosen(f.primary, s)
-}
-
-// The same with all tables that the words hold: a ring whose angles are near a table's has its second seed from the first.
-fn with_tables(
-    words: &[f32],
-    samples: &[f32],
-    ring_phi: &[f32],
-    f: First,
-    sphi: &[f32],
-    cphi: &[f32],
-    js: &mut [f32],
-) -> RingFit
-    requires { (length words.now ≡ W.state_size) × (length samples.now ≡ 16)
-        × P.Ready samples.now ring_phi.now sphi.now cphi.now js.old }
-    ensures { P.WithGrid (W.tables_in words.now) samples.now ring_phi.now f result }
-{
-    let Some(t) = seed_models::first_table(words, ring_phi) else {
-        return with_grid_16(samples, ring_phi, f, sphi, cphi, js);
-    };
-    with_table(words, t, samples, ring_phi, f, sphi, cphi, js)
+    fit_by::<N, Untabled>(&Untabled, samples, ring_phi)
 }
 
 pub fn fit_ring_with(words: &[f32], samples: &[f32], ring_phi: &[f32]) -> RingFit
@@ -442,29 +423,5 @@ pub fn fit_ring_with(words: &[f32], samples: &[f32], ring_phi: &[f32]) -> RingFi
     ensures { result ≡ record_ring (W.tables_in words.now) (length samples.now) samples.now
         ring_phi.now }
 {
-    let mut sphi = [0.0f32; 16];
-    let mut cphi = [0.0f32; 16];
-    let mut js = [0.0f32; 64];
-    let f = first_start(samples, ring_phi, &mut sphi, &mut cphi, &mut js);
-    let primary = f.primary;
-    if fit_is_suspicious(primary.fit) {
-        return with_tables(words, samples, ring_phi, f, &sphi, &cphi, &mut js);
-    }
-    robust_choice::alone(primary)
-}
-
-// The fit of 24 samples: ours, without a counterpart in the Rust.
-pub fn fit_ring24(samples: &[f32], ring_phi: &[f32]) -> RingFit
-    requires { (length samples.now ≡ 24) × (length ring_phi.now ≡ 24) }
-    ensures { result ≡ record_ring [] (length samples.now) samples.now ring_phi.now }
-{
-    let mut sphi = [0.0f32; 24];
-    let mut cphi = [0.0f32; 24];
-    let mut js = [0.0f32; 96];
-    let f = first_start(samples, ring_phi, &mut sphi, &mut cphi, &mut js);
-    let primary = f.primary;
-    if fit_is_suspicious(primary.fit) {
-        return with_grid_24(samples, ring_phi, f, &sphi, &cphi, &mut js);
-    }
-    robust_choice::alone(primary)
+    fit_by::<{ seed_models::RING_SAMPLES }, Words>(&Words { words }, samples, ring_phi)
 }

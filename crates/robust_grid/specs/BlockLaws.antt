@@ -15,7 +15,7 @@ use Rattle.loops.proofs.IterLaws.{iter_same, iter_idle}
 use Rattle.seed.specs.Seed.{scored}
 use Rattle.seed.specs.declared.SeedCandidate.{SeedCandidate}
 use Rattle.robust_lanes.specs.declared.Models.{Models}
-use Rattle.robust_lanes.specs.Lanes.{inserted, lane_sums, models_of, mean_square, mean_squares, Squared, BestBound}
+use Rattle.robust_lanes.specs.Lanes.{GridRows, inserted, lane_sums, models_of, mean_square, mean_squares, Squared, BestBound}
 use Rattle.robust_lanes.specs.LaneLaws.{four_at}
 use Rattle.robust_lanes.specs.SkipLaws.{scored_squared, skipped}
 use Rattle.robust_grid.specs.declared.Pair.{Pair}
@@ -59,7 +59,7 @@ module _ (n centered_ss mean : Float) (m : Models) (p : Pair) where
   lane_tried k top next c t e d = rw t (d ∙ ap (inserted top) e)
 
 -- ---- the lanes that the grid's sums bring
-module _ (h centered : Row) (centered_ss mean : Float) (p : Pair) where
+module _ (h : GridRows) (centered : Row) (centered_ss mean : Float) (p : Pair) where
   abbrev n : ℕ
   n = length centered
 

@@ -1,12 +1,12 @@
--- What the contracts of crates/robust_grid speak of: the grid's factors in one buffer, 24 places for each sample, and the pairs that are tried.
+-- What the contracts of crates/robust_grid speak of: the grid's factors, a row for each sample, and the pairs that are tried.
 -- Definitions only.
-use Rattle.std.specs.Prelude.{◌≡◌, cond, ℕ, ◌+◌, ◌*◌, ◌<◌, leb, eqb, take, drop, Option, Float}
+use Rattle.std.specs.Prelude.{◌≡◌, cond, [], ℕ, ◌+◌, ◌<◌, leb, eqb, take, get_or, Option, Float}
 use Rattle.floats.specs.Rows.{Row, at, count}
 use Rattle.elementary.specs.Elementary.{sin_cos}
 use Rattle.loops.specs.Loops.{iter, tab}
 use Rattle.seed.specs.Seed.{scored, scored_from}
 use Rattle.seed.specs.declared.SeedCandidate.{SeedCandidate}
-use Rattle.robust_lanes.specs.Lanes.{grid_places, inserted, sums_at}
+use Rattle.robust_lanes.specs.Lanes.{grid_places, GridRows, inserted, sums_at}
 use Rattle.robust_lanes.specs.declared.Models.{Models}
 use Rattle.robust_grid.specs.declared.Pair.{Pair}
 use Rattle.robust_grid.specs.Grid.{grid_angle, factor}
@@ -24,12 +24,12 @@ row_from s c sines cosines = tab (λ a. factor s c (record { s = at sines a; c =
 unfoldable pub sample_row : Float → Float → Row
 sample_row s c = tab (λ a. factor s c (sin_cos (grid_angle a))) grid_places
 
--- the 24 places of sample i
-abbrev pub sample_row_at : Row → ℕ → Row
-sample_row_at h i = take grid_places (drop (i * grid_places) h)
+-- the 24 places of sample i that are filled
+abbrev pub sample_row_at : GridRows → ℕ → Row
+sample_row_at h i = take grid_places (get_or h i [])
 
 -- the first k samples have their factors
-pub record Grid (sphi cphi h : Row) (k : ℕ) : Type 0 where
+pub record Grid (sphi cphi : Row) (h : GridRows) (k : ℕ) : Type 0 where
   pub row : (i : ℕ) → i < k → sample_row_at h i ≡ sample_row (at sphi i) (at cphi i)
 
 -- ---- the pairs that are tried: of an angle a with a + 2 up to its last, by fours
@@ -67,5 +67,5 @@ lanes_tried n centered_ss mean m p top =
     iter (λ k top. cond (leb (p.b + k) (last_of p.a)) (inserted top (lane_score n centered_ss mean m p k)) top) top 4
 
 -- the score of a pair, from the buffer
-unfoldable pub score_at : ℕ → Row → Row → Float → Float → ℕ → ℕ → Option SeedCandidate
+unfoldable pub score_at : ℕ → GridRows → Row → Float → Float → ℕ → ℕ → Option SeedCandidate
 score_at n h centered centered_ss mean a b = scored (count n) centered_ss mean (sums_at n centered h a b) (grid_angle a) (grid_angle b)

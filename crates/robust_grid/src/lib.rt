@@ -1,14 +1,14 @@
 // The grid of seeds behind a suspicious start: ring_fit/robust.rs, the rows of robust_grid_fit, and four pairs of them.
 #![tactic(auto)]
 
-ghost use Rattle.std.specs.Prelude.{◌≡◌, ◌+◌, ◌*◌, ◌≤◌, ◌<◌, leb, length};
+ghost use Rattle.std.specs.Prelude.{◌≡◌, ◌+◌, ◌≤◌, ◌<◌, leb, length, take};
 ghost use Rattle.floats.specs.Rows.{count};
 ghost use Rattle.solver.specs.Buffers.{max_samples};
 ghost use Rattle.robust_grid.specs.Grid as G;
 ghost use Rattle.robust_grid.specs.Places as P;
 ghost use Rattle.robust_lanes.specs.Lanes as L;
 
-use robust_lanes::{Best, Models};
+use robust_lanes::{Best, GridRow, Models};
 
 // ROBUST_GRID_STEP_DEG.to_radians(): 8 degrees.
 const GRID_STEP: f32 = 0.139626339;
@@ -21,9 +21,11 @@ fn grid_angle(a: usize) -> f32
 }
 
 // Sine and cosine of each angle of the grid. All are below 64 in size, so that this becomes vector code. Here and in
-// `grid_row` the loop runs over all places: to 23 the compiler would leave three angles apart. Place 23 is not used.
-fn grid_axes(sines: &mut [f32], cosines: &mut [f32])
-    requires { (length sines.old ≡ L.grid_places) × (length cosines.old ≡ L.grid_places) }
+// `grid_row` the loop runs to 24: to 23 the compiler would leave three angles apart. Place 23 is not used.
+fn grid_axes(
+    sines: &mut [f32; robust_lanes::GRID_PLACES],
+    cosines: &mut [f32; robust_lanes::GRID_PLACES],
+)
     ensures { P.Axes sines.new cosines.new }
 {
     for a in 0..robust_lanes::GRID_PLACES {
@@ -34,9 +36,14 @@ fn grid_axes(sines: &mut [f32], cosines: &mut [f32])
 }
 
 // The model's factor of one sample at each angle of the grid.
-fn grid_row(s: f32, c: f32, sines: &[f32], cosines: &[f32], row: &mut [f32])
-    requires { (length sines.now ≡ L.grid_places) × (length cosines.now ≡ L.grid_places) × (length row.old ≡ L.grid_places) }
-    ensures { row.new ≡ P.row_from s c sines.now cosines.now }
+fn grid_row(
+    s: f32,
+    c: f32,
+    sines: &[f32; robust_lanes::GRID_PLACES],
+    cosines: &[f32; robust_lanes::GRID_PLACES],
+    row: &mut GridRow,
+)
+    ensures { take L.grid_places row.new ≡ P.row_from s c sines.now cosines.now }
 {
     for a in 0..robust_lanes::GRID_PLACES {
         row[a] = elementary::tanh(solver::TANH_BETA * (s * cosines[a] - c * sines[a]));
@@ -44,9 +51,8 @@ fn grid_row(s: f32, c: f32, sines: &[f32], cosines: &[f32], row: &mut [f32])
 }
 
 // All samples.
-pub fn fill_grid(sphi: &[f32], cphi: &[f32], h: &mut [f32])
-    requires { (length cphi.now ≡ length sphi.now) × (length sphi.now ≤ max_samples)
-        × (length h.old ≡ L.grid_places * length sphi.now + 2) }
+pub fn fill_grid(sphi: &[f32], cphi: &[f32], h: &mut [GridRow])
+    requires { (length cphi.now ≡ length sphi.now) × (length h.old ≡ length sphi.now) }
     ensures { P.Grid sphi.now cphi.now h.new (length sphi.now) }
 {
     let n = sphi.len();
@@ -54,9 +60,7 @@ pub fn fill_grid(sphi: &[f32], cphi: &[f32], h: &mut [f32])
     let mut cosines = [0.0f32; robust_lanes::GRID_PLACES];
     grid_axes(&mut sines, &mut cosines);
     for i in 0..n {
-        let b = i * robust_lanes::GRID_PLACES;
-        let e = b + robust_lanes::GRID_PLACES;
-        grid_row(sphi[i], cphi[i], &sines, &cosines, &mut h[b..e]);
+        grid_row(sphi[i], cphi[i], &sines, &cosines, &mut h[i]);
     }
 }
 
@@ -108,21 +112,22 @@ pub fn is_pair(p: Pair, k: usize) -> bool
 }
 
 // A block's pairs as far as they are allowed. The root is monotone, so a pair whose mean square is not below the best's
-// has no lower residual, and is skipped before its root is taken.
-pub fn lanes_tried(
+// has no lower residual, and is skipped before its root is taken. A walk of its own has each kind of model, and both are
+// compiled with this in their loop: a call a block made a ring of two starts take a quarter longer.
+#[inline(always)]
+pub fn lanes_tried<const N: usize>(
     best0: Best,
     m: Models,
-    samples: usize,
-    n: f32,
     centered_ss: f32,
     mean: f32,
     p: Pair,
 ) -> Best
-    requires { L.BestKept best0 × (n ≡ count samples) × (p.a < 21) × (p.b < 23) }
-    ensures { (result.top ≡ P.lanes_tried n centered_ss mean m p best0.top) × L.BestKept result }
+    requires { (N ≤ max_samples) × (p.a < 21) × (p.b < 23) }
+    ensures { result.top ≡ P.lanes_tried (count N) centered_ss mean m p best0.top }
 {
+    let n = floats::count_f32(N);
     let mut best = best0;
-    let xs = robust_lanes::mean_squares(m, samples, n, centered_ss);
+    let xs = robust_lanes::mean_squares::<N>(m, centered_ss);
     let q_mean = m.q_mean;
     let denom = m.denom;
     let num = m.num;

@@ -1,5 +1,5 @@
 -- The sums that a lane adds up, sample by sample, are those of its own pair. Assumes nothing.
-use Rattle.std.specs.Prelude.{◌≡◌, refl, [], ◌∷◌, ℕ, zero, suc, ◌+◌, ◌*◌, ◌<◌, Float}
+use Rattle.std.specs.Prelude.{◌≡◌, refl, [], ◌∷◌, ℕ, zero, suc, ◌+◌, ◌<◌, Float}
 use Rattle.std.proofs.Common.{◌∙◌}
 use native.Mathlib.Omega.{arith}
 use Rattle.std.specs.Float.Ieee.{of_int, of_bits, round}
@@ -8,7 +8,7 @@ use Rattle.floats.specs.Rows.{Row, at, count}
 use Rattle.loops.proofs.IterLaws.{iter_zero, iter_next}
 use Rattle.seed.specs.Seed.{summed_by}
 use Rattle.robust_lanes.specs.declared.Lanes.{Lanes}
-use Rattle.robust_lanes.specs.Lanes.{grid_places, sums_at, four, lane_sums, lanes_added}
+use Rattle.robust_lanes.specs.Lanes.{GridRows, place, sums_at, four, lane_sums, lanes_added}
 
 -- the usual number of samples
 pub sixteen : count 16 ≡ lit 0x4180_0000
@@ -29,17 +29,17 @@ four_at f (suc (suc (suc (suc k)))) l = absurd (none k l)
 pub lane_places : (h : Row) (p : ℕ) → ◌≡◌ {A = Row} (at h p ∷ at h (p + 1) ∷ at h (p + 2) ∷ at h (p + 3) ∷ []) (four (λ k. at h (p + k)))
 lane_places h p = let z : p + 0 ≡ p = omega arith in rw z
 
-module _ (centered h : Row) (a b : ℕ) where
+module _ (centered : Row) (h : GridRows) (a b : ℕ) where
   pub lanes_none : record { q_sum = four (λ k. nought); q2_sum = four (λ k. nought); num = four (λ k. nought) } ≡ lane_sums 0 centered h a b
   unfolding lane_sums sums_at
   lanes_none = simp iter_zero
 
   next : (i k : ℕ) → sums_at (i + 1) centered h a (b + k) ≡
-      summed_by (at centered i) (at h (i * grid_places + a)) (at h (i * grid_places + b + k)) (sums_at i centered h a (b + k))
+      summed_by (at centered i) (place h i a) (place h i (b + k)) (sums_at i centered h a (b + k))
   unfolding sums_at
-  next i k = let z : i * grid_places + (b + k) ≡ i * grid_places + b + k = omega arith in rw (iter_next, z)
+  next i k = rw iter_next
 
-  pub lanes_more : (i : ℕ) (s t : Lanes) (y : Row) → s ≡ lane_sums i centered h a b → y ≡ four (λ k. at h (i * grid_places + b + k))
-      → t ≡ lanes_added s (at centered i) (at h (i * grid_places + a)) y → t ≡ lane_sums (i + 1) centered h a b
+  pub lanes_more : (i : ℕ) (s t : Lanes) (y : Row) → s ≡ lane_sums i centered h a b → y ≡ four (λ k. place h i (b + k))
+      → t ≡ lanes_added s (at centered i) (place h i a) y → t ≡ lane_sums (i + 1) centered h a b
   unfolding lane_sums summed_by
   lanes_more i s t y e g d = d ∙ (rw (e, g, next i 0, next i 1, next i 2, next i 3))

@@ -1,37 +1,38 @@
 -- What the contracts of crates/robust_lanes speak of: four pairs of the grid side by side, and the best so far. Definitions only.
-use Rattle.std.specs.Prelude.{◌≡◌, [], ◌∷◌, ℕ, ◌+◌, ◌*◌, ◌≤◌, length, Option, Some, None, Float}
+use Rattle.std.specs.Prelude.{◌≡◌, List, [], ◌∷◌, ℕ, ◌+◌, ◌≤◌, get_or, Option, Some, None, Float}
 use Rattle.std.specs.Float.{nan, binary32}
 use Rattle.floats.specs.Ops.{◌⊕◌, ◌⊖◌, ◌⊗◌, ◌⊘◌, nought}
 use Rattle.floats.specs.Rows.{Row, at}
 use Rattle.floats.specs.Library.{max, sqrt}
 use Rattle.loops.specs.Loops.{iter}
-use Rattle.solver.specs.Buffers.{max_samples}
 use Rattle.seed.specs.Seed.{zeros, summed_by, insert_seed_candidate}
 use Rattle.seed.specs.declared.Sums.{Sums}
 use Rattle.seed.specs.declared.SeedCandidate.{SeedCandidate}
-use Rattle.robust_lanes.specs.declared.Best.{Best}
 use Rattle.robust_lanes.specs.declared.Lanes.{Lanes}
 use Rattle.robust_lanes.specs.declared.Models.{Models}
 
--- the grid's rows stand so far apart: a place for each of its 23 angles, and one that evens them out
+-- so many places of a sample's row are filled: one for each of the grid's 23 angles, and one that evens them out
 abbrev pub grid_places : ℕ
 grid_places = 24
 
--- these places for each sample, and two that the last lanes of the last sample look at
-pub record GridRoom (centered h : Row) : Type 0 where
-  pub few : length centered ≤ max_samples
-  pub places : length h ≡ grid_places * length centered + 2
+-- the grid's rows, one for each sample
+abbrev pub GridRows : Type 0
+GridRows = List Row
+
+-- the factor of sample i at the angle a
+abbrev pub place : GridRows → ℕ → ℕ → Float
+place h i a = at (get_or h i []) a
 
 -- ---- four pairs
 -- the sums of the angles a and b
-unfoldable pub sums_at : ℕ → Row → Row → ℕ → ℕ → Sums
-sums_at n centered h a b = iter (λ i. summed_by (at centered i) (at h (i * grid_places + a)) (at h (i * grid_places + b))) zeros n
+unfoldable pub sums_at : ℕ → Row → GridRows → ℕ → ℕ → Sums
+sums_at n centered h a b = iter (λ i. summed_by (at centered i) (place h i a) (place h i b)) zeros n
 
 abbrev pub four : (ℕ → Float) → Row
 four f = f 0 ∷ f 1 ∷ f 2 ∷ f 3 ∷ []
 
 -- of the angle a with b, b + 1, b + 2 and b + 3
-unfoldable pub lane_sums : ℕ → Row → Row → ℕ → ℕ → Lanes
+unfoldable pub lane_sums : ℕ → Row → GridRows → ℕ → ℕ → Lanes
 lane_sums n centered h a b =
     record {
       q_sum = four (λ k. (sums_at n centered h a (b + k)).q_sum);
@@ -81,6 +82,3 @@ Squared x (Some s) = s.rms ≡ sqrt binary32 x
 abbrev pub BestBound : Option SeedCandidate → Float → Type 0
 BestBound None x = x ≡ nan
 BestBound (Some s) x = s.rms ≡ sqrt binary32 x
-
-pub record BestKept (b : Best) : Type 0 where
-  pub is : BestBound b.top b.bound

@@ -1,3 +1,4 @@
 pub mod Lanes
+pub mod BoundLaws
 pub mod SkipLaws
 pub mod LaneLaws

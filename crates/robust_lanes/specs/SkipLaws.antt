@@ -10,7 +10,7 @@ use Rattle.floats.specs.Library.{sqrt}
 use Rattle.floats.specs.RootOrderLaws.{sqrt_mono}
 use Rattle.seed.specs.Seed.{flat, kept, seed_from, scored_from, insert_seed_candidate}
 use Rattle.seed.specs.declared.SeedCandidate.{SeedCandidate}
-use Rattle.robust_lanes.specs.Lanes.{inserted, mean_square, Squared, BestBound, BestKept}
+use Rattle.robust_lanes.specs.Lanes.{inserted, mean_square, Squared, BestBound}
 
 -- a seed's rms is the root of its pair's mean square
 kept_squared : (c : SeedCandidate) (x : Float) → c.rms ≡ sqrt binary32 x → Squared x (kept c)
@@ -57,6 +57,3 @@ module _ (top c : Option SeedCandidate) where
 
     pub tried_not : (d : SeedCandidate) → top ≡ Some d → lt s.rms d.rms ≡ false → top ≡ inserted top c
     tried_not d f h = rw (e, f) (sym (chosen s d false h))
-
-    pub taken_kept : (x : Float) → Squared x c → BestKept (record { top = c; bound = x })
-    taken_kept x q = record { is = subst (λ (z : Option SeedCandidate). BestBound z x) (sym e) (subst (Squared x) e q) }

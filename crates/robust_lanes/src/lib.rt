@@ -2,16 +2,22 @@
 // ring_fit/robust.rs, robust_grid_fit.
 #![tactic(auto)]
 
-ghost use Rattle.std.specs.Prelude.{◌≡◌, ◌<◌, length};
+ghost use Rattle.std.specs.Prelude.{◌≡◌, ◌≤◌, ◌<◌};
+ghost use Rattle.solver.specs.Buffers.{max_samples};
 ghost use Rattle.floats.specs.Ops.{nought};
 ghost use Rattle.floats.specs.Rows.{count};
 ghost use Rattle.floats.specs.Library.{max};
 ghost use Rattle.robust_lanes.specs.Lanes as L;
+ghost use Rattle.robust_lanes.specs.BoundLaws.{bound_once};
 
 use seed::SeedCandidate;
 
-// A sample's places in the grid's rows.
+// A sample's row has a place for each of the grid's 23 angles, one that evens them out, and two that the last lanes look at.
 pub const GRID_PLACES: usize = 24;
+
+pub const ROW_PLACES: usize = 26;
+
+pub type GridRow = [f32; ROW_PLACES];
 
 // The sums of four pairs side by side: of the angle a with b, b + 1, b + 2 and b + 3.
 #[derive(Drop)]
@@ -53,11 +59,12 @@ fn lanes_added(s: Lanes, v: f32, x: f32, y: [f32; 4]) -> Lanes
     Lanes { q_sum, q2_sum, num }
 }
 
-// Each lane adds its samples in their order. From b = 20 on the last lanes run past the grid's angles into the next
-// sample's places; nothing is asked of them.
-fn sums_of(h: &[f32], centered: &[f32], n: usize, a: usize, b: usize) -> Lanes
-    requires { L.GridRoom centered.now h.now × (n ≡ length centered.now) × (a < 23) × (b < 23) }
-    ensures { result ≡ L.lane_sums n centered.now h.now a b }
+// Each lane adds its samples in their order. From b = 20 on the last lanes run past the grid's angles; nothing is asked of
+// them. The number of samples is a constant to the compiler, here and below: the loop has no end to test, and what is divided
+// by 16 is multiplied. It was a tenth of a fit with two starts.
+pub fn lane_sums<const N: usize>(h: &[GridRow; N], centered: &[f32; N], a: usize, b: usize) -> Lanes
+    requires { (a < 23) × (b < 23) }
+    ensures { result ≡ L.lane_sums N centered.now h.now a b }
 {
     let none = [0.0f32; 4];
     let mut s = Lanes {
@@ -65,26 +72,12 @@ fn sums_of(h: &[f32], centered: &[f32], n: usize, a: usize, b: usize) -> Lanes
         q2_sum: none,
         num: none,
     };
-    for i in 0..n {
-        let k = i * GRID_PLACES + b;
-        let y = [h[k], h[k + 1], h[k + 2], h[k + 3]];
-        let next = lanes_added(s, centered[i], h[i * GRID_PLACES + a], y);
-        s = next;
+    for i in 0..N {
+        let row = &h[i];
+        let y = [row[b], row[b + 1], row[b + 2], row[b + 3]];
+        s = lanes_added(s, centered[i], row[a], y);
     }
     s
-}
-
-// The usual number of samples is written out, here, in `lane_models` and in `mean_squares`, so that it is compiled as a
-// constant: the loop has no end to test, and what is divided by 16 is multiplied. It was a tenth of a fit with two starts.
-pub fn lane_sums(h: &[f32], centered: &[f32], a: usize, b: usize) -> Lanes
-    requires { L.GridRoom centered.now h.now × (a < 23) × (b < 23) }
-    ensures { result ≡ L.lane_sums (length centered.now) centered.now h.now a b }
-{
-    let n = centered.len();
-    if n == 16 {
-        return sums_of(h, centered, 16, a, b);
-    }
-    sums_of(h, centered, n, a, b)
 }
 
 // `max` with 0: a NaN and -0 become 0 too.
@@ -105,9 +98,11 @@ pub struct Models {
     pub num: [f32; 4],
 }
 
-fn models_by(s: Lanes, n: f32) -> Models
-    ensures { result ≡ L.models_of s n }
+pub fn lane_models<const N: usize>(s: Lanes) -> Models
+    requires { N ≤ max_samples }
+    ensures { result ≡ L.models_of s (count N) }
 {
+    let n = floats::count_f32(N);
     let q = s.q_sum;
     let q2 = s.q2_sum;
     let num = s.num;
@@ -121,17 +116,6 @@ fn models_by(s: Lanes, n: f32) -> Models
     Models { q_mean, denom, num }
 }
 
-// n is the number of samples as a float, here and below.
-pub fn lane_models(s: Lanes, samples: usize, n: f32) -> Models
-    requires { n ≡ count samples }
-    ensures { result ≡ L.models_of s n }
-{
-    if samples == 16 {
-        return models_by(s, 16.0);
-    }
-    models_by(s, n)
-}
-
 // What the root of a pair's residual is taken of.
 fn mean_square(num: f32, denom: f32, n: f32, centered_ss: f32) -> f32
     ensures { result ≡ L.mean_square n centered_ss num denom }
@@ -139,9 +123,11 @@ fn mean_square(num: f32, denom: f32, n: f32, centered_ss: f32) -> f32
     ahead(centered_ss - num * num / denom) / n
 }
 
-fn squares_of(m: Models, n: f32, centered_ss: f32) -> [f32; 4]
-    ensures { result ≡ L.mean_squares m n centered_ss }
+pub fn mean_squares<const N: usize>(m: Models, centered_ss: f32) -> [f32; 4]
+    requires { N ≤ max_samples }
+    ensures { result ≡ L.mean_squares m (count N) centered_ss }
 {
+    let n = floats::count_f32(N);
     let num = m.num;
     let denom = m.denom;
     [
@@ -152,25 +138,16 @@ fn squares_of(m: Models, n: f32, centered_ss: f32) -> [f32; 4]
     ]
 }
 
-pub fn mean_squares(m: Models, samples: usize, n: f32, centered_ss: f32) -> [f32; 4]
-    requires { n ≡ count samples }
-    ensures { result ≡ L.mean_squares m n centered_ss }
-{
-    if samples == 16 {
-        return squares_of(m, 16.0, centered_ss);
-    }
-    squares_of(m, n, centered_ss)
-}
-
 // The best seed so far, and what the root of its residual was taken of: NaN where there is none.
 #[derive(Drop)]
 pub struct Best {
     pub top: Option<SeedCandidate>,
     pub bound: f32,
+    pub ghost kept: { L.BestBound top bound } by { bound_once top bound },
 }
 
 pub fn none_yet() -> Best
-    ensures { (result.top ≡ None) × L.BestKept result }
+    ensures { result.top ≡ None }
 {
     Best {
         top: None,
@@ -180,8 +157,8 @@ pub fn none_yet() -> Best
 
 // A candidate whose mean square is x.
 pub fn tried(best: Best, x: f32, c: Option<SeedCandidate>) -> Best
-    requires { L.BestKept best × L.Squared x c }
-    ensures { (result.top ≡ L.inserted best.top c) × L.BestKept result }
+    requires { L.Squared x c }
+    ensures { result.top ≡ L.inserted best.top c }
 {
     let next = Best { top: c, bound: x };
     let Some(s) = c else {

@@ -1,7 +1,7 @@
 -- The sums of the second harmonic from rows of sines are those of the definition: an angle up to 64 in size is not reduced, and a row's element is
 -- its sample's own. Assumes nothing.
 use Rattle.std.specs.Prelude.{◌≡◌, ℕ, ◌<◌, length, Float}
-use Rattle.std.proofs.Common.{sym, ◌∙◌, subst}
+use Rattle.std.proofs.Common.{◌∙◌}
 use Rattle.std.proofs.Math.Path.{ap}
 use Rattle.std.specs.Float.{nan}
 use Rattle.floats.specs.Rows.{Row, at}
@@ -12,21 +12,15 @@ use Rattle.loops.proofs.IterLaws.{iter_same}
 use Rattle.loops.proofs.TabLaws.{tab_at, tab_length, tab_same}
 use Rattle.seed.specs.declared.Waves.{Waves}
 use Rattle.seed.specs.Seed.{waved_by, waves}
-use Rattle.solver.specs.Buffers.{RingNear, Sines}
+use Rattle.solver.specs.Buffers.{TurnedTo, Sines}
 use Rattle.seed.specs.Buffers.{twice, doubled_near, doubled, waves_from}
 
--- angles that turning leaves need no turning
-pub near_doubled : (n : ℕ) (ring_phi turned : Row) → turned ≡ doubled_near n ring_phi → RingNear (length turned) turned → turned ≡ doubled n ring_phi
+-- doubled first, and turned after
+pub turned_doubled : (n : ℕ) (ring_phi near turned : Row) → near ≡ doubled_near n ring_phi → TurnedTo near turned → turned ≡ doubled n ring_phi
 unfolding doubled_near doubled
-near_doubled n ring_phi turned e h = e ∙ tab_same _ _ n here
-  where
-    len : n ≡ length turned
-    len = sym (ap length e ∙ tab_length _ n)
-
-    here : (i : ℕ) → i < n → twice (at ring_phi i) ≡ turn (twice (at ring_phi i))
-    here i l =
-        let place : at turned i ≡ twice (at ring_phi i) = ap (λ (r : Row). at r i) e ∙ tab_at (λ i. twice (at ring_phi i)) nan n i l in
-        sym place ∙ sym (h.is i (subst (λ (k : ℕ). i < k) len l)) ∙ ap turn place
+turned_doubled n ring_phi near turned e h =
+    h.is ∙ ap (tab (λ i. turn (at near i))) (ap length e ∙ tab_length _ n)
+    ∙ tab_same _ _ n (λ i l. ap turn (ap (λ (r : Row). at r i) e ∙ tab_at (λ i. twice (at ring_phi i)) nan n i l))
 
 -- ---- rows first, sums after
 module _ (samples ring_phi turned sphi cphi : Row) (mean : Float) (w : Waves) (same : length ring_phi ≡ length samples) where

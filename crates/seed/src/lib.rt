@@ -48,27 +48,13 @@ fn double_near(ring_phi: &[f32], turned: &mut [f32])
     }
 }
 
-fn double_each(ring_phi: &[f32], turned: &mut [f32])
-    requires { length turned.old ≡ length ring_phi.now }
-    ensures { turned.new ≡ B.doubled (length ring_phi.now) ring_phi.now }
-{
-    let n = ring_phi.len();
-    for i in 0..n {
-        turned[i] = elementary::turn(2.0 * ring_phi[i]);
-    }
-}
-
-// Twice each angle, brought to at most 64 in size: the remainder in `turn` is a call, and would keep the loop of sines from
-// being vector code.
+// Twice each angle, brought to at most 64 in size.
 fn double_all(ring_phi: &[f32], turned: &mut [f32])
     requires { length turned.old ≡ length ring_phi.now }
     ensures { turned.new ≡ B.doubled (length ring_phi.now) ring_phi.now }
 {
     double_near(ring_phi, turned);
-    if solver::all_near(turned) {
-        return;
-    }
-    double_each(ring_phi, turned);
+    solver::turn_all(turned);
 }
 
 // The ordered sums, once the sines and cosines of the doubled angles are there.

@@ -2,4 +2,5 @@ pub mod Models
 pub mod Words
 pub mod Parts
 pub mod WordLaws
+pub mod WalkLaws
 pub mod HeldLaws

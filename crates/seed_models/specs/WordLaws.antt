@@ -20,7 +20,7 @@ use Rattle.loops.proofs.IterLaws.{iter_zero, iter_same, iter_keeps}
 use Rattle.loops.proofs.TabLaws.{tab_length, tab_at, tab_same, tab_self, part_kept, part_same, part_length, parts_length, part_of, parts_more}
 use Rattle.solver.specs.Solver.{sines, cosines}
 use Rattle.solver.specs.Buffers.{Prepared}
-use Rattle.robust_lanes.specs.Lanes.{grid_places}
+use Rattle.robust_lanes.specs.Lanes.{GridRows, place}
 use Rattle.robust_grid.specs.Grid.{grid_angle, grid_row, all_pairs}
 use Rattle.robust_grid.specs.Places.{Grid, last_of, block_pair, blocks, step_at, block_steps}
 use Rattle.robust_grid.specs.PlaceLaws.{grid_at}
@@ -97,7 +97,7 @@ model_same n q r theta1 theta2 h =
     let mean = (iter (λ i. q_summed (r i)) no_qSums n).q_sum ⊘ count n in
     rw (sums, tab_same (λ i. q i ⊖ mean) (λ i. r i ⊖ mean) n (λ i l. rw (h i l)))
 
-pub grid_words : (angles sphi cphi h : Row) → length angles ≡ ring_samples → Prepared angles sphi cphi → Grid sphi cphi h (length sphi)
+pub grid_words : (angles sphi cphi : Row) (h : GridRows) → length angles ≡ ring_samples → Prepared angles sphi cphi → Grid sphi cphi h (length sphi)
     → table_words angles (model_from h) ≡ table_words angles (model_at ring_samples angles)
 unfolding model_at
 grid_words angles sphi cphi h l p g = table_same _ _ angles (λ a b x y. model_same ring_samples _ _ _ _ (λ i m. rw (at_grid a x i m, at_grid b y i m)))
@@ -112,7 +112,7 @@ grid_words angles sphi cphi h l p g = table_same _ _ angles (λ a b x y. model_s
     n = ap length s ∙ tab_length _ ring_samples
 
     at_grid : (a : ℕ) → a < 23 → (i : ℕ) → i < ring_samples
-        → at h (i * grid_places + a) ≡ at (grid_row ring_samples (sines ring_samples angles) (cosines ring_samples angles) a) i
+        → place h i a ≡ at (grid_row ring_samples (sines ring_samples angles) (cosines ring_samples angles) a) i
     at_grid a x i m = rw (← s, ← c) (grid_at (rw n at g) a x i m)
 
 -- ---- a block is read again

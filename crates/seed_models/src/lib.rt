@@ -2,17 +2,20 @@
 // that a caller supplies, in memory that the caller lends.
 #![tactic(auto)]
 
-ghost use Rattle.std.specs.Prelude.{◌≡◌, ◌&&◌, ◌++◌, ◌+◌, ◌*◌, ◌≤◌, ◌<◌, length, drop};
-ghost use Rattle.floats.specs.Rows.{at, count};
+ghost use Rattle.std.specs.Prelude.{◌≡◌, ℕ, ◌&&◌, ◌++◌, ◌≤◌, ◌<◌, length, drop, Option, Float};
+ghost use Rattle.floats.specs.Rows.{Row, at, count};
 ghost use Rattle.solver.specs.Buffers.{max_samples};
-ghost use Rattle.robust_lanes.specs.Lanes.{grid_places};
-ghost use Rattle.robust_grid.specs.Places.{block_pair, blocks};
+ghost use Rattle.seed.specs.declared.SeedCandidate.{SeedCandidate};
+ghost use Rattle.robust_lanes.specs.declared.Models.{Models};
+ghost use Rattle.robust_grid.specs.Grid.{best_of};
+ghost use Rattle.robust_grid.specs.Places.{block_pair, blocks, score_at};
 ghost use Rattle.seed_models.specs.Models as M;
 ghost use Rattle.seed_models.specs.Words as W;
 ghost use Rattle.seed_models.specs.Parts as P;
+ghost use Rattle.seed_models.specs.WalkLaws.{grid_walked, table_walked};
 
 use robust_grid::Pair;
-use robust_lanes::Models;
+use robust_lanes::{GridRow, Models};
 use seed::SeedCandidate;
 
 // The samples of a ring that has a table.
@@ -28,9 +31,6 @@ pub const MOST_TABLES: usize = 3;
 
 // A count and the tables.
 pub const STATE_SIZE: usize = 1 + MOST_TABLES * TABLE_SIZE;
-
-// The grid's rows of 16 samples, and the two places that the last lanes look at.
-const GRID_SIZE: usize = robust_lanes::GRID_PLACES * RING_SAMPLES + 2;
 
 // The sums of a pair's products and of their squares.
 #[derive(Drop)]
@@ -161,57 +161,81 @@ fn block_lanes(block: &[f32], centered: &[f32]) -> Models
     for i in 0..RING_SAMPLES {
         let k = 8 + 4 * i;
         let q = [block[k], block[k + 1], block[k + 2], block[k + 3]];
-        let next = num_added(m, centered[i], q);
-        m = next;
+        m = num_added(m, centered[i], q);
     }
     m
 }
 
-// The same of the grid's rows, or of a table's words where they are stored.
-fn lanes_of(
-    rows: &[f32],
-    stored: bool,
-    centered: &[f32],
-    samples: usize,
-    n: f32,
-    p: Pair,
-    j: usize,
-) -> Models
-    requires { P.RowsOf stored rows.now centered.now × (samples ≡ length centered.now) × (n ≡ count samples)
-        × (j < blocks) × (p ≡ block_pair j) }
-    ensures { result ≡ P.lanes_of stored rows.now centered.now n j }
-{
-    if stored {
-        let s = RING_SAMPLES + j * BLOCK_SIZE;
-        return block_lanes(&rows[s..s + BLOCK_SIZE], centered);
-    }
-    robust_lanes::lane_models(
-        robust_lanes::lane_sums(rows, centered, p.a, p.b),
-        samples,
-        n,
-    )
+// Where a walk over the blocks has their models from.
+pub trait Blocks<const N: usize> {
+    ghost lanes_of: { Self → Row → ℕ → Models };
+
+    ghost seed_of: { Self → Row → Float → Float → Option SeedCandidate };
+
+    // What the four models of the block j bring to their scores; p is the block's first pair.
+    fn lanes(&self, centered: &[f32; N], p: Pair, j: usize) -> Models
+        requires { (N ≤ max_samples) × (j < blocks) × (p ≡ block_pair j) }
+        ensures { result ≡ lanes_of self.now centered.now j };
+
+    // The walk finds the seed.
+    ghost walked: { (s : Self) (centered : Row) (centered_ss mean : Float) → length centered ≡ N →
+        P.walk (count N) centered_ss mean (lanes_of s centered) ≡ seed_of s centered centered_ss mean };
 }
 
-// The seed of least residual over all allowed pairs, the earlier on a tie: of the grid's rows, or of a table's words where
-// they are stored. One walk serves both, so that what it does with a block has one caller and is compiled into it: with two
-// callers a ring of two starts took two fifths longer.
-pub fn best_seed(
-    rows: &[f32],
-    stored: bool,
-    centered: &[f32],
+// The grid's rows.
+#[derive(Clone, Copy)]
+pub struct Grid<'a, const N: usize> {
+    pub rows: &'a [GridRow; N],
+}
+
+impl<'a, const N: usize> Blocks<N> for Grid<'a, N> {
+    ghost lanes_of = { λ s centered j. P.grid_models N s.rows.now centered j };
+
+    ghost seed_of = { λ s centered centered_ss mean. best_of (score_at N s.rows.now centered centered_ss mean) };
+
+    ghost walked = { λ s centered centered_ss mean l. grid_walked N s.rows.now centered centered_ss mean l };
+
+    fn lanes(&self, centered: &[f32; N], p: Pair, _j: usize) -> Models {
+        robust_lanes::lane_models::<N>(robust_lanes::lane_sums(self.rows, centered, p.a, p.b))
+    }
+}
+
+// A table's words.
+#[derive(Clone, Copy)]
+pub struct Stored<'a> {
+    pub table: &'a [f32],
+    pub ghost sized: { length table.now ≡ W.table_size },
+}
+
+impl<'a> Blocks<RING_SAMPLES> for Stored<'a> {
+    ghost lanes_of = { λ s centered j. P.lanes_in W.ring_samples (W.block_part s.table.now j) centered };
+
+    ghost seed_of = { λ s centered centered_ss mean. M.best_cached W.ring_samples centered centered_ss mean (W.models_in s.table.now) };
+
+    ghost walked = { λ s centered centered_ss mean l. table_walked s.table.now centered centered_ss mean };
+
+    fn lanes(&self, centered: &[f32; RING_SAMPLES], _p: Pair, j: usize) -> Models {
+        let table = self.table;
+        let s = RING_SAMPLES + j * BLOCK_SIZE;
+        block_lanes(&table[s..s + BLOCK_SIZE], centered)
+    }
+}
+
+// The seed of least residual over all allowed pairs, the earlier on a tie.
+pub fn best_seed<const N: usize, B: Blocks<N>>(
+    models: &B,
+    centered: &[f32; N],
     centered_ss: f32,
     mean: f32,
 ) -> Option<SeedCandidate>
-    requires { P.RowsOf stored rows.now centered.now }
-    ensures { result ≡ P.seed_of stored rows.now centered.now centered_ss mean }
+    requires { N ≤ max_samples }
+    ensures { result ≡ B.seed_of models.now centered.now centered_ss mean }
 {
-    let samples = centered.len();
-    let n = floats::count_f32(samples);
     let mut best = robust_lanes::none_yet();
     let mut p = robust_grid::first_block();
     for j in 0..robust_grid::BLOCKS {
-        let m = lanes_of(rows, stored, centered, samples, n, p, j);
-        best = robust_grid::lanes_tried(best, m, samples, n, centered_ss, mean, p);
+        let m = models.lanes(centered, p, j);
+        best = robust_grid::lanes_tried::<N>(best, m, centered_ss, mean, p);
         p = robust_grid::next_block(p);
     }
     best.top
@@ -219,16 +243,17 @@ pub fn best_seed(
 
 // ---- the building of a table
 
-fn q_at(h: &[f32], a: usize, b: usize, i: usize) -> f32
-    requires { (length h.now ≡ grid_places * W.ring_samples + 2) × (a < 23) × (b < 23) × (i < W.ring_samples) }
+type GridRows = [GridRow; RING_SAMPLES];
+
+fn q_at(h: &GridRows, a: usize, b: usize, i: usize) -> f32
+    requires { (a < 23) × (b < 23) × (i < W.ring_samples) }
     ensures { result ≡ P.q_at h.now a b i }
 {
-    let k = i * robust_lanes::GRID_PLACES;
-    h[k + a] * h[k + b]
+    h[i][a] * h[i][b]
 }
 
-fn q_sums(h: &[f32], a: usize, b: usize) -> QSums
-    requires { (length h.now ≡ grid_places * W.ring_samples + 2) × (a < 23) × (b < 23) }
+fn q_sums(h: &GridRows, a: usize, b: usize) -> QSums
+    requires { (a < 23) × (b < 23) }
     ensures { result ≡ P.q_sums_at W.ring_samples h.now a b }
 {
     let mut s = QSums {
@@ -244,8 +269,8 @@ fn q_sums(h: &[f32], a: usize, b: usize) -> QSums
 }
 
 // The row r of the model of a and b: its sums are made anew for each word, since tables are stored once.
-fn lane_word(h: &[f32], a: usize, b: usize, r: usize) -> f32
-    requires { (length h.now ≡ grid_places * W.ring_samples + 2) × (a < 23) × (b < 23) × (r < 18) }
+fn lane_word(h: &GridRows, a: usize, b: usize, r: usize) -> f32
+    requires { (a < 23) × (b < 23) × (r < 18) }
     ensures { result ≡ W.lane_word (P.model_from h.now a b) r }
 {
     let s = q_sums(h, a, b);
@@ -260,8 +285,8 @@ fn lane_word(h: &[f32], a: usize, b: usize, r: usize) -> f32
 }
 
 // A word of a block: 0 in a lane that has no pair.
-fn block_word(h: &[f32], p: Pair, w: usize) -> f32
-    requires { (length h.now ≡ grid_places * W.ring_samples + 2) × (p.a < 21) × (p.b < 23) × (w < W.block_size) }
+fn block_word(h: &GridRows, p: Pair, w: usize) -> f32
+    requires { (p.a < 21) × (p.b < 23) × (w < W.block_size) }
     ensures { result ≡ W.block_word (P.model_from h.now) p w }
 {
     let k = w % 4;
@@ -271,8 +296,8 @@ fn block_word(h: &[f32], p: Pair, w: usize) -> f32
     0.0
 }
 
-fn fill_block(h: &[f32], p: Pair, block: &mut [f32])
-    requires { (length h.now ≡ grid_places * W.ring_samples + 2) × (p.a < 21) × (p.b < 23) × (length block.old ≡ W.block_size) }
+fn fill_block(h: &GridRows, p: Pair, block: &mut [f32])
+    requires { (p.a < 21) × (p.b < 23) × (length block.old ≡ W.block_size) }
     ensures { block.new ≡ W.block_of (P.model_from h.now) p }
 {
     for w in 0..BLOCK_SIZE {
@@ -290,8 +315,8 @@ fn put_angles(angles: &[f32], table: &mut [f32])
 }
 
 // The angles, then block by block.
-fn fill_table(angles: &[f32], h: &[f32], table: &mut [f32])
-    requires { (length angles.now ≡ W.ring_samples) × (length h.now ≡ grid_places * W.ring_samples + 2) × (length table.old ≡ W.table_size) }
+fn fill_table(angles: &[f32], h: &GridRows, table: &mut [f32])
+    requires { (length angles.now ≡ W.ring_samples) × (length table.old ≡ W.table_size) }
     ensures { table.new ≡ W.table_words angles.now (P.model_from h.now) }
 {
     put_angles(angles, table);
@@ -312,7 +337,7 @@ fn build_table(angles: &[f32], table: &mut [f32])
     let mut sphi = [0.0f32; RING_SAMPLES];
     let mut cphi = [0.0f32; RING_SAMPLES];
     solver::prepare(angles, &mut turned, &mut sphi, &mut cphi);
-    let mut h = [0.0f32; GRID_SIZE];
+    let mut h = [[0.0f32; robust_lanes::ROW_PLACES]; RING_SAMPLES];
     robust_grid::fill_grid(&sphi, &cphi, &mut h);
     fill_table(angles, &h, table);
 }

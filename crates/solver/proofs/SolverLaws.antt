@@ -1,8 +1,8 @@
 -- A pass by rows first and sums after is the pass sample by sample, since the rows are the samples' own and a product commutes; and each way out of
 -- the update loop is one unfolding of the definition. Assumes nothing.
-use Rattle.std.specs.Prelude.{◌≡◌, refl, true, false, length, set, pos, Option, Some, Float}
-use Rattle.std.proofs.Common.{sym, ap, ◌∙◌, inl, inr, eq-or-lt_of_le, length-set, get_or-set_same, get_or-set_other}
-use Prim.Native.Nat.{ℕ, suc, ◌+◌, ◌-◌, ◌*◌, ◌≤◌, ◌<◌}
+use Rattle.std.specs.Prelude.{◌≡◌, refl, true, false, List, length, pos, Option, Some, Float}
+use Rattle.std.proofs.Common.{sym, ap, ◌∙◌, inl, inr, eq-or-lt_of_le}
+use Prim.Native.Nat.{ℕ, suc, ◌+◌, ◌-◌, ◌≤◌, ◌<◌}
 use native.Mathlib.Omega.{arith}
 use Rattle.std.specs.Float.{nan, fin, binary32}
 use Rattle.std.specs.Float.Ieee.{lt, neg, of_bits}
@@ -15,18 +15,16 @@ use Rattle.elementary.specs.declared.SinCos.{SinCos}
 use Rattle.elementary.specs.declared.TwoSinCos.{TwoSinCos}
 use Rattle.loops.specs.Loops.{iter, tab}
 use Rattle.loops.proofs.IterLaws.{iter_same, iter_through}
-use Rattle.loops.proofs.TabLaws.{tab_at, tab_length, tab_same}
+use Rattle.loops.proofs.TabLaws.{tab_at, tab_length, tab_same, tab_self}
 use Rattle.solver_elimination.specs.Solve.{Matrix, solve4x4}
 use Rattle.floats.specs.Rows.{Row, at}
 use Rattle.solver_record.specs.declared.Params.{Params}
 use Rattle.solver.specs.declared.Sample.{Sample}
 use Rattle.solver.specs.declared.Sums.{Sums}
-use Rattle.solver_record.specs.declared.Started.{Started}
 use Rattle.solver.specs.Solver.{sample_at, Normal, empty, added, grown, pass, cut, small, moved, stay, to, step_of}
 use Rattle.solver.specs.Solver.{Final, updates_from, updates, sines, cosines}
-use Rattle.solver_record.specs.Record.{start_of}
 use Rattle.solver.specs.Record.{start_from}
-use Rattle.solver.specs.Buffers.{RingNear, TurnedTo, Sines, Prepared, sample_from, PassFilled, summed, no_sums, packed, spread, Stopped}
+use Rattle.solver.specs.Buffers.{RingNear, TurnedTo, Sines, Prepared, sample_from, filled, summed, no_sums, packed, spread}
 
 -- ---- the angles
 sixty_four : lit 0x4280_0000 ≡ fin false 1 (pos 6)
@@ -56,78 +54,23 @@ near_next ring_phi n a e = record {
     next : (i : ℕ) → i < n + 1 → i ≤ n
     next i l = omega arith
 
-prepared : (ring_phi turned sphi cphi : Row) → length turned ≡ length ring_phi →
-    ((i : ℕ) → i < length ring_phi → at turned i ≡ turn (at ring_phi i)) → Sines turned sphi cphi → Prepared ring_phi sphi cphi
+-- near angles are their own turned angles
+pub turned_near : (angles : Row) → RingNear (length angles) angles → TurnedTo angles angles
+turned_near angles a = record { is = sym (tab_self angles nan _ refl) ∙ tab_same _ _ (length angles) (λ i l. sym (a.is i l)) }
+
+pub prepared_turned : (ring_phi turned sphi cphi : Row) → TurnedTo ring_phi turned → Sines turned sphi cphi → Prepared ring_phi sphi cphi
 unfolding sin_cos
-prepared ring_phi turned sphi cphi len each h = record { s = h.s ∙ go (λ x. x.s); c = h.c ∙ go (λ x. x.c) }
+prepared_turned ring_phi turned sphi cphi t h = record { s = h.s ∙ go (λ x. x.s); c = h.c ∙ go (λ x. x.c) }
   where
     go : (f : SinCos → Float) → tab (λ i. f (sin_cos_near (at turned i))) (length turned) ≡
         tab (λ i. f (sin_cos_near (turn (at ring_phi i)))) (length ring_phi)
-    go f = ap (tab (λ i. f (sin_cos_near (at turned i)))) len ∙ tab_same _ _ (length ring_phi) (λ i l. ap (λ (x : Float). f (sin_cos_near x)) (each i l))
-
-pub prepared_near : (ring_phi sphi cphi : Row) → RingNear (length ring_phi) ring_phi → Sines ring_phi sphi cphi → Prepared ring_phi sphi cphi
-prepared_near ring_phi sphi cphi a h = prepared ring_phi ring_phi sphi cphi refl (λ i l. sym (a.is i l)) h
-
-pub prepared_turned : (ring_phi turned sphi cphi : Row) → TurnedTo ring_phi turned → Sines turned sphi cphi → Prepared ring_phi sphi cphi
-prepared_turned ring_phi turned sphi cphi t h =
-    prepared ring_phi turned sphi cphi (ap length t.is ∙ tab_length _ (length ring_phi))
-    (λ i l. ap (λ (x : Row). at x i) t.is ∙ tab_at (λ i. turn (at ring_phi i)) nan (length ring_phi) i l) h
+    go f =
+        ap (tab (λ i. f (sin_cos_near (at turned i)))) (ap length t.is ∙ tab_length _ (length ring_phi))
+        ∙ tab_same _ _ (length ring_phi) (λ i l. ap (λ (x : Float). f (sin_cos_near x))
+        (ap (λ (x : Row). at x i) t.is ∙ tab_at (λ i. turn (at ring_phi i)) nan (length ring_phi) i l))
 
 pub prepared_length : (ring_phi sphi cphi : Row) → Prepared ring_phi sphi cphi → (length sphi ≡ length ring_phi) × (length cphi ≡ length ring_phi)
 prepared_length ring_phi sphi cphi p = (ap length p.s ∙ tab_length _ (length ring_phi), ap length p.c ∙ tab_length _ (length ring_phi))
-
--- ---- four stores a turn
-abbrev four : Row → ℕ → Sample → Row
-four js i t = set (set (set (set js (4 * i) t.r) (4 * i + 1) t.q) (4 * i + 2) t.d1) (4 * i + 3) t.d2
-
-module _ (js : Row) (i : ℕ) (t : Sample) where
-  before_four : (p : ℕ) → p < 4 * i → at (four js i t) p ≡ at js p
-  before_four p h =
-      get_or-set_other (set (set (set js (4 * i) t.r) (4 * i + 1) t.q) (4 * i + 2) t.d1) (4 * i + 3) p t.d2 nan (λ e. omega arith)
-      ∙ get_or-set_other (set (set js (4 * i) t.r) (4 * i + 1) t.q) (4 * i + 2) p t.d1 nan (λ e. omega arith)
-      ∙ get_or-set_other (set js (4 * i) t.r) (4 * i + 1) p t.q nan (λ e. omega arith) ∙ get_or-set_other js (4 * i) p t.r nan (λ e. omega arith)
-
-  at_four : 4 * i + 4 ≤ length js → sample_from (four js i t) i ≡ t
-  at_four h = rw (r, q, d1, d2)
-    where
-      a : Row
-      a = set js (4 * i) t.r
-
-      b : Row
-      b = set a (4 * i + 1) t.q
-
-      c : Row
-      c = set b (4 * i + 2) t.d1
-
-      r : at (four js i t) (4 * i) ≡ t.r
-      r =
-          get_or-set_other c (4 * i + 3) (4 * i) t.d2 nan (λ e. omega arith) ∙ get_or-set_other b (4 * i + 2) (4 * i) t.d1 nan (λ e. omega arith)
-          ∙ get_or-set_other a (4 * i + 1) (4 * i) t.q nan (λ e. omega arith) ∙ get_or-set_same js (4 * i) t.r nan (omega arith)
-
-      q : at (four js i t) (4 * i + 1) ≡ t.q
-      q =
-          get_or-set_other c (4 * i + 3) (4 * i + 1) t.d2 nan (λ e. omega arith) ∙ get_or-set_other b (4 * i + 2) (4 * i + 1) t.d1 nan (λ e. omega arith)
-          ∙ get_or-set_same a (4 * i + 1) t.q nan (simp length-set (omega arith))
-
-      d1 : at (four js i t) (4 * i + 2) ≡ t.d1
-      d1 =
-          get_or-set_other c (4 * i + 3) (4 * i + 2) t.d2 nan (λ e. omega arith)
-          ∙ get_or-set_same b (4 * i + 2) t.d1 nan (simp length-set (omega arith))
-
-      d2 : at (four js i t) (4 * i + 3) ≡ t.d2
-      d2 = get_or-set_same c (4 * i + 3) t.d2 nan (simp length-set (omega arith))
-
-pub filled_next : (f : ℕ → Sample) (js : Row) (i : ℕ) (t : Sample) → 4 * i + 4 ≤ length js → t ≡ f i →
-    ((k : ℕ) → k < i → sample_from js k ≡ f k) → (k : ℕ) → k < i + 1 → sample_from (four js i t) k ≡ f k
-filled_next f js i t room e before k h = elim (eq-or-lt_of_le (next h)) [
-  | inl z ↦ rw z (at_four js i t room ∙ e)
-  | inr l ↦
-      let kept = before_four js i t in
-      rw (kept (4 * k) (omega arith), kept (4 * k + 1) (omega arith), kept (4 * k + 2) (omega arith), kept (4 * k + 3) (omega arith)) (before k l)
-]
-  where
-    next : k < i + 1 → k ≤ i
-    next h = omega arith
 
 -- ---- rows first, sums after
 -- the sums after some samples say what the definition's state is after them
@@ -147,15 +90,22 @@ packed_next t s =
       turned t.d2 t.r,
     )
 
-pub packed_all : (js : Row) (n : ℕ) → spread (iter (λ i. packed (sample_from js i)) no_sums n) ≡ summed n js
-packed_all js n = unfold empty in iter_through spread _ (λ i. added (sample_from js i)) no_sums n (λ i s. packed_next (sample_from js i) s)
+pub packed_all : (js : List Sample) → spread (iter (λ i. packed (sample_from js i)) no_sums (length js)) ≡ summed js
+packed_all js =
+    unfold empty in iter_through spread _ (λ i. added (sample_from js i)) no_sums (length js) (λ i s. packed_next (sample_from js i) s)
 
-pub pass_split : (p : Params) (samples sphi cphi js : Row) (l : Normal) (t : TwoSinCos) → t ≡ sin_cos_two p.theta1 p.theta2 →
-    PassFilled p (record { s = t.s1; c = t.c1 }) (record { s = t.s2; c = t.c2 }) samples sphi cphi js → l ≡ summed (length samples) js →
+pub pass_split : (p : Params) (samples sphi cphi : Row) (js : List Sample) (l : Normal) (t : TwoSinCos) → t ≡ sin_cos_two p.theta1 p.theta2 →
+    js ≡ filled p (record { s = t.s1; c = t.c1 }) (record { s = t.s2; c = t.c2 }) samples sphi cphi → l ≡ summed js →
     l ≡ pass (length samples) p samples sphi cphi
-unfolding pass
-pass_split p samples sphi cphi js l t e f s = s ∙ iter_same _ _ empty (length samples) (λ i h x. ap (λ (t : Sample). added t x) (f.is i h ∙ same i))
+unfolding pass filled
+pass_split p samples sphi cphi js l t e f s =
+    s ∙ ap (iter (λ i. added (sample_from js i)) empty) (ap length f ∙ tab_length _ (length samples))
+    ∙ iter_same _ _ empty (length samples) (λ i h x. ap (λ (t : Sample). added t x) (here i h ∙ same i))
   where
+    here : (i : ℕ) → i < length samples → sample_from js i ≡
+        sample_at p (record { s = t.s1; c = t.c1 }) (record { s = t.s2; c = t.c2 }) (at samples i) (at sphi i) (at cphi i)
+    here i h = ap (λ (js : List Sample). sample_from js i) f ∙ tab_at _ _ (length samples) i h
+
     same : (i : ℕ) → sample_at p (record { s = t.s1; c = t.c1 }) (record { s = t.s2; c = t.c2 }) (at samples i) (at sphi i) (at cphi i) ≡
         sample_at p (sin_cos p.theta1) (sin_cos p.theta2) (at samples i) (at sphi i) (at cphi i)
     same i = unfold sin_cos_two in rw e
@@ -191,20 +141,6 @@ pub solved_by : (l : Normal) (m : Matrix) (v : Row) (s : Option Row) → m ≡ l
 solved_by l m v s em ev e = rw (← em, ← ev) e
 
 -- ---- the start, from where the updates stopped
-pub stopped_at : (p : Params) (l : Normal) (jtj : Matrix) (ssr : Float) (k : ℕ) (f : Final) → jtj ≡ l.m → ssr ≡ l.ssr →
-    record { p = p; last = l; updates = k } ≡ f → Stopped p jtj ssr k f
-stopped_at p l jtj ssr k f em es e =
-    record {
-      params = ap (λ (x : Final). x.p) e;
-      matrix = em ∙ ap (λ (x : Final). x.last.m) e;
-      squares = es ∙ ap (λ (x : Final). x.last.ssr) e;
-      updates = ap (λ (x : Final). x.updates) e;
-    }
-
-pub whole_stopped : (n : ℕ) (p : Params) (jtj : Matrix) (ssr : Float) (k : ℕ) (f : Final) (r : Started) → Stopped p jtj ssr k f →
-    r ≡ start_of n p jtj ssr k → r ≡ start_from n f
-whole_stopped n p jtj ssr k f r s e = rw (← s.params, ← s.matrix, ← s.squares, ← s.updates, e)
-
 pub whole_prepared : (n : ℕ) (samples ring_phi sphi cphi : Row) (seed : Params) → Prepared ring_phi sphi cphi → length ring_phi ≡ n →
     start_from n (updates n samples sphi cphi seed) ≡ start_from n (updates n samples (sines n ring_phi) (cosines n ring_phi) seed)
 whole_prepared n samples ring_phi sphi cphi seed h l = rw (h.s, h.c, l)

@@ -1,10 +1,10 @@
 -- What the lent buffers of a start hold, and the sums in which a pass leaves its normal matrix. Definitions only.
-use Rattle.std.specs.Prelude.{◌≡◌, [], ◌∷◌, ℕ, ◌+◌, ◌*◌, ◌≤◌, ◌<◌, length, Float}
+use Rattle.std.specs.Prelude.{◌≡◌, List, [], ◌∷◌, ℕ, ◌≤◌, ◌<◌, length, get_or}
+use Rattle.std.specs.Float.{nan}
 use Rattle.floats.specs.Ops.{◌⊕◌, ◌⊗◌, nought, one}
 use Rattle.elementary.specs.Elementary.{sin_cos_near, turn}
 use Rattle.elementary.specs.declared.SinCos.{SinCos}
 use Rattle.loops.specs.Loops.{iter, tab}
-use Rattle.solver_elimination.specs.Solve.{Matrix}
 use Rattle.floats.specs.Rows.{Row, at}
 use Rattle.solver_record.specs.declared.Params.{Params}
 use Rattle.solver.specs.declared.Sample.{Sample}
@@ -33,23 +33,26 @@ pub record Prepared (ring_phi sphi cphi : Row) : Type 0 where
 abbrev pub max_samples : ℕ
 max_samples = 24
 
--- a sine and a cosine for each sample, and four places in js
-pub record PassRoom (samples sphi cphi js : Row) : Type 0 where
+-- every buffer of a start has a place for each sample
+pub record StartRoom (samples ring_phi turned sphi cphi : Row) (js : List Sample) : Type 0 where
   pub few : length samples ≤ max_samples
+  pub phi : length ring_phi ≡ length samples
+  pub t : length turned ≡ length samples
   pub s : length sphi ≡ length samples
   pub c : length cphi ≡ length samples
-  pub j : length js ≡ 4 * length samples
+  pub j : length js ≡ length samples
 
 -- sample i as it stands in js
-abbrev pub sample_from : Row → ℕ → Sample
-sample_from js i = record { r = at js (4 * i); q = at js (4 * i + 1); d1 = at js (4 * i + 2); d2 = at js (4 * i + 3) }
+abbrev pub sample_from : List Sample → ℕ → Sample
+sample_from js i = get_or js i (record { r = nan; q = nan; d1 = nan; d2 = nan })
 
-pub record PassFilled (p : Params) (t1 t2 : SinCos) (samples sphi cphi js : Row) : Type 0 where
-  pub is : (i : ℕ) → i < length samples → sample_from js i ≡ sample_at p t1 t2 (at samples i) (at sphi i) (at cphi i)
+-- all samples at the parameters p, whose angles have the sines and cosines t1 and t2
+unfoldable pub filled : Params → SinCos → SinCos → Row → Row → Row → List Sample
+filled p t1 t2 samples sphi cphi = tab (λ i. sample_at p t1 t2 (at samples i) (at sphi i) (at cphi i)) (length samples)
 
 -- the normal matrix, the right-hand side and the sum of squares of the samples in js
-abbrev pub summed : ℕ → Row → Normal
-summed n js = iter (λ i. added (sample_from js i)) empty n
+abbrev pub summed : List Sample → Normal
+summed js = iter (λ i. added (sample_from js i)) empty (length js)
 
 -- ---- the same, each entry of the symmetric matrix summed once
 abbrev pub no_sums : Sums
@@ -104,9 +107,6 @@ spread s =
       ssr = s.rr;
     }
 
--- ---- where the updates stopped, by its parts: the right-hand side of the last pass is not kept
-pub record Stopped (p : Params) (jtj : Matrix) (ssr : Float) (count : ℕ) (f : Final) : Type 0 where
-  pub params : p ≡ f.p
-  pub matrix : jtj ≡ f.last.m
-  pub squares : ssr ≡ f.last.ssr
-  pub updates : count ≡ f.updates
+-- ---- where the updates stopped, with the sums of the last pass
+abbrev pub final : Params → Sums → ℕ → Final
+final p s k = record { p = p; last = spread s; updates = k }

@@ -1,7 +1,7 @@
 // The Gauss-Newton fit from a seed: ring_fit/solver.rs, fit_with_seed.
 #![tactic(auto)]
 
-ghost use Rattle.std.specs.Prelude.{◌≡◌, true, ◌*◌, ◌≤◌, length};
+ghost use Rattle.std.specs.Prelude.{◌≡◌, true, ◌≤◌, length};
 ghost use Rattle.solver.specs.Solver as S;
 ghost use Rattle.solver.specs.Record as R;
 ghost use Rattle.elementary.specs.Elementary.{turn};
@@ -18,13 +18,33 @@ const GN_MAX_ANGLE_STEP: f32 = 0.5;
 
 const GN_TOL: f32 = 1e-4;
 
+// A ring's samples, and beside each the sine and the cosine of its angle.
+#[derive(Clone, Copy)]
+pub struct Ring<'a> {
+    pub samples: &'a [f32],
+    pub sphi: &'a [f32],
+    pub cphi: &'a [f32],
+    pub ghost few: { length samples.now ≤ B.max_samples },
+    pub ghost sines: { length sphi.now ≡ length samples.now },
+    pub ghost cosines: { length cphi.now ≡ length samples.now },
+}
+
 // A sample's residual, and its row 1, q, d1, d2 of the Jacobian.
-#[derive(Drop)]
+#[derive(Clone, Copy)]
 pub struct Sample {
     pub r: f32,
     pub q: f32,
     pub d1: f32,
     pub d2: f32,
+}
+
+impl Sample {
+    pub const NONE: Sample = Sample {
+        r: 0.0,
+        q: 0.0,
+        d1: 0.0,
+        d2: 0.0,
+    };
 }
 
 // The sums that a pass leaves: of r and the row; of r times each; of the row's products; and of 1,
@@ -78,24 +98,26 @@ fn near_too(near: bool, x: f32) -> bool
 }
 
 // No early return, so that the loop becomes vector code.
-pub fn all_near(ring_phi: &[f32]) -> bool
-    ensures { result ≡ true → B.RingNear (length ring_phi.now) ring_phi.now }
+fn all_near(angles: &[f32]) -> bool
+    ensures { result ≡ true → B.RingNear (length angles.now) angles.now }
 {
-    let n = ring_phi.len();
     let mut near = true;
-    for i in 0..n {
-        near = near_too(near, ring_phi[i]);
+    for x in angles {
+        near = near_too(near, *x);
     }
     near
 }
 
-fn turn_all(ring_phi: &[f32], turned: &mut [f32])
-    requires { length turned.old ≡ length ring_phi.now }
-    ensures { B.TurnedTo ring_phi.now turned.new }
+// Angles are brought to at most 64 in size in a loop of their own: the remainder in `turn` is a call, and would keep the loop
+// of sines from being vector code. The usual angles are near, and `turn` leaves them.
+pub fn turn_all(angles: &mut [f32])
+    ensures { B.TurnedTo angles.old angles.new }
 {
-    let n = ring_phi.len();
-    for i in 0..n {
-        turned[i] = elementary::turn(ring_phi[i]);
+    if all_near(angles) {
+        return;
+    }
+    for x in angles.iter_mut() {
+        *x = elementary::turn(*x);
     }
 }
 
@@ -112,43 +134,27 @@ pub fn sin_cos_all(turned: &[f32], sphi: &mut [f32], cphi: &mut [f32])
 }
 
 // The trigonometric functions of the angles depend on the ring alone, so they are worked out once.
-// Angles are brought below 64 in size first, in a loop of their own: the remainder in `turn` is a
-// call, and would keep the other loop from being vector code.
 pub fn prepare(ring_phi: &[f32], turned: &mut [f32], sphi: &mut [f32], cphi: &mut [f32])
     requires { (length turned.old ≡ length ring_phi.now) × (length sphi.old ≡ length ring_phi.now) ×
         (length cphi.old ≡ length ring_phi.now) }
     ensures { B.Prepared ring_phi.now sphi.new cphi.new }
 {
-    if all_near(ring_phi) {
-        sin_cos_all(ring_phi, sphi, cphi);
-        return;
-    }
-    turn_all(ring_phi, turned);
+    turned.copy_from_slice(ring_phi);
+    turn_all(turned);
     sin_cos_all(turned, sphi, cphi);
 }
 
-// The residual and the Jacobian's row of each sample, side by side in four places: this loop has no
-// running sum, so it becomes vector code.
-fn fill(
-    samples: &[f32],
-    sphi: &[f32],
-    cphi: &[f32],
-    p: Params,
-    t1: SinCos,
-    t2: SinCos,
-    js: &mut [f32],
-)
-    requires { B.PassRoom samples.now sphi.now cphi.now js.old }
-    ensures { B.PassFilled p t1 t2 samples.now sphi.now cphi.now js.new }
+// The residual and the Jacobian's row of each sample: this loop has no running sum, so it becomes vector code.
+fn fill(ring: &Ring, p: Params, t1: SinCos, t2: SinCos, js: &mut [Sample])
+    requires { length js.old ≡ length ring.now.samples.now }
+    ensures { js.new ≡ B.filled p t1 t2 ring.now.samples.now ring.now.sphi.now ring.now.cphi.now }
 {
+    let samples = ring.samples;
+    let sphi = ring.sphi;
+    let cphi = ring.cphi;
     let n = samples.len();
     for i in 0..n {
-        let t = sample_at(p, t1, t2, samples[i], sphi[i], cphi[i]);
-        let k = 4 * i;
-        js[k] = t.r;
-        js[k + 1] = t.q;
-        js[k + 2] = t.d1;
-        js[k + 3] = t.d2;
+        js[i] = sample_at(p, t1, t2, samples[i], sphi[i], cphi[i]);
     }
 }
 
@@ -198,34 +204,26 @@ fn no_sums() -> Sums
 }
 
 // The sums of all samples, in their order.
-fn add_up(js: &[f32], n: usize) -> Sums
-    requires { (n ≤ B.max_samples) × (length js.now ≡ 4 * n) }
-    ensures { B.spread result ≡ B.summed n js.now }
+fn add_up(js: &[Sample]) -> Sums
+    ensures { B.spread result ≡ B.summed js.now }
 {
     let mut s = no_sums();
-    for i in 0..n {
-        let k = 4 * i;
-        let t = Sample {
-            r: js[k],
-            q: js[k + 1],
-            d1: js[k + 2],
-            d2: js[k + 3],
-        };
-        s = packed(s, t);
+    for t in js {
+        s = packed(s, *t);
     }
     s
 }
 
 // One pass over the samples at the parameters p.
-fn pass(samples: &[f32], sphi: &[f32], cphi: &[f32], p: Params, js: &mut [f32]) -> Sums
-    requires { B.PassRoom samples.now sphi.now cphi.now js.old }
-    ensures { B.spread result ≡ S.pass (length samples.now) p samples.now sphi.now cphi.now }
+fn pass(ring: &Ring, p: Params, js: &mut [Sample]) -> Sums
+    requires { length js.old ≡ length ring.now.samples.now }
+    ensures { B.spread result ≡ S.pass (length ring.now.samples.now) p ring.now.samples.now ring.now.sphi.now ring.now.cphi.now }
 {
     let t = elementary::sin_cos_two(p.theta1, p.theta2);
     let t1 = SinCos { s: t.s1, c: t.c1 };
     let t2 = SinCos { s: t.s2, c: t.c2 };
-    fill(samples, sphi, cphi, p, t1, t2, js);
-    add_up(js, samples.len())
+    fill(ring, p, t1, t2, js);
+    add_up(js)
 }
 
 // The normal matrix: a mirrored entry is the same sum, since a product commutes.
@@ -280,33 +278,23 @@ struct Run {
     count: usize,
 }
 
-// Passes until six updates were made, the elimination fails or the steps are small. The last pass
-// belongs to the final parameters, and leaves its matrix in `jtj`.
-fn run_updates(
-    samples: &[f32],
-    sphi: &[f32],
-    cphi: &[f32],
-    seed: Params,
-    js: &mut [f32],
-    jtj: &mut [[f32; 4]; 4],
-) -> Run
-    requires { B.PassRoom samples.now sphi.now cphi.now js.old }
-    ensures { B.Stopped result.p jtj.new result.s.rr result.count
-        (S.updates (length samples.now) samples.now sphi.now cphi.now seed) }
+// Passes until six updates were made, the elimination fails or the steps are small. The last pass belongs to the final
+// parameters.
+fn run_updates(ring: &Ring, seed: Params, js: &mut [Sample]) -> Run
+    requires { length js.old ≡ length ring.now.samples.now }
+    ensures { B.final result.p result.s result.count ≡
+        S.updates (length ring.now.samples.now) ring.now.samples.now ring.now.sphi.now ring.now.cphi.now seed }
 {
     let mut p = seed;
     let mut count = 0usize;
     // Two calls, here and at the loop's end, keep `pass` a function of its own: put into the loop, its
     // sums would be packed as the matrix is, at 47 instructions a sample and not 21.
-    let mut s = pass(samples, sphi, cphi, p, js);
+    let mut s = pass(ring, p, js);
     loop {
-        let m = matrix_of(s);
-        *jtj = m;
-        let jtr = right_of(s);
         if count >= GN_MAX_ITERS {
             break;
         }
-        let Some(d) = solver_elimination::solve_4x4(jtj, &jtr) else {
+        let Some(d) = solver_elimination::solve_4x4(&matrix_of(s), &right_of(s)) else {
             break;
         };
         let c2 = cut(d[2]);
@@ -316,47 +304,48 @@ fn run_updates(
         }
         p = moved(p, d[0], d[1], c2, c3);
         count += 1;
-        s = pass(samples, sphi, cphi, p, js);
+        s = pass(ring, p, js);
     }
     Run { p, s, count }
 }
 
-// A start that is not degenerate, once the sines and cosines are there. `js` is lent: four places a
-// sample, and of no meaning afterwards.
-pub fn fit_prepared(
-    samples: &[f32],
-    seed: Params,
-    sphi: &[f32],
-    cphi: &[f32],
-    js: &mut [f32],
-) -> Started
-    requires { B.PassRoom samples.now sphi.now cphi.now js.old }
-    ensures { result ≡ R.start_from (length samples.now)
-        (S.updates (length samples.now) samples.now sphi.now cphi.now seed) }
+// A start that is not degenerate, once the sines and cosines are there. `js` is lent: a place for each sample, and of no
+// meaning afterwards.
+pub fn fit_prepared(ring: &Ring, seed: Params, js: &mut [Sample]) -> Started
+    requires { length js.old ≡ length ring.now.samples.now }
+    ensures { result ≡ R.start_from (length ring.now.samples.now)
+        (S.updates (length ring.now.samples.now) ring.now.samples.now ring.now.sphi.now ring.now.cphi.now seed) }
 {
-    let mut jtj = [[0.0f32; 4]; 4];
-    let run = run_updates(samples, sphi, cphi, seed, js, &mut jtj);
+    let run = run_updates(ring, seed, js);
     let s = run.s;
-    solver_record::finished(run.p, &jtj, s.rr, samples.len(), run.count)
+    solver_record::finished(run.p, &matrix_of(s), s.rr, ring.samples.len(), run.count)
 }
 
-// The buffers are lent: as long as the samples, `js` four times that, and of no meaning afterwards.
+// The buffers are lent: as long as the samples, and of no meaning afterwards.
 pub fn fit_with_seed(
     samples: &[f32],
     ring_phi: &[f32],
     seed: Params,
     centered_var: f32,
+    turned: &mut [f32],
     sphi: &mut [f32],
     cphi: &mut [f32],
-    js: &mut [f32],
+    js: &mut [Sample],
 ) -> Started
-    requires { (length ring_phi.now ≡ length samples.now) × B.PassRoom samples.now sphi.old cphi.old js.old }
+    requires { B.StartRoom samples.now ring_phi.now turned.old sphi.old cphi.old js.old }
     ensures { result ≡ R.record_with_seed (length samples.now) samples.now ring_phi.now seed centered_var }
 {
     if solver_record::is_degenerate(seed.amp, centered_var) {
         return solver_record::refused(centered_var, seed.mu);
     }
-    let n = ring_phi.len();
-    prepare(ring_phi, &mut js[0..n], sphi, cphi);
-    fit_prepared(samples, seed, sphi, cphi, js)
+    prepare(ring_phi, turned, sphi, cphi);
+    fit_prepared(
+        &Ring {
+            samples,
+            sphi,
+            cphi,
+        },
+        seed,
+        js,
+    )
 }

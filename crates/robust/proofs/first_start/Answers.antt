@@ -2,7 +2,7 @@
 use Rattle.robust.proofs.first_start.Goals as goal
 
 pub returns : goal.returns
-returns c =
+returns g c =
     let made = c.start-primary.ensures in
     record {
       value =
@@ -13,6 +13,7 @@ returns c =
             c.deviations.ensures,
             c.total.ensures,
             c.count_f32-count.ensures,
+            c.requires.size,
           );
       prepared = made.prepared;
     }

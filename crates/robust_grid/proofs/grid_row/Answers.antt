@@ -1,11 +1,10 @@
 -- A loop of stores makes the list of its elements. Assumes nothing.
-use mathlib.Core.Path.{◌≡◌}
-use native.Mathlib.Omega.{arith}
-use lib.Ieee.{nan}
-use Rattle.loops.proofs.TabLaws.{stores_none, stores_next, stores_all}
+use Rattle.std.proofs.Common.{rules, arith, ◌≡◌, ◌∙◌, ap, take}
+use Rattle.std.proofs.Math.Seq.{take_at}
+use Rattle.std.specs.Float.{nan}
+use Rattle.loops.proofs.TabLaws.{tab_length, stored, stores_none, stores_next}
 use Rattle.robust_grid.specs.Grid.{factor}
 use Rattle.robust_grid.specs.Places as P
-use borrow.Author.Rules.{rules}
 use Rattle.robust_grid.proofs.grid_row.Goals as goal
 
 pub loop-a-init : goal.loop-a-init
@@ -20,4 +19,4 @@ pub returns : goal.returns
 unfolding P.row_from
 returns c =
     let h : c.loop-a.a ≡ 24 = omega arith in
-    stores_all _ _ _ nan _ (rw h at c.loop-a.invariant.1) (omega arith)
+    ap (take 24) ((rw h at c.loop-a.invariant.1).is ∙ stored _ _ nan 24 (omega arith)) ∙ take_at _ _ 24 (tab_length _ 24)

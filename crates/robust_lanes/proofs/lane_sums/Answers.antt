@@ -1,9 +1,17 @@
--- Either call adds all samples. Assumes nothing.
-use mathlib.Core.Path.{sym}
+-- The loop keeps the sums of the four pairs so far. Assumes nothing.
+use Rattle.std.proofs.Common.{arith, ◌≡◌, get_or, []}
+use Rattle.robust_lanes.specs.LaneLaws.{lanes_none, lanes_more, lane_places}
 use Rattle.robust_lanes.proofs.lane_sums.Goals as goal
 
-pub sums_of-requires : goal.sums_of-requires
-sums_of-requires c = let pre = c.requires in (pre.0, sym c.if-n-eq16.true, pre.1, pre.2)
+pub loop-i-init : goal.loop-i-init
+loop-i-init g c = lanes_none _ _ _ _
 
-pub returns-then-n-eq16 : goal.returns-then-n-eq16
-returns-then-n-eq16 c = rw c.if-n-eq16.true c.sums_of.ensures
+pub loop-i-preserved : goal.loop-i-preserved
+loop-i-preserved g c =
+    let places = lane_places (get_or c.args.h.now c.loop-i.i []) c.args.b in
+    lanes_more _ _ _ _ _ _ _ _ c.loop-i.invariant places c.lanes_added-s.ensures
+
+pub returns : goal.returns
+returns g c =
+    let h : c.loop-i.i ≡ g.row.N = omega arith in
+    rw h at c.loop-i.invariant

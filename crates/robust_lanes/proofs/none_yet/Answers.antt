@@ -3,6 +3,6 @@ use mathlib.Core.Path.{refl}
 use lib.Ieee.{div, of_bits}
 use Rattle.robust_lanes.proofs.none_yet.Goals as goal
 
-pub returns : goal.returns
+pub invariant_of-result : goal.invariant_of-result
 unfolding div of_bits
-returns c = (refl, record { is = refl })
+invariant_of-result c = record { kept = refl }

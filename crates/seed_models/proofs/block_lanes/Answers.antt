@@ -16,7 +16,7 @@ pub loop-i-preserved : goal.loop-i-preserved
 loop-i-preserved c =
     let a = c.args in
     let places = lane_places a.block.now (8 + 4 * c.loop-i.i) in
-    (search rules, sums_next a.block.now a.centered.now c.loop-i.i _ _ _ c.loop-i.invariant.1 places c.num_added-next.ensures)
+    (search rules, sums_next a.block.now a.centered.now c.loop-i.i _ _ _ c.loop-i.invariant.1 places c.num_added-m.ensures)
 
 pub returns : goal.returns
 returns c = let h : c.loop-i.i ≡ 16 = omega arith in rw h at c.loop-i.invariant.1

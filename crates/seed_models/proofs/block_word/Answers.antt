@@ -13,7 +13,7 @@ lane_word-requires c =
     let w = c.args.w in
     let pair = sym c.is_pair.ensures ∙ c.if-is_pair.true in
     let last = leb-true (p.b + w % 4) (last_of p.a) pair in
-    (c.requires.0, omega (arith, c.requires.1), omega (arith, last, last_most p.a), omega (arith, c.requires.3))
+    (omega (arith, c.requires.0), omega (arith, last, last_most p.a), omega (arith, c.requires.2))
 
 pub returns-then-is_pair : goal.returns-then-is_pair
 returns-then-is_pair c = let pair = sym c.is_pair.ensures ∙ c.if-is_pair.true in rw pair c.lane_word.ensures

@@ -16,7 +16,7 @@ unfolding G.block_pair
 loop-j-init c =
     let put = c.put_angles in (
       search rules,
-      put.auto.table ∙ c.requires.2,
+      put.auto.table ∙ c.requires.1,
       rw iter_zero c.first_block-p.ensures,
       fill_none _ _ c.requires.0 c.args.table.now put.new.table put.ensures,
     )
@@ -25,7 +25,7 @@ pub fill_block-requires : goal.fill_block-requires
 fill_block-requires c =
     let l = c.loop-j in
     let inside = block_inside l.j c.loop-j-test.true in
-    (c.requires.1, rw l.invariant.2 inside.0, rw l.invariant.2 inside.1, simp (length-take, length-drop) (omega (arith, l.invariant.1)))
+    (rw l.invariant.2 inside.0, rw l.invariant.2 inside.1, simp (length-take, length-drop) (omega (arith, l.invariant.1)))
 
 pub next_block-p-requires : goal.next_block-p-requires
 next_block-p-requires c =
@@ -52,7 +52,7 @@ loop-j-preserved c =
     )
 
 pub shape_of-table : goal.shape_of-table
-shape_of-table c = c.loop-j.invariant.1 ∙ sym c.requires.2
+shape_of-table c = c.loop-j.invariant.1 ∙ sym c.requires.1
 
 pub returns : goal.returns
 returns c =

@@ -10,5 +10,5 @@ returns-then-r-eq1 c = word_denom _ _ _ _ c.q_sums-s.ensures _ c.if-r-eq1.true
 
 pub returns : goal.returns
 returns c =
-    let few = c.requires.3 in
+    let few = c.requires.2 in
     word_centered _ _ _ _ c.q_sums-s.ensures _ _ c.if-r-eq0.false c.if-r-eq1.false few c.q_at.ensures

@@ -10,4 +10,4 @@ returns-then-is_degenerate c = rw (← c.is_degenerate.ensures, c.if-is_degenera
 
 pub returns : goal.returns
 unfolding record_with_seed
-returns c = rw (← c.is_degenerate.ensures, c.if-is_degenerate.false) (c.fit_prepared.ensures ∙ whole_prepared _ _ _ _ _ _ c.prepare.ensures c.requires.0)
+returns c = rw (← c.is_degenerate.ensures, c.if-is_degenerate.false) (c.fit_prepared.ensures ∙ whole_prepared _ _ _ _ _ _ c.prepare.ensures c.requires.phi)

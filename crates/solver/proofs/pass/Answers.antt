@@ -3,5 +3,5 @@ use Rattle.solver.proofs.SolverLaws.{pass_split}
 use Rattle.solver.proofs.pass.Goals as goal
 
 pub returns : goal.returns
-returns c = let a = c.args in
-    pass_split a.p a.samples.now a.sphi.now a.cphi.now _ _ _ c.sin_cos_two-t.ensures c.fill.ensures c.add_up.ensures
+returns c = let r = c.args.ring.now in
+    pass_split c.args.p r.samples.now r.sphi.now r.cphi.now _ _ _ c.sin_cos_two-t.ensures c.fill.ensures c.add_up.ensures

@@ -3,7 +3,7 @@ use mathlib.Core.Path.{refl, ◌∙◌, sym, ap}
 use native.Mathlib.Omega.{arith}
 use Rattle.solver.specs.Solver.{step_of, updates}
 use Rattle.solver.specs.Buffers.{spread}
-use Rattle.solver.proofs.SolverLaws.{run_full, run_stay, run_to, step_stay, step_to, solved_by, stopped_at}
+use Rattle.solver.proofs.SolverLaws.{run_full, run_stay, run_to, step_stay, step_to, solved_by}
 use borrow.Author.Rules.{rules}
 use Rattle.solver.proofs.run_updates.Goals as goal
 
@@ -11,15 +11,12 @@ pub loop-count-init : goal.loop-count-init
 unfolding updates
 loop-count-init c = (search rules, search rules, c.pass-s.ensures, refl)
 
-pub pass-s-requires-in-loop-count : goal.pass-s-requires-in-loop-count
-pass-s-requires-in-loop-count c = record { few = c.requires.few; s = c.requires.s; c = c.requires.c; j = c.loop-count.invariant.1 }
-
 pub loop-count-smaller : goal.loop-count-smaller
 loop-count-smaller c = omega (arith, c.if-count-ge-GN_MAX_ITERS.false)
 
 pub loop-count-preserved : goal.loop-count-preserved
 loop-count-preserved c = let l = spread c.loop-count.s in
-    let e = solved_by l _ _ _ c.matrix_of-m.ensures c.right_of-jtr.ensures c.solve_4x4.ensures in
+    let e = solved_by l _ _ _ c.matrix_of.ensures c.right_of.ensures c.solve_4x4.ensures in
     let big = sym c.is_small.ensures ∙ c.if-is_small.false in
     let s = step_to _ _ _ _ _ c.in-Some.is c.cut-c2.ensures c.cut-c3.ensures _ big c.moved-p.ensures in (
       search rules,
@@ -29,18 +26,17 @@ loop-count-preserved c = let l = spread c.loop-count.s in
     )
 
 pub returns-then-count-ge-GN_MAX_ITERS : goal.returns-then-count-ge-GN_MAX_ITERS
-returns-then-count-ge-GN_MAX_ITERS c = let l = spread c.loop-count.s in
-    stopped_at _ l _ _ _ _ c.matrix_of-m.ensures refl (run_full _ _ _ _ _ _ l c.loop-count.invariant.2 (search rules) ∙ c.loop-count.invariant.3)
+returns-then-count-ge-GN_MAX_ITERS c =
+    run_full _ _ _ _ _ _ (spread c.loop-count.s) c.loop-count.invariant.2 (search rules) ∙ c.loop-count.invariant.3
 
 pub returns-in_default : goal.returns-in_default
 returns-in_default c = let l = spread c.loop-count.s in
-    let e = solved_by l _ _ _ c.matrix_of-m.ensures c.right_of-jtr.ensures c.solve_4x4.ensures in
-    stopped_at _ l _ _ _ _ c.matrix_of-m.ensures refl
-    (run_stay _ _ _ _ _ _ l _ c.loop-count.invariant.2 e (search rules) (ap (step_of _) c.in_default.is) ∙ c.loop-count.invariant.3)
+    let e = solved_by l _ _ _ c.matrix_of.ensures c.right_of.ensures c.solve_4x4.ensures in
+    run_stay _ _ _ _ _ _ l _ c.loop-count.invariant.2 e (search rules) (ap (step_of _) c.in_default.is) ∙ c.loop-count.invariant.3
 
 pub returns-then-is_small : goal.returns-then-is_small
 returns-then-is_small c = let l = spread c.loop-count.s in
-    let e = solved_by l _ _ _ c.matrix_of-m.ensures c.right_of-jtr.ensures c.solve_4x4.ensures in
+    let e = solved_by l _ _ _ c.matrix_of.ensures c.right_of.ensures c.solve_4x4.ensures in
     let little = sym c.is_small.ensures ∙ c.if-is_small.true in
     let s = step_stay _ _ _ _ _ c.in-Some.is c.cut-c2.ensures c.cut-c3.ensures little in
-    stopped_at _ l _ _ _ _ c.matrix_of-m.ensures refl (run_stay _ _ _ _ _ _ l _ c.loop-count.invariant.2 e (search rules) s ∙ c.loop-count.invariant.3)
+    run_stay _ _ _ _ _ _ l _ c.loop-count.invariant.2 e (search rules) s ∙ c.loop-count.invariant.3

@@ -1,18 +1,25 @@
--- A loop of stores makes the list of its elements. Assumes nothing.
-use mathlib.Core.Path.{◌≡◌}
-use native.Mathlib.Omega.{arith}
-use lib.ListN.{length}
-use lib.Ieee.{nan}
+-- Angles that are near are their own turned angles; of the others a loop of stores makes the list. Assumes nothing.
+use Rattle.std.proofs.Common.{arith, ◌≡◌, ◌∙◌, ap, refl, length, get_or-set_other}
+use Rattle.std.specs.Float.{nan}
 use Rattle.loops.proofs.TabLaws.{stores_none, stores_next, stores_all}
-use borrow.Author.Rules.{rules}
+use Rattle.elementary.specs.Elementary.{turn}
+use Rattle.solver.proofs.SolverLaws.{turned_near}
 use Rattle.solver.proofs.turn_all.Goals as goal
 
-pub loop-i-init : goal.loop-i-init
-loop-i-init c = (search rules, stores_none _ _)
+pub returns-then-all_near : goal.returns-then-all_near
+returns-then-all_near c = turned_near _ (c.all_near.ensures c.if-all_near.true)
 
-pub loop-i-preserved : goal.loop-i-preserved
-loop-i-preserved c = (search rules, stores_next _ _ _ _ _ c.loop-i.invariant.1 c.turn.ensures)
+pub loop-x-init : goal.loop-x-init
+loop-x-init c = (stores_none _ _, λ k l. refl)
+
+pub loop-x-preserved : goal.loop-x-preserved
+loop-x-preserved c =
+    let i = c.loop-x.invariant in (
+      stores_next _ _ _ _ _ i.0 (c.turn.ensures ∙ ap turn (i.1 _ (omega arith))),
+      λ k l. get_or-set_other c.loop-x.angles c.loop-x.x-index k _ nan (λ e. omega arith) ∙ i.1 k (omega arith),
+    )
 
 pub returns : goal.returns
-returns c = let h : c.loop-i.i ≡ length c.args.ring_phi.now = omega arith in
-    record { is = stores_all _ _ _ nan _ (rw h at c.loop-i.invariant.1) (omega arith) }
+returns c =
+    let h : c.loop-x.x-index ≡ length c.args.angles.now = omega arith in
+    record { is = stores_all _ _ _ nan _ (rw h at c.loop-x.invariant.0) refl }
