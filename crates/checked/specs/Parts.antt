@@ -1,7 +1,8 @@
 -- What the contracts of crates/checked speak of besides the definitions: how the code tests values one list after the other, and what it learns of a
 -- ring before the fit. Definitions only.
-use Rattle.std.specs.Prelude.{T, eqb, ◌||◌, ◌≡◌, Bool, true, not, ◌&&◌, fold, position, List, ℕ, ◌+◌, length, Float, Option, Some, None, Result, Ok, Err}
+use Rattle.std.specs.Prelude.{◌≤◌, ◌≡◌, Bool, true, not, ◌&&◌, fold, position, List, ℕ, ◌+◌, length, Float, Option, Some, None, Result, Ok, Err}
 use Rattle.std.specs.Float.Ieee.Scale.{finite}
+use Rattle.solver.specs.Buffers.{max_samples}
 use Rattle.seed_models.specs.Models.{Table}
 use Rattle.robust.specs.Record.{record_ring}
 use Rattle.checked.specs.declared.Refusal.{Refusal}
@@ -44,7 +45,7 @@ tested (Ok u) next = next
 
 -- how many samples a ring may have
 abbrev pub RingSize : ℕ → Type 0
-RingSize n = T (eqb n 16 || eqb n 24)
+RingSize n = n ≤ max_samples
 
 -- a ring of n samples that is refused is answered so; of any other both lengths are n, and its fit is the answer
 abbrev pub RingTested : ℕ → List Float → List Float → Test → Type 0

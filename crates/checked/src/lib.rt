@@ -104,10 +104,7 @@ pub fn fit_ring<const N: usize>(samples: &[f32], angles: &[f32]) -> Result<RingF
     ensures { result ≡ C.checked_ring [] N samples.now angles.now }
 {
     check_ring(N, samples, angles)?;
-    if N == 24 {
-        return Ok(robust::fit_ring24(samples, angles));
-    }
-    Ok(robust::fit_ring(samples, angles))
+    Ok(robust::fit_ring::<N>(samples, angles))
 }
 
 // A ring with the tables that the words hold, whatever they are.

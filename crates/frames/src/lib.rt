@@ -139,10 +139,12 @@ fn counts_word(r: RingFit) -> u32
     ensures { result ≡ F.counts_word (fit_counts r) }
 {
     let s = r.standing;
-    let starts = (r.starts % 256) as u32;
-    let first = (r.first % 256) as u32;
-    let second = (r.second % 256) as u32;
-    starts * 16777216 + first * 65536 + second * 256 + u32::from(s.known)
+    u32::from_be_bytes([
+        (r.starts % 256) as u8,
+        (r.first % 256) as u8,
+        (r.second % 256) as u8,
+        u8::from(s.known),
+    ])
 }
 
 // The words of a ring's fit, after its first four digits.
