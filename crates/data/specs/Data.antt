@@ -36,6 +36,12 @@ abbrev pub lent_disk : Float → InSlice → InSlice → InSlice → InSlice →
 lent_disk val_energy xs ys vals_centered grad_angles grad_weights =
     disk_of val_energy xs.entry.now ys.entry.now vals_centered.entry.now grad_angles.entry.now grad_weights.entry.now
 
+-- what a function that is handed a disk's gradients says: P, of every disk that has them
+abbrev pub OfGradients : InSlice → InSlice → (DiskData → Type 0) → Type 0
+OfGradients grad_angles grad_weights P =
+    let angles = grad_angles.entry.now in
+    (val_energy : Float) (xs ys vals : Row) → length xs ≡ length angles → P (disk_of val_energy xs ys vals angles grad_weights.entry.now)
+
 -- ---- score.rs: MAX_TANH_PIXELS, the most pixels of a disk whose rows are kept
 abbrev pub max_tanh_pixels : ℕ
 max_tanh_pixels = 320

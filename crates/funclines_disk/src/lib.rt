@@ -327,17 +327,10 @@ pub extern "C" fn fl_precompute_edge_alignments(
 {
     let mut terms = [0.0f32; data::MAX_TANH_PIXELS];
     let mut sums = [0.0f32; candidates::MAX_CANDIDATES];
-    let d = Disk {
-        val_energy: 0.0,
-        xs: grad_angles,
-        ys: grad_angles,
-        vals_centered: grad_angles,
-        grad_angles,
-        grad_weights,
-    };
     let n = grad_angles.len();
     let total = score::precompute_edge_alignments(
-        d,
+        grad_angles,
+        grad_weights,
         candidates_of(set),
         &mut terms[..n],
         &mut sums,

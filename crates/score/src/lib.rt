@@ -2,7 +2,7 @@
 #![tactic(auto)]
 
 ghost use Rattle.std.specs.Prelude.{◌≡◌, ◌≤◌, length};
-ghost use Rattle.data.specs.Data.{max_tanh_pixels};
+ghost use Rattle.data.specs.Data.{OfGradients, max_tanh_pixels};
 ghost use Rattle.data.specs.Disk.{the_disk};
 ghost use Rattle.candidates.specs.Candidates.{max_candidates};
 ghost use Rattle.score.specs.Score as S;
@@ -150,23 +150,25 @@ pub fn score_pair_cached(d: Disk, t: Trial, h0: &[f32], h1: &[f32]) -> Option<Fi
 // Step 1 of best_disk_fit: the candidates' edge sums into `out`, and the weights' total; `terms` is
 // lent as scratch.
 pub fn precompute_edge_alignments(
-    d: Disk,
+    grad_angles: &[f32],
+    grad_weights: &[f32],
     candidates: CandidateSet,
     terms: &mut [f32],
     out: &mut [f32],
 ) -> f32
-    requires { (length terms.old ≡ length d.xs.now) × (candidates.n ≤ length out.old) × (length out.old ≤ max_candidates) }
-    ensures { ◌≡◌ {A = S.Alignments} (record { total = result; out = out.new })
-        (S.precompute_edge_alignments (the_disk d.entry) candidates out.old) }
+    requires { (length grad_weights.now ≡ length grad_angles.now) × (length terms.old ≡ length grad_angles.now)
+        × (candidates.n ≤ length out.old) × (length out.old ≤ max_candidates) }
+    ensures { OfGradients grad_angles grad_weights (λ D. ◌≡◌ {A = S.Alignments} (record { total = result; out = out.new })
+        (S.precompute_edge_alignments D candidates out.old)) }
 {
-    let total = score_edges::edge_weight_total(d.grad_weights);
+    let total = score_edges::edge_weight_total(grad_weights);
     if total <= 1e-9 {
         return 0.0;
     }
     for c in 0..candidates.n {
         out[c] = score_edges::edge_sum::<Ranking>(
-            d.grad_angles,
-            d.grad_weights,
+            grad_angles,
+            grad_weights,
             candidates.angles[c],
             terms,
         );

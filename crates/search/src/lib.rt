@@ -239,7 +239,8 @@ fn pool_of(d: Disk, base0: f32, base1: f32, candidates: CandidateSet) -> Pool
     let mut terms = [0.0f32; data::MAX_TANH_PIXELS];
     let n = d.xs.len();
     let grad_total = score::precompute_edge_alignments(
-        d,
+        d.grad_angles,
+        d.grad_weights,
         candidates,
         &mut terms[..n],
         &mut edge_align,

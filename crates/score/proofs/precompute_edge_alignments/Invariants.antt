@@ -9,4 +9,4 @@ use Rattle.score.proofs.precompute_edge_alignments.Given as goal
 
 abbrev pub invariant-loop-c : goal.invariant-loop-c
 invariant-loop-c l = (l.c ≤ l.candidates.n) × (length l.terms ≡ length l.initial.terms)
-    × Stores (λ k. ranked_sum (length l.d.grad_angles.now) l.d.grad_angles.now l.d.grad_weights.now (at l.candidates.angles k)) l.initial.out l.out l.c
+    × Stores (λ k. ranked_sum (length l.grad_angles) l.grad_angles l.grad_weights (at l.candidates.angles k)) l.initial.out l.out l.c
