@@ -18,19 +18,19 @@ use Rattle.checked.specs.declared.Refusal.{Refusal}
 use Rattle.checked.specs.declared.Refusal.TheVariants.{WrongLength, PixelCount, NotFinite, NothingFound, TablesFull}
 
 -- ---- the number and the place of each refusal (docs/RULES.md, Refusals)
-abbrev pub number_of : Refusal → ℕ
-number_of WrongLength = 1
-number_of PixelCount = 2
-number_of (NotFinite place) = 3
-number_of (NothingFound trials) = 4
-number_of TablesFull = 6
+abbrev pub refusal_number : Refusal → ℕ
+refusal_number WrongLength = 1
+refusal_number PixelCount = 2
+refusal_number (NotFinite place) = 3
+refusal_number (NothingFound trials) = 4
+refusal_number TablesFull = 6
 
-abbrev pub place_of : Refusal → ℕ
-place_of WrongLength = 0
-place_of PixelCount = 0
-place_of (NotFinite place) = place
-place_of (NothingFound trials) = trials
-place_of TablesFull = 0
+abbrev pub refusal_place : Refusal → ℕ
+refusal_place WrongLength = 0
+refusal_place PixelCount = 0
+refusal_place (NotFinite place) = place
+refusal_place (NothingFound trials) = trials
+refusal_place TablesFull = 0
 
 -- what the entries answer: a fit, or why there is none
 abbrev pub RingAnswer : Type 0
@@ -70,11 +70,11 @@ checked_ring tables n samples angles =
 -- ---- number, place and values of each case (docs/RULES.md, Refusals)
 unfoldable pub ring_number : RingAnswer → ℕ
 ring_number (Ok r) = 0
-ring_number (Err e) = number_of e
+ring_number (Err e) = refusal_number e
 
 unfoldable pub ring_place : RingAnswer → ℕ
 ring_place (Ok r) = 0
-ring_place (Err e) = place_of e
+ring_place (Err e) = refusal_place e
 
 -- amp, theta1, theta2, both errors, rms: the order of a ring's values stands here alone
 abbrev pub fit_values : RustFit → List Float
@@ -140,11 +140,11 @@ checked_disk D base0 base1 =
 
 unfoldable pub disk_number : DiskAnswer → ℕ
 disk_number (Ok m) = 0
-disk_number (Err e) = number_of e
+disk_number (Err e) = refusal_number e
 
 unfoldable pub disk_place : DiskAnswer → ℕ
 disk_place (Ok m) = 0
-disk_place (Err e) = place_of e
+disk_place (Err e) = refusal_place e
 
 -- theta1, theta2, width, amp, rms, rel_rms, corr, edge_score, objective, both errors: the order of a disk's values stands here alone
 abbrev pub measured_values : Measured → List Float

@@ -16,20 +16,20 @@ use Rattle.checked.specs.declared.Refusal.{Refusal}
 use Rattle.checked.specs.declared.Refusal.TheVariants.{WrongLength, NotFinite}
 use Rattle.seed_models.specs.Models.{Table}
 use Rattle.checked.specs.Checked.{wild_from, first_wild, ring_inputs, disk_inputs, ring_sized, ring_looked, checked_ring, disk_fitted, disk_looked}
-use Rattle.checked.specs.Parts.{still_fine, all_finite, wild_position, Test, moved, values_test, values_from, tested, RingTested}
+use Rattle.checked.specs.Parts.{still_fine, all_finite, wild_position, Test, moved_on, values_test, values_from, tested, RingTested}
 
 -- ---- lists one behind the other, as the code looks at them
 -- the same values at places that are `off` apart
 wild_moved : (l m : List Float) (off left i : ℕ) → ((k : ℕ) → k < i + left → get_or m (off + k) nan ≡ get_or l k nan) →
-    wild_from m left (off + i) ≡ moved off (wild_from l left i)
+    wild_from m left (off + i) ≡ moved_on off (wild_from l left i)
 unfolding wild_from
 wild_moved l m off zero i same = refl
 wild_moved l m off (suc left) i same =
     let z : off + (i + 1) ≡ off + i + 1 = omega arith in
     rw (same i (omega arith)) (go (finite (get_or l i nan)) (rw z at (wild_moved l m off left (i + 1) (λ k h. same k (omega arith)))))
   where
-    go : (b : Bool) → wild_from m left (off + i + 1) ≡ moved off (wild_from l left (i + 1)) →
-        cond b (wild_from m left (off + i + 1)) (Some (off + i)) ≡ moved off (cond b (wild_from l left (i + 1)) (Some i))
+    go : (b : Bool) → wild_from m left (off + i + 1) ≡ moved_on off (wild_from l left (i + 1)) →
+        cond b (wild_from m left (off + i + 1)) (Some (off + i)) ≡ moved_on off (cond b (wild_from l left (i + 1)) (Some i))
     go true later = later
     go false later = refl
 
@@ -52,23 +52,23 @@ wild_split l (suc m) n i =
     go true later = later
     go false later = refl
 
-unmoved : (w : Option ℕ) → w ≡ moved 0 w
+unmoved : (w : Option ℕ) → w ≡ moved_on 0 w
 unmoved (Some i) = let z : i ≡ 0 + i = omega arith in ap Some z
 unmoved None = refl
 
-moved_twice : (a b : ℕ) (w : Option ℕ) → moved a (moved b w) ≡ moved (a + b) w
+moved_twice : (a b : ℕ) (w : Option ℕ) → moved_on a (moved_on b w) ≡ moved_on (a + b) w
 moved_twice a b (Some i) = let z : a + (b + i) ≡ a + b + i = omega arith in ap Some z
 moved_twice a b None = refl
 
 -- the first of two lists that has one: places of the second count on from the first's length
-wild_append : (a b : List Float) → first_wild (a ++ b) ≡ first (first_wild a) (moved (length a) (first_wild b))
+wild_append : (a b : List Float) → first_wild (a ++ b) ≡ first (first_wild a) (moved_on (length a) (first_wild b))
 unfolding first_wild
 wild_append a b =
     let n = length a in
     let z : 0 + n ≡ n + 0 = omega arith in
     let front : wild_from (a ++ b) n 0 ≡ wild_from a n 0 =
     wild_moved a (a ++ b) 0 n 0 (λ k h. let w : 0 + k ≡ k = omega arith in rw w (get_or-append a b nan k (omega arith))) ∙ sym (unmoved _) in
-    let back : wild_from (a ++ b) (length b) (n + 0) ≡ moved n (wild_from b (length b) 0) =
+    let back : wild_from (a ++ b) (length b) (n + 0) ≡ moved_on n (wild_from b (length b) 0) =
     wild_moved b (a ++ b) n (length b) 0 (λ k h. get_or-append-add a b k nan) in
     rw (length-append) (wild_split (a ++ b) n (length b) 0 ∙ rw (z, back, front))
 
@@ -76,8 +76,8 @@ wild_append a b =
 pub tested_append : (from to : ℕ) (a b : List Float) → from + length a ≡ to → values_from from (a ++ b) ≡ tested (values_from from a) (values_from to b)
 tested_append from to a b e = rw (wild_append a b, ← e) (go (first_wild a))
   where
-    go : (w : Option ℕ) → values_test (moved from (first w (moved (length a) (first_wild b)))) ≡
-        tested (values_test (moved from w)) (values_from (from + length a) b)
+    go : (w : Option ℕ) → values_test (moved_on from (first w (moved_on (length a) (first_wild b)))) ≡
+        tested (values_test (moved_on from w)) (values_from (from + length a) b)
     go (Some i) = refl
     go None = ap values_test (moved_twice from (length a) (first_wild b))
 
@@ -116,10 +116,10 @@ module _ (D : DiskData) (base0 base1 : Float) where
       sym (unmoved_test (disk_inputs D base0 base1) ∙ all)
 
 -- ---- the code's search
-first_cons : (x : Float) (l : List Float) → first_wild (x ∷ l) ≡ cond (finite x) (moved 1 (first_wild l)) (Some 0)
+first_cons : (x : Float) (l : List Float) → first_wild (x ∷ l) ≡ cond (finite x) (moved_on 1 (first_wild l)) (Some 0)
 first_cons x l = wild_append (x ∷ []) l ∙ unfold first_wild wild_from in go (finite x)
   where
-    go : (b : Bool) → first (cond b None (Some 0)) (moved 1 (first_wild l)) ≡ cond b (moved 1 (first_wild l)) (Some 0)
+    go : (b : Bool) → first (cond b None (Some 0)) (moved_on 1 (first_wild l)) ≡ cond b (moved_on 1 (first_wild l)) (Some 0)
     go true = refl
     go false = refl
 
@@ -129,8 +129,8 @@ fine_clean [] e = unfold first_wild wild_from in refl
 fine_clean (x ∷ l) e = rw (first_cons x l) (go (finite x) e (fine_clean l))
   where
     go : (b : Bool) → fold still_fine (b && true) l ≡ true → (fold still_fine true l ≡ true → None ≡ first_wild l) →
-        None ≡ cond b (moved 1 (first_wild l)) (Some 0)
-    go true e later = ap (moved 1) (later e)
+        None ≡ cond b (moved_on 1 (first_wild l)) (Some 0)
+    go true e later = ap (moved_on 1) (later e)
     go false e later = absurd (false≢true (sym (fold_stays still_fine false stays l) ∙ e))
       where
         stays : (y : Float) → still_fine false y ≡ false
@@ -143,12 +143,12 @@ fine_clean (x ∷ l) e = rw (first_cons x l) (go (finite x) e (fine_clean l))
 pub all_clean : (l : List Float) → all_finite l ≡ true → None ≡ first_wild l
 all_clean l = fine_clean l
 
-position_moved : (l : List Float) (i : ℕ) → position_from (λ x. not (finite x)) i l ≡ moved i (first_wild l)
+position_moved : (l : List Float) (i : ℕ) → position_from (λ x. not (finite x)) i l ≡ moved_on i (first_wild l)
 position_moved [] i = unfold first_wild wild_from in refl
 position_moved (x ∷ l) i = rw (first_cons x l) (go (finite x) (position_moved l (i + 1)))
   where
-    go : (b : Bool) → position_from (λ x. not (finite x)) (i + 1) l ≡ moved (i + 1) (first_wild l) →
-        cond (not b) (Some i) (position_from (λ x. not (finite x)) (i + 1) l) ≡ moved i (cond b (moved 1 (first_wild l)) (Some 0))
+    go : (b : Bool) → position_from (λ x. not (finite x)) (i + 1) l ≡ moved_on (i + 1) (first_wild l) →
+        cond (not b) (Some i) (position_from (λ x. not (finite x)) (i + 1) l) ≡ moved_on i (cond b (moved_on 1 (first_wild l)) (Some 0))
     go true later = later ∙ sym (moved_twice i 1 (first_wild l))
     go false later = let z : i ≡ i + 0 = omega arith in ap Some z
 

@@ -21,9 +21,9 @@ abbrev pub wild_position : List Float → Option ℕ
 wild_position = position (λ x. not (finite x))
 
 -- a place of a list that stands `from` places behind the start
-abbrev pub moved : ℕ → Option ℕ → Option ℕ
-moved from (Some i) = Some (from + i)
-moved from None = None
+abbrev pub moved_on : ℕ → Option ℕ → Option ℕ
+moved_on from (Some i) = Some (from + i)
+moved_on from None = None
 
 -- what a test answers: nothing, or why a call is refused
 abbrev pub Test : Type 0
@@ -36,7 +36,7 @@ values_test (Some i) = Err (NotFinite i)
 
 -- of a list whose places count from `from`
 abbrev pub values_from : ℕ → List Float → Test
-values_from from l = values_test (moved from (first_wild l))
+values_from from l = values_test (moved_on from (first_wild l))
 
 -- one test, and then another
 abbrev pub tested : Test → Test → Test

@@ -29,7 +29,7 @@ pub enum Refusal {
 
 impl Refusal {
     pub fn number(self) -> u8
-        ensures { result ≡ C.number_of self }
+        ensures { result ≡ C.refusal_number self }
     {
         match self {
             Refusal::WrongLength => 1,
@@ -41,7 +41,7 @@ impl Refusal {
     }
 
     pub fn place(self) -> u16
-        ensures { result ≡ C.place_of self }
+        ensures { result ≡ C.refusal_place self }
     {
         match self {
             Refusal::NotFinite(place) => place,
@@ -98,13 +98,27 @@ fn check_ring(n: usize, samples: &[f32], angles: &[f32]) -> Result<(), Refusal>
     check_values(angles, n as u16)
 }
 
-// The ring entry: any two slices, for a ring of N samples.
-pub fn fit_ring<const N: usize>(samples: &[f32], angles: &[f32]) -> Result<RingFit, Refusal>
+// A ring of N samples: any two slices.
+pub fn fit_ring_of<const N: usize>(samples: &[f32], angles: &[f32]) -> Result<RingFit, Refusal>
     requires { P.RingSize N }
     ensures { result ≡ C.checked_ring [] N samples.now angles.now }
 {
     check_ring(N, samples, angles)?;
     Ok(robust::fit_ring::<N>(samples, angles))
+}
+
+// The ring entry, which asks nothing: the Rust's ring.
+pub fn fit_ring(samples: &[f32], angles: &[f32]) -> Result<RingFit, Refusal>
+    ensures { result ≡ C.checked_ring [] 16 samples.now angles.now }
+{
+    fit_ring_of::<16>(samples, angles)
+}
+
+// The same of 24 samples, ours.
+pub fn fit_ring24(samples: &[f32], angles: &[f32]) -> Result<RingFit, Refusal>
+    ensures { result ≡ C.checked_ring [] 24 samples.now angles.now }
+{
+    fit_ring_of::<24>(samples, angles)
 }
 
 // A ring with the tables that the words hold, whatever they are.

@@ -2,7 +2,7 @@
 use Rattle.std.specs.Prelude.{cond, ℕ, ◌+◌, ◌*◌, length, eqb, ltb, Option, Some, None, Result, Ok, Err}
 use Rattle.floats.specs.Rows.{Row}
 use Rattle.seed_models.specs.Words.{ring_samples, most_tables, held_in, stored_in}
-use Rattle.checked.specs.Checked.{number_of, place_of, first_wild}
+use Rattle.checked.specs.Checked.{refusal_number, refusal_place, first_wild}
 use Rattle.checked.specs.declared.Refusal.{Refusal}
 use Rattle.checked.specs.declared.Refusal.TheVariants.{WrongLength, NotFinite, TablesFull}
 
@@ -28,5 +28,5 @@ words_with words angles = words_after (table_refusal words angles) words angles
 
 -- number * 65536 + place, or 0
 abbrev pub refusal_code : TableAnswer → ℕ
-refusal_code (Err e) = number_of e * 65536 + place_of e
+refusal_code (Err e) = refusal_number e * 65536 + refusal_place e
 refusal_code (Ok u) = 0

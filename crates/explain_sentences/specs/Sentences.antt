@@ -160,12 +160,12 @@ abbrev pub is_wild_due : Due → Bool
 is_wild_due (Dues.Wild k bits) = true
 is_wild_due _ = false
 
-abbrev pub is_wild : Above → Bool
-is_wild (Aboves.Asked f) = is_wild_due f.due
-is_wild _ = false
+abbrev pub is_above_wild : Above → Bool
+is_above_wild (Aboves.Asked f) = is_wild_due f.due
+is_above_wild _ = false
 
 abbrev pub is_shown : Refusal → Above → Bool
-is_shown r a = is_wild a && belongs a r.kind r.number r.place
+is_shown r a = is_above_wild a && belongs a r.kind r.number r.place
 
 abbrev pub is_bad : Above → Bool
 is_bad (Aboves.Malformed line) = true

@@ -99,8 +99,8 @@ fn is_nameless(name: Option<Part>) -> bool
 }
 
 // Whether the frame above is refused for a value.
-fn is_wild(a: Above) -> bool
-    ensures { result ≡ S.is_wild a }
+fn is_above_wild(a: Above) -> bool
+    ensures { result ≡ S.is_above_wild a }
 {
     match a {
         Above::Asked(f) => matches!(f.due, Due::Wild(_, _)),
@@ -111,7 +111,7 @@ fn is_wild(a: Above) -> bool
 fn is_shown(r: Refusal, a: Above) -> bool
     ensures { result ≡ S.is_shown r a }
 {
-    is_wild(a) & explain_sorts::belongs(a, r.kind, r.number, r.place)
+    is_above_wild(a) & explain_sorts::belongs(a, r.kind, r.number, r.place)
 }
 
 // Whether a line stands above that is no frame and no answer.

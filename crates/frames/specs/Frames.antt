@@ -31,13 +31,13 @@ refused_type (Refused.Disk e) = 0x82
 
 abbrev pub refused_number : LineRefusal → ℕ
 refused_number Refused.Malformed = 5
-refused_number (Refused.Ring kind e) = C.number_of e
-refused_number (Refused.Disk e) = C.number_of e
+refused_number (Refused.Ring kind e) = C.refusal_number e
+refused_number (Refused.Disk e) = C.refusal_number e
 
 abbrev pub refused_place : LineRefusal → ℕ
 refused_place Refused.Malformed = 0
-refused_place (Refused.Ring kind e) = C.place_of e
-refused_place (Refused.Disk e) = C.place_of e
+refused_place (Refused.Ring kind e) = C.refusal_place e
+refused_place (Refused.Disk e) = C.refusal_place e
 
 abbrev pub malformed : Answer
 malformed = Err Refused.Malformed

@@ -69,7 +69,7 @@ fn ring_line<const N: usize>(line: &[u8]) -> Result<RingFit, Refusal>
     let mut angles = [0.0f32; N];
     hexadecimal::values(line, 2, &mut samples);
     hexadecimal::values(line, 2 + 8 * N, &mut angles);
-    checked::fit_ring::<N>(&samples, &angles)
+    checked::fit_ring_of::<N>(&samples, &angles)
 }
 
 fn typed_ring(line: &[u8], kind: RingKind) -> Result<FrameFit, LineRefusal>

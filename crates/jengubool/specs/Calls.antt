@@ -4,7 +4,7 @@ use Rattle.std.specs.Prelude.{cond, List, [], ◌∷◌, map, ℕ, ◌+◌, ◌*
 use Rattle.solver_record.specs.Record.{without_mean}
 use Rattle.solver_record.specs.declared.TwoAxisFit.{TwoAxisFit}
 use Rattle.seed_models.specs.Models.{Table}
-use Rattle.checked.specs.Checked.{RingAnswer, DiskAnswer, number_of, place_of, checked_ring, checked_disk}
+use Rattle.checked.specs.Checked.{RingAnswer, DiskAnswer, refusal_number, refusal_place, checked_ring, checked_disk}
 use Rattle.checked.specs.Checked.{fit_values, record_values, fit_counts, measured_values, measured_counts}
 use Rattle.checked.specs.declared.Refusal.{Refusal}
 use Rattle.checked.specs.declared.Refusal.TheVariants.{WrongLength}
@@ -21,7 +21,7 @@ wide n = n % 4294967296
 
 -- a refusal's number and place in one word
 abbrev pub code_of : Refusal → ℕ
-code_of e = number_of e * 65536 + place_of e
+code_of e = refusal_number e * 65536 + refusal_place e
 
 -- what the test of a caller's buffers says: they have room for so many values and counts, or one is too short
 abbrev pub RoomTested : List Float → ℕ → List ℕ → ℕ → Result (Unit {0}) Refusal → Type 0

@@ -152,7 +152,7 @@ fn ring_call<const N: usize, const V: usize>(
         (J.ring_call (J.first_values V) [] N samples.now angles.now fit.old counts.old) }
 {
     check_room(fit, V, counts, 4)?;
-    let r = checked::fit_ring::<N>(samples, angles)?;
+    let r = checked::fit_ring_of::<N>(samples, angles)?;
     put_ring::<V>(r, fit, counts);
     Ok(())
 }
