@@ -244,8 +244,7 @@ fn is_asked(asks: Asks, kind: Option<Kind>) -> bool
     ensures { result ≡ S.is_asked asks kind }
 {
     match (asks, kind) {
-        (Asks::Ring(RingKind::Sixteen), Some(Kind::Ring(RingKind::Sixteen))) => true,
-        (Asks::Ring(RingKind::TwentyFour), Some(Kind::Ring(RingKind::TwentyFour))) => true,
+        (Asks::Ring(ring), Some(Kind::Ring(answered))) => ring == answered,
         (Asks::Disk(_), Some(Kind::Disk)) => true,
         _ => false,
     }
