@@ -35,9 +35,9 @@ of_ring Sixteen (Some (Ring Sixteen)) = true
 of_ring TwentyFour (Some (Ring TwentyFour)) = true
 of_ring _ _ = false
 
-abbrev pub of_disk : Option Kind → Bool
-of_disk (Some Disk) = true
-of_disk _ = false
+abbrev pub disk_kind : Option Kind → Bool
+disk_kind (Some Disk) = true
+disk_kind _ = false
 
 abbrev pub kind_asked : Asks → Kind
 kind_asked (Askings.Ring kind) = Ring kind
@@ -52,7 +52,7 @@ unfoldable pub alone_rows : Above → List (Bool × String)
 alone_rows a =
     (of_ring Sixteen (kind_above a), "line {a}: ring frame without an answer: run it through fitlines\n")
     ∷ (of_ring TwentyFour (kind_above a), "line {a}: 24-point ring frame without an answer: run it through fitlines\n")
-    ∷ (of_disk (kind_above a), "line {a}: disk frame of {b} pixel{c} without an answer: run it through fitlines\n")
+    ∷ (disk_kind (kind_above a), "line {a}: disk frame of {b} pixel{c} without an answer: run it through fitlines\n")
     ∷ []
 
 -- ---- an answer that is not that of the frame above it, which is due a refusal, or a fit: its values are finite
@@ -74,7 +74,7 @@ mismatch_rows a =
     (is_refused a, "  warning: this does not answer line {a}: its frame is refused, {b}\n")
     ∷ (is_clean a && of_ring Sixteen (kind_above a), "  warning: this does not answer line {a}: a ring frame of finite values has a ring fit\n")
     ∷ (is_clean a && of_ring TwentyFour (kind_above a), "  warning: this does not answer line {a}: a 24-point ring frame of finite values has a 24-point ring fit\n")
-    ∷ (is_clean a && of_disk (kind_above a), "  warning: this does not answer line {a}: a disk frame of finite values has a disk fit, or refusal 4\n")
+    ∷ (is_clean a && disk_kind (kind_above a), "  warning: this does not answer line {a}: a disk frame of finite values has a disk fit, or refusal 4\n")
     ∷ []
 
 -- ---- a fit, of its answer's kind, whose errors are known or not
@@ -82,19 +82,19 @@ unfoldable pub fit_rows : Kind → Bool → List (Bool × String)
 fit_rows kind known =
     (of_ring Sixteen (Some kind), "line {a}: ring fit\n")
     ∷ (of_ring TwentyFour (Some kind), "line {a}: 24-point ring fit\n")
-    ∷ (of_disk (Some kind), "line {a}: disk fit\n")
+    ∷ (disk_kind (Some kind), "line {a}: disk fit\n")
     ∷ (true, "  axes        {b} and {c} degrees, {d} apart\n")
     ∷ (known, "  errors      {e} and {f} degrees\n")
     ∷ (not known, "  errors      not known ({e} and {f} degrees stand in their place)\n")
     ∷ (true, "  amplitude   {g}\n")
     ∷ (true, "  residual    {h}{i}{j}{k}\n")
-    ∷ (not (of_disk (Some kind)), "  work        {l} start{m}, {n}{o}{p} update{q}\n")
-    ∷ (of_disk (Some kind), "  rel_rms     {r}\n")
-    ∷ (of_disk (Some kind), "  width       {s}\n")
-    ∷ (of_disk (Some kind), "  correlation {t}\n")
-    ∷ (of_disk (Some kind), "  edge score  {u}\n")
-    ∷ (of_disk (Some kind), "  objective   {v}\n")
-    ∷ (of_disk (Some kind), "  work        {w} trial{x}\n")
+    ∷ (not (disk_kind (Some kind)), "  work        {l} start{m}, {n}{o}{p} update{q}\n")
+    ∷ (disk_kind (Some kind), "  rel_rms     {r}\n")
+    ∷ (disk_kind (Some kind), "  width       {s}\n")
+    ∷ (disk_kind (Some kind), "  correlation {t}\n")
+    ∷ (disk_kind (Some kind), "  edge score  {u}\n")
+    ∷ (disk_kind (Some kind), "  objective   {v}\n")
+    ∷ (disk_kind (Some kind), "  work        {w} trial{x}\n")
     ∷ []
 
 -- ---- a refusal: number 3 has the place of a value, which has a name: a ring's samples, and behind them as many angles
@@ -113,7 +113,7 @@ abbrev pub is_angle : Refusal → Bool
 is_angle r = r.number == 3 && in_angles r.kind r.place
 
 abbrev pub is_disk : Refusal → Bool
-is_disk r = of_disk r.kind && r.number == 3
+is_disk r = disk_kind r.kind && r.number == 3
 
 -- the energy, the two base angles, and then the five runs of n values
 abbrev pub numbered : ℕ → Part
@@ -180,14 +180,14 @@ unfoldable pub refusal_rows : Refusal → Above → Option Part → Bool → Lis
 refusal_rows r a name shown =
     (of_ring Sixteen r.kind, "line {a}: ring refused, number {b}: ")
     ∷ (of_ring TwentyFour r.kind, "line {a}: 24-point ring refused, number {b}: ")
-    ∷ (of_disk r.kind, "line {a}: disk refused, number {b}: ")
+    ∷ (disk_kind r.kind, "line {a}: disk refused, number {b}: ")
     ∷ (is_none r.kind, "line {a}: refused, number {b}: ")
     ∷ ((r.number == 1), "a slice has the wrong length, or the answer buffer is too short\n")
     ∷ ((r.number == 2), "the count of pixels is 0 or over 320\n")
     ∷ ((r.number == 3), "a value is not finite\n")
     ∷ ((r.number == 4), "the search over the disk found nothing\n")
     ∷ ((r.number == 5), "the frame line is malformed\n")
-    ∷ (r.number == 2 && of_disk (kind_above a), "  pixels      {c}\n")
+    ∷ (r.number == 2 && disk_kind (kind_above a), "  pixels      {c}\n")
     ∷ (is_sample r, "  value       sample {d}")
     ∷ (is_angle r, "  value       angle {e}")
     ∷ (of_ring Sixteen r.kind && r.number == 3 && nat_lt 31 r.place, "  warning: there is no place {d}: a ring's values are 0 to 31")

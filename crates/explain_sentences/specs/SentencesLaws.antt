@@ -12,17 +12,17 @@ use Rattle.explain_sorts.specs.declared.Above.TheVariants as Aboves
 use Rattle.explain_sorts.specs.declared.Sort.{Sort}
 use Rattle.explain_sorts.specs.declared.Sort.TheVariants.{Asked, Fit, Refused, Bad}
 use Rattle.explain_sorts.specs.Sorts.{is_strange, belongs}
-use Rattle.explain_sentences.specs.Sentences.{of_ring, of_disk, kind_asked, kind_above, is_fit_due, is_refused, is_clean}
+use Rattle.explain_sentences.specs.Sentences.{of_ring, disk_kind, kind_asked, kind_above, is_fit_due, is_refused, is_clean}
 
 -- ---- of an answer that is not that of the frame above it, one of the four sentences is told
 abbrev pub is_told : Above → Bool
 is_told a =
     is_refused a || (is_clean a && of_ring Sixteen (kind_above a)) || (is_clean a && of_ring TwentyFour (kind_above a))
-    || (is_clean a && of_disk (kind_above a))
+    || (is_clean a && disk_kind (kind_above a))
 
 framed : (asks : Asks) (due : Due) →
     (not (is_fit_due due) || (is_fit_due due && of_ring Sixteen (Some (kind_asked asks))) || (is_fit_due due && of_ring TwentyFour (Some (kind_asked asks)))
-    || (is_fit_due due && of_disk (Some (kind_asked asks)))) ≡ true
+    || (is_fit_due due && disk_kind (Some (kind_asked asks)))) ≡ true
 framed asks Dues.BadCount = refl
 framed asks (Dues.Wild k bits) = refl
 framed (Askings.Ring Sixteen) Dues.Fit = refl

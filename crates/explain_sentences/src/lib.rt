@@ -25,7 +25,7 @@ fn of_ring(kind: Option<Kind>, ring: RingKind) -> bool
 }
 
 fn of_disk(kind: Option<Kind>) -> bool
-    ensures { result ≡ S.of_disk kind }
+    ensures { result ≡ S.disk_kind kind }
 {
     matches!(kind, Some(Kind::Disk))
 }

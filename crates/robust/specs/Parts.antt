@@ -15,7 +15,7 @@ use Rattle.robust.specs.declared.First.{First}
 use Rattle.robust.specs.Robust as R
 
 -- ---- n samples and their angles, at most as many as there may be
-pub record Sized (n : ℕ) (samples ring_phi : Row) : Type 0 where
+pub record SamplesSized (n : ℕ) (samples ring_phi : Row) : Type 0 where
   pub few : n ≤ max_samples
   pub size : length samples ≡ n
   pub angles : length ring_phi ≡ n

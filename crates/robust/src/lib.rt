@@ -209,7 +209,7 @@ pub fn refine_seed_candidates<'a, const N: usize>(
     centered_var: f32,
     top: Option<SeedCandidate>,
 ) -> Option<Started>
-    requires { P.Sized N samples.now ring_phi.now }
+    requires { P.SamplesSized N samples.now ring_phi.now }
     ensures { result ≡ second_of (R.refine_seed_candidates (length samples.now) samples.now ring_phi.now
         centered_var top) }
 {
@@ -231,7 +231,7 @@ pub fn robust_grid_fit<'a, const N: usize>(
     mean: f32,
     centered_var: f32,
 ) -> Option<Started>
-    requires { P.Sized N samples.now ring_phi.now }
+    requires { P.SamplesSized N samples.now ring_phi.now }
     ensures { result ≡ second_of (R.robust_grid_fit [] (length samples.now) samples.now ring_phi.now
         mean centered_var) }
 {
@@ -277,7 +277,7 @@ fn start<const N: usize>(
     sphi: &mut [f32; N],
     cphi: &mut [f32; N],
 ) -> Started
-    requires { P.Sized N samples.now ring_phi.now }
+    requires { P.SamplesSized N samples.now ring_phi.now }
     ensures value { result ≡ record_with_seed (length samples.now) samples.now ring_phi.now seed centered_var }
     ensures prepared { R.fit_is_suspicious (without_mean result.fit) ≡ true → Prepared ring_phi.now sphi.new cphi.new }
 {
@@ -301,7 +301,7 @@ fn first_start<const N: usize>(
     sphi: &mut [f32; N],
     cphi: &mut [f32; N],
 ) -> First
-    requires { P.Sized N samples.now ring_phi.now }
+    requires { P.SamplesSized N samples.now ring_phi.now }
     ensures value { result ≡ P.first_of (length samples.now) samples.now ring_phi.now }
     ensures prepared { R.fit_is_suspicious (without_mean result.primary.fit) ≡ true →
         Prepared ring_phi.now sphi.new cphi.new }
@@ -381,7 +381,7 @@ fn fit_by<'a, const N: usize, M: Models<N>>(
     samples: &'a [f32],
     ring_phi: &'a [f32],
 ) -> RingFit
-    requires { P.Sized N samples.now ring_phi.now }
+    requires { P.SamplesSized N samples.now ring_phi.now }
     ensures { result ≡ record_ring (M.tables models.now) (length samples.now) samples.now ring_phi.now }
 {
     let mut sphi = [0.0f32; N];
@@ -404,7 +404,7 @@ fn fit_by<'a, const N: usize, M: Models<N>>(
 
 // The Rust's ring has 16 samples; another number is ours, without a counterpart there.
 pub fn fit_ring<const N: usize>(samples: &[f32], ring_phi: &[f32]) -> RingFit
-    requires { P.Sized N samples.now ring_phi.now }
+    requires { P.SamplesSized N samples.now ring_phi.now }
     ensures { result ≡ record_ring [] (length samples.now) samples.now ring_phi.now }
 {
     fit_by::<N, Untabled>(&Untabled, samples, ring_phi)

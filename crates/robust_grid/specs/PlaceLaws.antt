@@ -15,7 +15,7 @@ use Rattle.seed.specs.Seed.{zeros, pair_sums, score_seed_pair}
 use Rattle.seed.specs.declared.SeedCandidate.{SeedCandidate}
 use Rattle.robust_grid.specs.Grid.{grid_angle, factor, grid_row, pair_at, pairs_from, all_pairs, tries, best_of, best_seed}
 use Rattle.robust_grid.specs.Places.{Axes, row_from, sample_row, sample_row_at, Grid, score_at}
-use Rattle.robust_lanes.specs.Lanes.{grid_places, GridRows, place, sums_at}
+use Rattle.robust_lanes.specs.Lanes.{grid_places, GridRows, factor_at, sums_at}
 
 -- ---- scores that agree on the grid have the same best
 module _ (f g : ℕ → ℕ → Option SeedCandidate) (h : (a b : ℕ) → a < 23 → b < 23 → f a b ≡ g a b) where
@@ -55,13 +55,13 @@ module _ {sphi cphi : Row} where
 
   -- what stands at a place
   place_is : {h : GridRows} {n : ℕ} → Grid sphi cphi h n → (i : ℕ) → i < n → (a : ℕ) → a < grid_places
-      → place h i a ≡ factor (at sphi i) (at cphi i) (sin_cos (grid_angle a))
+      → factor_at h i a ≡ factor (at sphi i) (at cphi i) (sin_cos (grid_angle a))
   unfolding sample_row
   place_is {h} g i l a b =
       sym (get_or-take grid_places (get_or h i []) a nan b) ∙ ap (λ (r : Row). at r a) (g.row i l)
       ∙ tab_at (λ a. factor (at sphi i) (at cphi i) (sin_cos (grid_angle a))) nan grid_places a b
 
-  pub grid_at : {h : GridRows} {n : ℕ} → Grid sphi cphi h n → (a : ℕ) → a < 23 → (i : ℕ) → i < n → place h i a ≡ at (grid_row n sphi cphi a) i
+  pub grid_at : {h : GridRows} {n : ℕ} → Grid sphi cphi h n → (a : ℕ) → a < 23 → (i : ℕ) → i < n → factor_at h i a ≡ at (grid_row n sphi cphi a) i
   unfolding grid_row
   grid_at {h} {n} g a x i l = place_is g i l a (omega arith) ∙ sym (tab_at (λ i. factor (at sphi i) (at cphi i) (sin_cos (grid_angle a))) nan n i l)
 

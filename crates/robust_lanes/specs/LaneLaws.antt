@@ -8,7 +8,7 @@ use Rattle.floats.specs.Rows.{Row, at, count}
 use Rattle.loops.proofs.IterLaws.{iter_zero, iter_next}
 use Rattle.seed.specs.Seed.{summed_by}
 use Rattle.robust_lanes.specs.declared.Lanes.{Lanes}
-use Rattle.robust_lanes.specs.Lanes.{GridRows, place, sums_at, four, lane_sums, lanes_added}
+use Rattle.robust_lanes.specs.Lanes.{GridRows, factor_at, sums_at, four, lane_sums, lanes_added}
 
 -- the usual number of samples
 pub sixteen : count 16 ≡ lit 0x4180_0000
@@ -35,11 +35,11 @@ module _ (centered : Row) (h : GridRows) (a b : ℕ) where
   lanes_none = simp iter_zero
 
   next : (i k : ℕ) → sums_at (i + 1) centered h a (b + k) ≡
-      summed_by (at centered i) (place h i a) (place h i (b + k)) (sums_at i centered h a (b + k))
+      summed_by (at centered i) (factor_at h i a) (factor_at h i (b + k)) (sums_at i centered h a (b + k))
   unfolding sums_at
   next i k = rw iter_next
 
-  pub lanes_more : (i : ℕ) (s t : Lanes) (y : Row) → s ≡ lane_sums i centered h a b → y ≡ four (λ k. place h i (b + k))
-      → t ≡ lanes_added s (at centered i) (place h i a) y → t ≡ lane_sums (i + 1) centered h a b
+  pub lanes_more : (i : ℕ) (s t : Lanes) (y : Row) → s ≡ lane_sums i centered h a b → y ≡ four (λ k. factor_at h i (b + k))
+      → t ≡ lanes_added s (at centered i) (factor_at h i a) y → t ≡ lane_sums (i + 1) centered h a b
   unfolding lane_sums summed_by
   lanes_more i s t y e g d = d ∙ (rw (e, g, next i 0, next i 1, next i 2, next i 3))

@@ -20,13 +20,13 @@ abbrev pub GridRows : Type 0
 GridRows = List Row
 
 -- the factor of sample i at the angle a
-abbrev pub place : GridRows → ℕ → ℕ → Float
-place h i a = at (get_or h i []) a
+abbrev pub factor_at : GridRows → ℕ → ℕ → Float
+factor_at h i a = at (get_or h i []) a
 
 -- ---- four pairs
 -- the sums of the angles a and b
 unfoldable pub sums_at : ℕ → Row → GridRows → ℕ → ℕ → Sums
-sums_at n centered h a b = iter (λ i. summed_by (at centered i) (place h i a) (place h i b)) zeros n
+sums_at n centered h a b = iter (λ i. summed_by (at centered i) (factor_at h i a) (factor_at h i b)) zeros n
 
 abbrev pub four : (ℕ → Float) → Row
 four f = f 0 ∷ f 1 ∷ f 2 ∷ f 3 ∷ []

@@ -3,7 +3,7 @@ use Rattle.std.specs.Prelude.{ℕ, ◌+◌, ◌*◌, ◌≤◌, ◌<◌, Option,
 use Rattle.floats.specs.Ops.{◌⊗◌}
 use Rattle.floats.specs.Rows.{Row, at, count}
 use Rattle.loops.specs.Loops.{iter}
-use Rattle.robust_lanes.specs.Lanes.{GridRows, place, four, times, plus, lane_sums, models_of}
+use Rattle.robust_lanes.specs.Lanes.{GridRows, factor_at, four, times, plus, lane_sums, models_of}
 use Rattle.robust_lanes.specs.declared.Models.{Models}
 use Rattle.seed.specs.declared.SeedCandidate.{SeedCandidate}
 use Rattle.robust_grid.specs.Grid.{grid_angle}
@@ -14,7 +14,7 @@ use Rattle.seed_models.specs.Words.{ring_samples}
 
 -- the product of the factors at the angles a and b, of sample i
 abbrev pub q_at : GridRows → ℕ → ℕ → ℕ → Float
-q_at h a b i = place h i a ⊗ place h i b
+q_at h a b i = factor_at h i a ⊗ factor_at h i b
 
 unfoldable pub q_sums_at : ℕ → GridRows → ℕ → ℕ → QSums
 q_sums_at n h a b = iter (λ i. q_summed (q_at h a b i)) no_qSums n

@@ -20,7 +20,7 @@ use Rattle.loops.proofs.IterLaws.{iter_zero, iter_same, iter_keeps}
 use Rattle.loops.proofs.TabLaws.{tab_length, tab_at, tab_same, tab_self, part_kept, part_same, part_length, parts_length, part_of, parts_more}
 use Rattle.solver.specs.Solver.{sines, cosines}
 use Rattle.solver.specs.Buffers.{Prepared}
-use Rattle.robust_lanes.specs.Lanes.{GridRows, place}
+use Rattle.robust_lanes.specs.Lanes.{GridRows, factor_at}
 use Rattle.robust_grid.specs.Grid.{grid_angle, grid_row, all_pairs}
 use Rattle.robust_grid.specs.Places.{Grid, last_of, block_pair, blocks, step_at, block_steps}
 use Rattle.robust_grid.specs.PlaceLaws.{grid_at}
@@ -112,7 +112,7 @@ grid_words angles sphi cphi h l p g = table_same _ _ angles (λ a b x y. model_s
     n = ap length s ∙ tab_length _ ring_samples
 
     at_grid : (a : ℕ) → a < 23 → (i : ℕ) → i < ring_samples
-        → place h i a ≡ at (grid_row ring_samples (sines ring_samples angles) (cosines ring_samples angles) a) i
+        → factor_at h i a ≡ at (grid_row ring_samples (sines ring_samples angles) (cosines ring_samples angles) a) i
     at_grid a x i m = rw (← s, ← c) (grid_at (rw n at g) a x i m)
 
 -- ---- a block is read again

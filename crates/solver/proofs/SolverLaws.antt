@@ -24,7 +24,7 @@ use Rattle.solver.specs.declared.Sums.{Sums}
 use Rattle.solver.specs.Solver.{sample_at, Normal, empty, added, grown, pass, cut, small, moved, stay, to, step_of}
 use Rattle.solver.specs.Solver.{Final, updates_from, updates, sines, cosines}
 use Rattle.solver.specs.Record.{start_from}
-use Rattle.solver.specs.Buffers.{RingNear, TurnedTo, Sines, Prepared, sample_from, filled, summed, no_sums, packed, spread}
+use Rattle.solver.specs.Buffers.{RingNear, TurnedTo, Sines, Prepared, sample_from, samples_at, summed, no_sums, packed, spread}
 
 -- ---- the angles
 sixty_four : lit 0x4280_0000 ≡ fin false 1 (pos 6)
@@ -92,9 +92,9 @@ packed_all js =
     unfold empty in iter_through spread _ (λ i. added (sample_from js i)) no_sums (length js) (λ i s. packed_next (sample_from js i) s)
 
 pub pass_split : (p : Params) (samples sphi cphi : Row) (js : List Sample) (l : Normal) (t : TwoSinCos) → t ≡ sin_cos_two p.theta1 p.theta2 →
-    js ≡ filled p (record { s = t.s1; c = t.c1 }) (record { s = t.s2; c = t.c2 }) samples sphi cphi → l ≡ summed js →
+    js ≡ samples_at p (record { s = t.s1; c = t.c1 }) (record { s = t.s2; c = t.c2 }) samples sphi cphi → l ≡ summed js →
     l ≡ pass (length samples) p samples sphi cphi
-unfolding pass filled
+unfolding pass samples_at
 pass_split p samples sphi cphi js l t e f s =
     s ∙ ap (iter (λ i. added (sample_from js i)) empty) (ap length f ∙ tab_length _ (length samples))
     ∙ iter_same _ _ empty (length samples) (λ i h x. ap (λ (t : Sample). added t x) (here i h ∙ same i))

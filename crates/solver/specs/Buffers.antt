@@ -47,8 +47,8 @@ abbrev pub sample_from : List Sample → ℕ → Sample
 sample_from js i = get_or js i (record { r = nan; q = nan; d1 = nan; d2 = nan })
 
 -- all samples at the parameters p, whose angles have the sines and cosines t1 and t2
-unfoldable pub filled : Params → SinCos → SinCos → Row → Row → Row → List Sample
-filled p t1 t2 samples sphi cphi = tab (λ i. sample_at p t1 t2 (at samples i) (at sphi i) (at cphi i)) (length samples)
+unfoldable pub samples_at : Params → SinCos → SinCos → Row → Row → Row → List Sample
+samples_at p t1 t2 samples sphi cphi = tab (λ i. sample_at p t1 t2 (at samples i) (at sphi i) (at cphi i)) (length samples)
 
 -- the normal matrix, the right-hand side and the sum of squares of the samples in js
 abbrev pub summed : List Sample → Normal

@@ -147,7 +147,7 @@ pub fn prepare(ring_phi: &[f32], turned: &mut [f32], sphi: &mut [f32], cphi: &mu
 // The residual and the Jacobian's row of each sample: this loop has no running sum, so it becomes vector code.
 fn fill(ring: &Ring, p: Params, t1: SinCos, t2: SinCos, js: &mut [Sample])
     requires { length js.old ≡ length ring.now.samples.now }
-    ensures { js.new ≡ B.filled p t1 t2 ring.now.samples.now ring.now.sphi.now ring.now.cphi.now }
+    ensures { js.new ≡ B.samples_at p t1 t2 ring.now.samples.now ring.now.sphi.now ring.now.cphi.now }
 {
     let samples = ring.samples;
     let sphi = ring.sphi;
