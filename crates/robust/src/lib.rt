@@ -268,7 +268,8 @@ pub struct First {
 }
 
 // What solver::fit_with_seed does. A start that is not refused leaves the sines and cosines for the grid, and no refused
-// start is suspicious.
+// start is suspicious. Its working buffers are not on a caller's stack either.
+#[inline(never)]
 fn start<const N: usize>(
     samples: &[f32],
     ring_phi: &[f32],

@@ -307,9 +307,7 @@ fn put_angles(angles: &[f32], table: &mut [f32])
     requires { (length angles.now ≡ W.ring_samples) × (length table.old ≡ W.table_size) }
     ensures { table.new ≡ angles.now ++ drop W.ring_samples table.old }
 {
-    for i in 0..RING_SAMPLES {
-        table[i] = angles[i];
-    }
+    table[..RING_SAMPLES].copy_from_slice(angles);
 }
 
 // The angles, then block by block.
