@@ -52,10 +52,11 @@ pub fn rank(pool: Pool) -> Ranked
         let k = top.n;
         for t in 0..k {
             let y = top.pairs[t];
-            if is_before(carry, y) {
-                top.pairs[t] = carry;
-                carry = y;
+            if !is_before(carry, y) {
+                continue;
             }
+            top.pairs[t] = carry;
+            carry = y;
         }
         if k < MAX_TOP_PAIRS {
             top.pairs[k] = carry;

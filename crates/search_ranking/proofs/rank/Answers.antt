@@ -7,24 +7,24 @@ use Rattle.search_ranking.specs.Ranking.{blank}
 use Rattle.search_ranking.specs.SinkLaws.{sinks_swap, sinks_stay, ranks_none, ranks_more, ranks_full, ranks_all}
 use borrow.Author.Rules.{rules}
 use Rattle.search_ranking.proofs.rank.Goals as goal
-use Rattle.search_ranking.proofs.rank.Goals.{then-is_before, else-is_before, then-k-lt-MAX_TOP_PAIRS, else-k-lt-MAX_TOP_PAIRS}
+use Rattle.search_ranking.proofs.rank.Goals.{then-k-lt-MAX_TOP_PAIRS, else-k-lt-MAX_TOP_PAIRS}
 
 pub loop-pair-init : goal.loop-pair-init
 loop-pair-init c =
     let e = c.unranked-top.ensures in
     (search rules, rw e.0 (omega arith), ranks_none _ _ e.0 e.1)
 
+pub loop-t-preserved-then-not-is_before : goal.loop-t-preserved-then-not-is_before
+loop-t-preserved-then-not-is_before c =
+    let s = c.loop-t.invariant in
+    let after = sym c.is_before.ensures ∙ c.if-not-is_before.true in
+    (search rules, search rules, search rules, sinks_stay _ _ _ _ _ _ s.3 s.1 c.loop-t-test.true after)
+
 pub loop-t-preserved : goal.loop-t-preserved
 loop-t-preserved c =
     let s = c.loop-t.invariant in
-    elim c.if-is_before.branch [
-      | then-is_before w ↦
-          let before = sym c.is_before.ensures ∙ w.if-is_before.true in
-          rw (w.top-is, w.carry-is) (search rules, search rules, search rules, sinks_swap _ _ _ _ _ _ s.3 s.1 c.loop-t-test.true before)
-      | else-is_before w ↦
-          let after = sym c.is_before.ensures ∙ w.if-is_before.false in
-          rw (w.top-is, w.carry-is) (search rules, search rules, search rules, sinks_stay _ _ _ _ _ _ s.3 s.1 c.loop-t-test.true after)
-    ]
+    let before = sym c.is_before.ensures ∙ c.if-not-is_before.false in
+    (search rules, search rules, search rules, sinks_swap _ _ _ _ _ _ s.3 s.1 c.loop-t-test.true before)
 
 pub loop-pair-preserved : goal.loop-pair-preserved
 loop-pair-preserved c =
