@@ -30,27 +30,20 @@ const ROBUST_SEP_TRIGGER_MIN_RAD: f32 = 1.13446403;
 
 const ROBUST_SEP_TRIGGER_MAX_RAD: f32 = 2.00712872;
 
-// Rust's `sum` begins at -0.
 fn total(samples: &[f32]) -> f32
     ensures { result ≡ R.total (length samples.now) samples.now }
 {
-    let n = samples.len();
-    let mut s = -0.0f32;
-    for i in 0..n {
-        s = s + samples[i];
-    }
-    s
+    samples.iter().copied().sum()
 }
 
 fn deviations(samples: &[f32], mean: f32) -> f32
     ensures { result ≡ R.deviations (length samples.now) samples.now mean }
 {
-    let n = samples.len();
-    let mut s = -0.0f32;
-    for i in 0..n {
-        s = s + (samples[i] - mean) * (samples[i] - mean);
-    }
-    s
+    samples
+        .iter()
+        .copied()
+        .map(|s| (s - mean) * (s - mean))
+        .sum()
 }
 
 pub fn relative_rms(f: TwoAxisFit) -> f32
@@ -100,10 +93,9 @@ fn center(samples: &[f32], mean: f32, centered: &mut [f32])
 fn squares(centered: &[f32]) -> f32
     ensures { result ≡ R.squares (length centered.now) centered.now }
 {
-    let n = centered.len();
     let mut s = 0.0f32;
-    for i in 0..n {
-        s = s + centered[i] * centered[i];
+    for c in centered {
+        s += *c * *c;
     }
     s
 }
@@ -276,7 +268,8 @@ pub struct First {
 }
 
 // What solver::fit_with_seed does. A start that is not refused leaves the sines and cosines for the grid, and no refused
-// start is suspicious.
+// start is suspicious. Its working buffers are not on a caller's stack either.
+#[inline(never)]
 fn start<const N: usize>(
     samples: &[f32],
     ring_phi: &[f32],

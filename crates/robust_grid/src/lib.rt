@@ -78,6 +78,7 @@ fn last_of(a: usize) -> usize
 // four of an angle may run past its last pair; there are 65 such blocks.
 pub const BLOCKS: usize = 65;
 
+// Its bounds stand in contracts: as ghost fields they would be no plainer, since the definition walks on behind the last block.
 #[derive(Clone, Copy)]
 pub struct Pair {
     pub a: usize,

@@ -72,10 +72,9 @@ pub fn lane_sums<const N: usize>(h: &[GridRow; N], centered: &[f32; N], a: usize
         q2_sum: none,
         num: none,
     };
-    for i in 0..N {
-        let row = &h[i];
+    for (row, v) in h.iter().zip(centered) {
         let y = [row[b], row[b + 1], row[b + 2], row[b + 3]];
-        s = lanes_added(s, centered[i], row[a], y);
+        s = lanes_added(s, *v, row[a], y);
     }
     s
 }

@@ -142,7 +142,8 @@ pub fn is_flat(denom: f32) -> bool
     true
 }
 
-// From num on: `n` is the number of samples.
+// From num on: `n` is the number of samples. A struct of some of the eight would be no plainer: each caller has
+// them one by one.
 pub fn seed_from(
     n: f32,
     centered_ss: f32,

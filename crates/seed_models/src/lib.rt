@@ -45,10 +45,9 @@ fn num_of(centered: &[f32], q_centered: &[f32]) -> f32
     requires { length q_centered.now ≡ length centered.now }
     ensures { result ≡ M.num_of (length centered.now) centered.now (at q_centered.now) }
 {
-    let n = centered.len();
     let mut num = 0.0f32;
-    for i in 0..n {
-        num += centered[i] * q_centered[i];
+    for (v, q) in centered.iter().zip(q_centered) {
+        num += *v * *q;
     }
     num
 }
@@ -93,10 +92,9 @@ fn is_ring_phi(ring_phi: &[f32], expected: &[f32]) -> bool
     requires { length expected.now ≡ length ring_phi.now }
     ensures { result ≡ M.is_ring_phi (length ring_phi.now) ring_phi.now expected.now }
 {
-    let n = ring_phi.len();
     let mut all = true;
-    for i in 0..n {
-        all = still_near(all, ring_phi[i], expected[i]);
+    for (got, want) in ring_phi.iter().zip(expected) {
+        all = still_near(all, *got, *want);
     }
     all
 }
@@ -260,8 +258,8 @@ fn q_sums(h: &GridRows, a: usize, b: usize) -> QSums
         q_sum: 0.0,
         q2_sum: 0.0,
     };
-    for i in 0..RING_SAMPLES {
-        let q = q_at(h, a, b, i);
+    for row in h {
+        let q = row[a] * row[b];
         s.q_sum += q;
         s.q2_sum += q * q;
     }
@@ -309,9 +307,7 @@ fn put_angles(angles: &[f32], table: &mut [f32])
     requires { (length angles.now ≡ W.ring_samples) × (length table.old ≡ W.table_size) }
     ensures { table.new ≡ angles.now ++ drop W.ring_samples table.old }
 {
-    for i in 0..RING_SAMPLES {
-        table[i] = angles[i];
-    }
+    table[..RING_SAMPLES].copy_from_slice(angles);
 }
 
 // The angles, then block by block.

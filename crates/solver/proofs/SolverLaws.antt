@@ -69,9 +69,6 @@ prepared_turned ring_phi turned sphi cphi t h = record { s = h.s ∙ go (λ x. x
         ∙ tab_same _ _ (length ring_phi) (λ i l. ap (λ (x : Float). f (sin_cos_near x))
         (ap (λ (x : Row). at x i) t.is ∙ tab_at (λ i. turn (at ring_phi i)) nan (length ring_phi) i l))
 
-pub prepared_length : (ring_phi sphi cphi : Row) → Prepared ring_phi sphi cphi → (length sphi ≡ length ring_phi) × (length cphi ≡ length ring_phi)
-prepared_length ring_phi sphi cphi p = (ap length p.s ∙ tab_length _ (length ring_phi), ap length p.c ∙ tab_length _ (length ring_phi))
-
 -- ---- rows first, sums after
 -- the sums after some samples say what the definition's state is after them
 packed_next : (t : Sample) (s : Sums) → spread (packed t s) ≡ added t (spread s)

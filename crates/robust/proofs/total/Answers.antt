@@ -1,19 +1,14 @@
--- The loop keeps the sum so far. Assumes nothing.
-use mathlib.Core.Path.{◌≡◌}
-use native.Mathlib.Omega.{arith}
-use lib.ListN.{length}
-use Rattle.loops.proofs.IterLaws.{iter_zero, iter_next}
+-- The chain folds the samples from -0. Assumes nothing.
+use Rattle.std.proofs.Common.{rules, ◌≡◌, ◌∙◌}
+use Rattle.std.specs.List.{fold}
+use Rattle.std.specs.Float.{nan}
+use Rattle.floats.specs.Ops.{◌⊕◌}
 use Rattle.robust.specs.Robust as R
-use borrow.Author.Rules.{rules}
+use Rattle.robust.proofs.FoldLaws.{fold_iter}
 use Rattle.robust.proofs.total.Goals as goal
 
-pub loop-i-init : goal.loop-i-init
-unfolding R.total
-loop-i-init c = (search rules, rw iter_zero)
-
-pub loop-i-preserved : goal.loop-i-preserved
-unfolding R.total
-loop-i-preserved c = (search rules, rw (iter_next, ← c.loop-i.invariant.1))
-
 pub returns : goal.returns
-returns c = let h : c.loop-i.i ≡ length c.args.samples.now = omega arith in rw h at c.loop-i.invariant.1
+unfolding R.total
+returns c =
+    let e : c.sum.result ≡ fold (λ a x. a ⊕ x) R.negative_zero c.args.samples.now = search rules in
+    e ∙ fold_iter (λ a x. a ⊕ x) nan R.negative_zero c.args.samples.now

@@ -21,7 +21,8 @@ lanes-preserved-then-xs-k g c =
     let inv = c.lanes.invariant in
     let few = c.lanes-test.true in
     let pair = sym c.is_pair.ensures ∙ c.if-not-is_pair.false in
-    let same = lane_skipped c.count_f32-n.result a.centered_ss a.mean a.m a.p _ (c.mean_squares-xs.ensures ∙ ap (λ (n : Float). L.mean_squares a.m n a.centered_ss) (sym c.count_f32-n.ensures)) c.lanes.k few _ _ pair c.lanes.best.kept
+    let squares = c.mean_squares-xs.ensures ∙ ap (λ (n : Float). L.mean_squares a.m n a.centered_ss) (sym c.count_f32-n.ensures) in
+    let same = lane_skipped c.count_f32-n.result a.centered_ss a.mean a.m a.p _ squares c.lanes.k few _ _ pair c.lanes.best.kept
     c.if-xs-k.true in
     (omega (arith, few), iter_more _ _ _ _ _ inv.1 same)
 
@@ -38,7 +39,8 @@ tried-best-requires g c =
     let theta1 = c.grid_angle-theta1.ensures in
     let theta2 = c.grid_angle-theta2.ensures in
     let scored = rw (theta1, theta2) at c.scored_from-c.ensures in
-    let squared = lane_squared c.count_f32-n.result a.centered_ss a.mean a.m a.p _ (c.mean_squares-xs.ensures ∙ ap (λ (n : Float). L.mean_squares a.m n a.centered_ss) (sym c.count_f32-n.ensures)) k c.lanes-test.true in
+    let squares = c.mean_squares-xs.ensures ∙ ap (λ (n : Float). L.mean_squares a.m n a.centered_ss) (sym c.count_f32-n.ensures) in
+    let squared = lane_squared c.count_f32-n.result a.centered_ss a.mean a.m a.p _ squares k c.lanes-test.true in
     subst (L.Squared _) (sym scored) squared
 
 pub lanes-preserved : goal.lanes-preserved

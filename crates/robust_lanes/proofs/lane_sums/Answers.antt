@@ -1,17 +1,33 @@
--- The loop keeps the sums of the four pairs so far. Assumes nothing.
-use Rattle.std.proofs.Common.{arith, ◌≡◌, get_or, []}
+-- A turn takes the row and the sample at their own place, and the loop keeps the sums of the four pairs so far. Assumes nothing.
+use Rattle.std.proofs.Common.{rules, arith, ◌≡◌, ◌∷◌, [], ◌++◌, ◌+◌, length, length-append}
+use Rattle.std.proofs.lemmas.Slice.Zip.{zip_turn, zip_end}
+use Rattle.std.specs.Float.{nan}
+use Rattle.floats.specs.Rows.{Row, at}
 use Rattle.robust_lanes.specs.LaneLaws.{lanes_none, lanes_more, lane_places}
 use Rattle.robust_lanes.proofs.lane_sums.Goals as goal
 
-pub loop-i-init : goal.loop-i-init
-loop-i-init g c = lanes_none _ _ _ _
+pub loop-row-init : goal.loop-row-init
+loop-row-init g c = lanes_none _ _ _ _
 
-pub loop-i-preserved : goal.loop-i-preserved
-loop-i-preserved g c =
-    let places = lane_places (get_or c.args.h.now c.loop-i.i []) c.args.b in
-    lanes_more _ _ _ _ _ _ _ _ c.loop-i.invariant places c.lanes_added-s.ensures
+pub loop-row-preserved : goal.loop-row-preserved
+loop-row-preserved g c =
+    let y = c.loop-row.yielded in
+    let s = c.into_iter-row-iterator.result in
+    let t = zip_turn c.args.h.now c.args.centered.now y s c.loop-row.row-iterator c.next.new.self c.next.result (search rules) (search rules)
+    c.loop-row.yielded_by _ c.in-Some.is c.next.ensures.steps in
+    let z : length (y ++ ((c.in-Some.row, c.in-Some.v) ∷ [])) ≡ length y + 1 = length-append y _ in
+    let r = c.in-Some.row.now in
+    let b = c.args.b in
+    let four_places : Row = at r b ∷ at r (b + 1) ∷ at r (b + 2) ∷ at r (b + 3) ∷ [] in
+    rw z
+    (lanes_more c.args.centered.now c.args.h.now c.args.a b (length y) _ _ four_places c.loop-row.invariant (rw (← t.2 []) (lane_places r b))
+    (rw (← t.2 [], ← t.3 nan) c.lanes_added-s.ensures))
 
 pub returns : goal.returns
 returns g c =
-    let h : c.loop-i.i ≡ g.row.N = omega arith in
-    rw h at c.loop-i.invariant
+    let y = c.loop-row.yielded in
+    let s = c.into_iter-row-iterator.result in
+    let e = zip_end c.args.h.now c.args.centered.now y s c.loop-row.row-iterator c.next.new.self c.next.result (search rules) (search rules)
+    c.loop-row.yielded_by c.in-None.is c.next.ensures.steps in
+    let n : length y ≡ g.row.N = omega (arith, e, c.told-h, c.told-centered) in
+    rw n at c.loop-row.invariant
