@@ -213,12 +213,6 @@ far_most x r e = subst (λ (z : ℕ). z ≤ 1) (sym e) (go (lt (neg tau) x) (lt 
     go true false = omega arith
     go false c = omega arith
 
-pub all_near_none : (angles : Row) (theta : Float) → AllNear 0 angles theta
-all_near_none angles theta = record { near = λ p h. absurd (no p h) }
-  where
-    no : (p : ℕ) → p < 0 → ⊥
-    no p h = omega arith
-
 -- a turn more: where the sum is 0 both its parts are
 pub all_near_next :
     (k : ℕ) (angles : Row) (theta : Float) (n r : ℕ) → (n ≡ 0 → AllNear k angles theta) →

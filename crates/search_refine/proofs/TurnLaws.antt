@@ -9,7 +9,7 @@ use Rattle.floats.specs.Ops.{◌⊕◌}
 use Rattle.loops.specs.Loops.{iter}
 use Rattle.loops.proofs.IterLaws.{pick_true}
 use Rattle.loops.proofs.TabLaws.{tab_at, tab_length}
-use Rattle.floats.specs.Rows.{Row, at}
+use Rattle.floats.specs.Rows.{Row}
 use Rattle.data.specs.Data.{DiskData, max_tanh_pixels}
 use Rattle.score_edges.specs.Edges.{edge_weight_total}
 use Rattle.score.specs.Score.{fit_is_better}

@@ -9,9 +9,6 @@ use Rattle.candidates.proofs.around.Goals as goal
 pub loop-off_deg-init : goal.loop-off_deg-init
 loop-off_deg-init c = (search rules, omega arith, search rules, rw iter_zero)
 
-pub push_unique-candidates-requires : goal.push_unique-candidates-requires
-push_unique-candidates-requires c = let i = c.loop-off_deg.invariant in omega arith
-
 pub loop-off_deg-preserved : goal.loop-off_deg-preserved
 unfolding C.offset
 loop-off_deg-preserved c =

@@ -1,6 +1,4 @@
 -- The loop keeps the nearest so far; 1 over 0 is the infinity. Assumes nothing.
-use mathlib.Core.Path.{◌≡◌}
-use native.Mathlib.Omega.{arith}
 use lib.Ieee.{div, of_bits}
 use Rattle.loops.proofs.IterLaws.{iter_zero, iter_more}
 use Rattle.candidates.specs.Candidates as C
@@ -18,6 +16,3 @@ loop-c-preserved c =
     let e = c.nearer-best.ensures in
     let l = c.loop-c in
     (search rules, rw e (nearer_place _ _ _ _ (search rules) (search rules)), iter_more _ _ _ _ _ l.invariant.2 (rw (← c.line_delta-d.ensures.value) e))
-
-pub returns : goal.returns
-returns c = let h : c.loop-c.c ≡ c.args.candidates.n = omega arith in (search rules, rw h at c.loop-c.invariant.2)

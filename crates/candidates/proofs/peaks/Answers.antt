@@ -11,9 +11,6 @@ pub loop-init : goal.loop-init
 loop-init c =
     (search rules, rw c.new-candidates.ensures (omega arith), rw (iter_zero, c.new-candidates.ensures))
 
-pub push_unique-candidates-requires : goal.push_unique-candidates-requires
-push_unique-candidates-requires c = let i = c.loop.invariant in omega arith
-
 pub loop-preserved : goal.loop-preserved
 unfolding C.too_low
 loop-preserved c =

@@ -27,9 +27,6 @@ loop-p-init c =
     } in
     (search rules, rw iter_zero none)
 
-pub overflow_step-p : goal.overflow_step-p
-overflow_step-p c = omega (arith, c.well_formed)
-
 pub loop-p-preserved : goal.loop-p-preserved
 loop-p-preserved c =
     (search rules, iter_more _ _ _ _ _ c.loop-p.invariant.1 (rw (← c.slopes_at-t.ensures) c.gathered-m.ensures))

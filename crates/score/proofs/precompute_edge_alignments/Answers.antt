@@ -20,9 +20,6 @@ loop-c-preserved c =
     let i = c.loop-c.invariant in
     (search rules, search rules, stores_next _ _ _ _ _ i.2 c.edge_sum.ensures)
 
-pub shape_of-out : goal.shape_of-out
-shape_of-out c = c.loop-c.invariant.2.len
-
 pub returns : goal.returns
 returns c =
     let d = c.args.d in

@@ -1,7 +1,4 @@
 -- The loop keeps the sum so far. Assumes nothing.
-use mathlib.Core.Path.{◌≡◌}
-use native.Mathlib.Omega.{arith}
-use lib.ListN.{length}
 use Rattle.loops.proofs.IterLaws.{iter_zero, iter_next}
 use Rattle.score_edges.specs.Edges as E
 use borrow.Author.Rules.{rules}
@@ -14,6 +11,3 @@ loop-term-init c = (search rules, rw iter_zero)
 pub loop-term-preserved : goal.loop-term-preserved
 unfolding E.ordered_sum
 loop-term-preserved c = (search rules, rw iter_next (cc))
-
-pub returns : goal.returns
-returns c = let h : c.loop-term.term-index ≡ length c.args.row.now = omega arith in rw h at c.loop-term.invariant.1

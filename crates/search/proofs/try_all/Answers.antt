@@ -14,11 +14,6 @@ loop-width-init c =
     λ i. record { top = record { first = e.0.0 i; second = e.0.1 i }; trials = e.1 i } in
     (search rules, search rules, search rules, rw iter_zero (search rules), rw iter_zero none)
 
-pub try_width-leaders-requires : goal.try_width-leaders-requires
-try_width-leaders-requires c =
-    let i = c.loop-width.invariant in
-    (omega (arith, i.2), c.requires, i.1)
-
 pub loop-width-preserved : goal.loop-width-preserved
 loop-width-preserved c =
     let t = c.try_width-leaders.ensures in

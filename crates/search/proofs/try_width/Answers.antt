@@ -10,12 +10,6 @@ use Rattle.search.proofs.try_width.Goals as goal
 pub loop-p-init : goal.loop-p-init
 loop-p-init c = (search rules, cached_none _ _ _ _ c.requires.2, omega arith, rw iter_zero)
 
-pub try_pair-pass-requires : goal.try_pair-pass-requires
-try_pair-pass-requires c =
-    let i = c.loop-p.invariant in
-    let list = c.requires.1 in
-    (omega (arith, i.2, i.0, c.requires.0, list.most), list.within.first c.loop-p.p-index, list.within.second c.loop-p.p-index, i.1)
-
 pub loop-p-preserved : goal.loop-p-preserved
 loop-p-preserved c =
     let t = c.try_pair-pass.ensures in

@@ -13,11 +13,6 @@ pub loop-t-init : goal.loop-t-init
 loop-t-init c =
     (search rules, search rules, rw c.no_slots.ensures, rw c.no_slots.ensures (kept_none _ _ c.requires), rw iter_zero)
 
-pub try_neighbour-turn-requires : goal.try_neighbour-turn-requires
-try_neighbour-turn-requires c =
-    let i = c.loop-t.invariant in
-    (search rules, omega (arith, i.1), i.3)
-
 pub loop-t-preserved : goal.loop-t-preserved
 loop-t-preserved c =
     let e = c.try_neighbour-turn.ensures in

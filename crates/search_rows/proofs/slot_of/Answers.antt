@@ -1,13 +1,9 @@
 -- The first slot that has theta, or else the one to fill, as in the definition. Assumes nothing.
 use mathlib.Core.Path.{◌≡◌, ◌∙◌, sym}
 use Prim.Native.Nat.{◌+◌}
-use native.Mathlib.Omega.{arith}
 use Rattle.search_rows.specs.RowsLaws.{unlike_next, slot_found, slot_filled}
 use borrow.Author.Rules.{rules}
 use Rattle.search_rows.proofs.slot_of.Goals as goal
-
-pub loop-q-init : goal.loop-q-init
-loop-q-init c = λ j l h. absurd (let no : ⊥ = omega arith in no)
 
 pub returns-then-is_same : goal.returns-then-is_same
 returns-then-is_same c =

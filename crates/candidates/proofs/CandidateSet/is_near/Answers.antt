@@ -1,5 +1,4 @@
 -- A search: nothing near among those passed, and the early return cites near-found. Assumes nothing.
-use mathlib.Core.Path.{◌≡◌, sym}
 use Prim.Native.Nat.{◌<◌}
 use lib.Ieee.{nan}
 use Rattle.std.proofs.lemmas.List.{get_or-take}
@@ -29,6 +28,3 @@ loop-kept-preserved c =
         get_or-take a.n a.angles _ nan i,
       ) at c.if-line_delta-min_sep.false),
     )
-
-pub returns : goal.returns
-returns c = let h : c.loop-kept.kept-index ≡ c.args.self.n = search rules in rw h at (sym c.loop-kept.invariant.1)
