@@ -77,24 +77,24 @@ mismatch_rows a =
     ∷ (is_clean a && of_disk (kind_above a), "  warning: this does not answer line {a}: a disk frame of finite values has a disk fit, or refusal 4\n")
     ∷ []
 
--- ---- a fit, of its answer's kind
-unfoldable pub fit_rows : Kind → Reading → List (Bool × String)
-fit_rows kind r =
+-- ---- a fit, of its answer's kind, whose errors are known or not
+unfoldable pub fit_rows : Kind → Bool → List (Bool × String)
+fit_rows kind known =
     (of_ring Sixteen (Some kind), "line {a}: ring fit\n")
     ∷ (of_ring TwentyFour (Some kind), "line {a}: 24-point ring fit\n")
     ∷ (of_disk (Some kind), "line {a}: disk fit\n")
     ∷ (true, "  axes        {b} and {c} degrees, {d} apart\n")
-    ∷ (r.known, "  errors      {e} and {f} degrees\n")
-    ∷ (not r.known, "  errors      not known ({e} and {f} degrees stand in their place)\n")
+    ∷ (known, "  errors      {e} and {f} degrees\n")
+    ∷ (not known, "  errors      not known ({e} and {f} degrees stand in their place)\n")
     ∷ (true, "  amplitude   {g}\n")
     ∷ (true, "  residual    {h}{i}{j}{k}\n")
-    ∷ (not r.disk, "  work        {l} start{m}, {n}{o}{p} update{q}\n")
-    ∷ (r.disk, "  rel_rms     {r}\n")
-    ∷ (r.disk, "  width       {s}\n")
-    ∷ (r.disk, "  correlation {t}\n")
-    ∷ (r.disk, "  edge score  {u}\n")
-    ∷ (r.disk, "  objective   {v}\n")
-    ∷ (r.disk, "  work        {w} trial{x}\n")
+    ∷ (not (of_disk (Some kind)), "  work        {l} start{m}, {n}{o}{p} update{q}\n")
+    ∷ (of_disk (Some kind), "  rel_rms     {r}\n")
+    ∷ (of_disk (Some kind), "  width       {s}\n")
+    ∷ (of_disk (Some kind), "  correlation {t}\n")
+    ∷ (of_disk (Some kind), "  edge score  {u}\n")
+    ∷ (of_disk (Some kind), "  objective   {v}\n")
+    ∷ (of_disk (Some kind), "  work        {w} trial{x}\n")
     ∷ []
 
 -- ---- a refusal: number 3 has the place of a value, which has a name: a ring's samples, and behind them as many angles
@@ -217,16 +217,21 @@ refused_rows r a = refusal_rows r a (name_of r a) (is_shown r a)
 abbrev pub foreign_place : List ℕ → Option ℕ
 foreign_place l = position (λ b. not (is_hex b)) l
 
-abbrev pub byte_at : List ℕ → Option ℕ → ℕ
-byte_at l (Some k) = slice_index l k
-byte_at l None = 0
+abbrev pub byte_at : List ℕ → Option ℕ → Option ℕ
+byte_at l (Some k) = Some (slice_index l k)
+byte_at l None = None
 
-abbrev pub foreign_byte : List ℕ → ℕ
+abbrev pub foreign_byte : List ℕ → Option ℕ
 foreign_byte l = byte_at l (foreign_place l)
 
--- A to F
-abbrev pub is_upper : ℕ → Bool
-is_upper b = nat_lt 64 b && nat_lt b 71
+-- A to F, and a carriage return
+abbrev pub is_upper : Option ℕ → Bool
+is_upper (Some b) = nat_le 65 b && nat_le b 70
+is_upper None = false
+
+abbrev pub is_return : Option ℕ → Bool
+is_return (Some b) = b == 13
+is_return None = false
 
 -- what is wrong, by its sentence
 abbrev pub is_too_long : Wrong → Bool
@@ -289,13 +294,13 @@ abbrev pub is_strange_number : Wrong → Bool
 is_strange_number (StrangeNumber kind number) = true
 is_strange_number _ = false
 
-unfoldable pub bad_rows : Wrong → ℕ → ℕ → List (Bool × String)
+unfoldable pub bad_rows : Wrong → ℕ → Option ℕ → List (Bool × String)
 bad_rows w n b =
     (true, "line {a}: bad line: ")
     ∷ (is_too_long w, "over 12830 characters, the most that a frame has\n")
     ∷ (is_foreign w && is_upper b, "upper-case digit at character {b}: the house format is lower-case\n")
-    ∷ (is_foreign w && (b == 13), "carriage return at character {b}: a line ends in a line feed alone\n")
-    ∷ (is_foreign w && not (is_upper b || b == 13), "character {b} is no hexadecimal digit (byte {c})\n")
+    ∷ (is_foreign w && is_return b, "carriage return at character {b}: a line ends in a line feed alone\n")
+    ∷ (is_foreign w && not (is_upper b || is_return b), "character {b} is no hexadecimal digit (byte {c})\n")
     ∷ (is_short w && (n == 0), "empty: as a frame it is answered ff050000\n")
     ∷ (is_short w && not (n == 0), "1 character (an odd number): the type alone has 2\n")
     ∷ (is_unknown_type w, "unknown type {d}, {e} character{f}{g}: frames are 01, 02 and 03, answers 81, 82, 83 and ff\n")
@@ -318,7 +323,7 @@ line_rows w l = bad_rows w (length l) (foreign_byte l)
 
 -- ---- a line l of its sort, below a: first that the frame above has no answer, where this line is none; at the end that this is not its answer
 abbrev pub fit_text : List (List ℕ) → Kind → Reading → List ℕ
-fit_text ws kind r = telling ws (fit_rows kind r) ++ warnings_text r
+fit_text ws kind r = telling ws (fit_rows kind r.known) ++ warnings_text r
 
 -- a fit's line l told on the page p, which is q now, whatever the words in the blanks are
 pub record Fitted (l : List ℕ) (kind : Kind) (p q : Page) : Type 0 where

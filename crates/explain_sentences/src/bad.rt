@@ -15,13 +15,32 @@ fn first_foreign(line: &[u8]) -> Option<usize>
     line.iter().position(|b| !hexadecimal::is_hex(*b))
 }
 
-// That character, 0 where there is none.
-fn foreign_byte(line: &[u8]) -> u8
+// That character.
+fn foreign_byte(line: &[u8]) -> Option<u8>
     ensures { result ≡ S.foreign_byte line.now }
 {
     match first_foreign(line) {
-        Some(k) => line[k],
-        None => 0,
+        Some(k) => Some(line[k]),
+        None => None,
+    }
+}
+
+// A to F, and a carriage return.
+fn is_upper(b: Option<u8>) -> bool
+    ensures { result ≡ S.is_upper b }
+{
+    match b {
+        Some(b) => (b >= b'A') & (b <= b'F'),
+        None => false,
+    }
+}
+
+fn is_return(b: Option<u8>) -> bool
+    ensures { result ≡ S.is_return b }
+{
+    match b {
+        Some(b) => b == b'\r',
+        None => false,
     }
 }
 
@@ -116,11 +135,11 @@ fn is_strange_number(w: Wrong) -> bool
     matches!(w, Wrong::StrangeNumber(_, _))
 }
 
-fn flags_of(w: Wrong, n: usize, b: u8) -> [bool; 20]
+fn flags_of(w: Wrong, n: usize, b: Option<u8>) -> [bool; 20]
     ensures { (result ≡ flags_of (S.bad_rows w n b)) × (20 ≡ length result) }
 {
-    let upper = (b > 64) & (b < 71);
-    let returned = b == 13;
+    let upper = is_upper(b);
+    let returned = is_return(b);
     let foreign = is_foreign(w);
     let short = is_short(w);
     let strange = is_strange_number(w);
@@ -173,17 +192,23 @@ fn number_of(w: Wrong) -> u32 {
     }
 }
 
-// People count characters from 1.
-fn place_word(line: &[u8]) -> Word {
+// The place of the first character that is no digit, and its byte. People count characters from 1.
+fn foreign_words(line: &[u8]) -> [Word; 2]
+    ensures { 2 ≡ length result }
+{
     match first_foreign(line) {
-        Some(k) => number(std::num::wrapping_add_u64(k as u64, 1)),
-        None => BLANK,
+        Some(k) => [
+            number(std::num::wrapping_add_u64(k as u64, 1)),
+            bits(u64::from(line[k]), 2),
+        ],
+        None => [BLANK; 2],
     }
 }
 
-fn words_of(line_number: u64, line: &[u8], b: u8, w: Wrong) -> [Word; 11]
+fn words_of(line_number: u64, line: &[u8], w: Wrong) -> [Word; 11]
     ensures { 11 ≡ length result }
 {
+    let [place, foreign] = foreign_words(line);
     let characters = line.len() as u64;
     let pixels = u64::from(pixels_of(w));
     let odd = if characters % 2 == 1 {
@@ -193,8 +218,8 @@ fn words_of(line_number: u64, line: &[u8], b: u8, w: Wrong) -> [Word; 11]
     };
     [
         number(line_number),
-        place_word(line),
-        bits(u64::from(b), 2),
+        place,
+        foreign,
         bits(u64::from(type_of(w)), 2),
         number(characters),
         plural(characters),
@@ -211,9 +236,8 @@ pub fn told(page: &mut Page, number: u64, line: &[u8], w: Wrong)
     requires { page.old.at + 24936 ≤ length page.old.text.now }
     ensures { (page.new.at ≤ page.old.at + 24936) × Told (S.line_rows w line.now) page.old page.new }
 {
-    let b = foreign_byte(line);
-    let flags = flags_of(w, line.len(), b);
-    let words = words_of(number, line, b, w);
+    let flags = flags_of(w, line.len(), foreign_byte(line));
+    let words = words_of(number, line, w);
     page.tell(
         b"line {a}: bad line: |\
 over 12830 characters, the most that a frame has

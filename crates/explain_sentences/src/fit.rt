@@ -4,7 +4,7 @@ ghost use Rattle.explain_words.specs.Tell.{flags_of};
 ghost use Rattle.shapes.specs.Shapes.{fit_length};
 ghost use Rattle.explain_sentences.specs.Sentences as S;
 
-use explain_warnings::Reading;
+use explain_warnings::{Beside, Reading};
 use explain_words::Page;
 use explain_words::numbers::{
     BLANK, Word, figures, hundredths, letters, number, plural, thousandths,
@@ -42,22 +42,54 @@ fn share_words(r: Reading) -> [Word; 3]
     }
 }
 
-// The updates that the noun stands behind: a lone start has no second number.
-fn last_updates(r: Reading) -> u64 {
-    if r.starts == 1 {
-        return u64::from(r.first);
+// A ring's starts, their noun, the first one's updates, those of the second behind them, where there are
+// two, and the noun of the last.
+fn ring_words(beside: Beside) -> [Word; 6]
+    ensures { 6 ≡ length result }
+{
+    let Beside::Ring(s) = beside else {
+        return [BLANK; 6];
+    };
+    let starts = u64::from(s.number);
+    let first = u64::from(s.first);
+    let second = u64::from(s.second);
+    if starts == 1 {
+        return [
+            number(starts),
+            plural(starts),
+            number(first),
+            BLANK,
+            BLANK,
+            plural(first),
+        ];
     }
-    u64::from(r.second)
+    [
+        number(starts),
+        plural(starts),
+        number(first),
+        letters(b" and "),
+        number(second),
+        plural(second),
+    ]
 }
 
-// The updates of the second start behind those of the first, where there are two.
-fn second_words(r: Reading) -> [Word; 2]
-    ensures { 2 ≡ length result }
+// What a disk's line says beside its fit, with the noun of the trials.
+fn disk_words(beside: Beside) -> [Word; 7]
+    ensures { 7 ≡ length result }
 {
-    if r.starts == 1 {
-        return [BLANK; 2];
-    }
-    [letters(b" and "), number(u64::from(r.second))]
+    let Beside::Disk(d) = beside else {
+        return [BLANK; 7];
+    };
+    let trials = u64::from(d.trials);
+    [
+        figures_of(d.rel_rms),
+        figures_of(d.width),
+        figures_of(d.corr),
+        figures_of(d.edge_score),
+        figures_of(d.objective),
+        number(trials),
+        plural(trials),
+    ]
 }
 
 fn words_of(line: u64, r: Reading) -> [Word; 24]
@@ -66,9 +98,16 @@ fn words_of(line: u64, r: Reading) -> [Word; 24]
     let x = degrees(r.theta1);
     let y = degrees(r.theta2);
     let [open, share, close] = share_words(r);
-    let starts = u64::from(r.starts);
-    let [and, second] = second_words(r);
-    let trials = u64::from(r.trials);
+    let [starts, starts_end, first, and, second, updates_end] = ring_words(r.beside);
+    let [
+        rel_rms,
+        width,
+        corr,
+        edge_score,
+        objective,
+        trials,
+        trials_end,
+    ] = disk_words(r.beside);
     [
         number(line),
         hundredths(x),
@@ -81,35 +120,35 @@ fn words_of(line: u64, r: Reading) -> [Word; 24]
         open,
         share,
         close,
-        number(starts),
-        plural(starts),
-        number(u64::from(r.first)),
+        starts,
+        starts_end,
+        first,
         and,
         second,
-        plural(last_updates(r)),
-        figures_of(r.rel_rms),
-        figures_of(r.width),
-        figures_of(r.corr),
-        figures_of(r.edge_score),
-        figures_of(r.objective),
-        number(trials),
-        plural(trials),
+        updates_end,
+        rel_rms,
+        width,
+        corr,
+        edge_score,
+        objective,
+        trials,
+        trials_end,
     ]
 }
 
 // Which sentences are told: a ring's, a disk's or both's.
-fn flags_of(kind: Kind, r: Reading) -> [bool; 15]
-    ensures { (result ≡ flags_of (S.fit_rows kind r)) × (15 ≡ length result) }
+fn flags_of(kind: Kind, known: bool) -> [bool; 15]
+    ensures { (result ≡ flags_of (S.fit_rows kind known)) × (15 ≡ length result) }
 {
-    let disk = r.disk;
     let kind = Some(kind);
+    let disk = super::of_disk(kind);
     [
         super::of_ring(kind, RingKind::Sixteen),
         super::of_ring(kind, RingKind::TwentyFour),
-        super::of_disk(kind),
+        disk,
         true,
-        r.known,
-        !r.known,
+        known,
+        !known,
         true,
         true,
         !disk,
@@ -128,7 +167,7 @@ pub fn told(page: &mut Page, number: u64, line: &[u8], kind: Kind)
     ensures { (page.new.at ≤ page.old.at + 44424) × S.Fitted line.now kind page.old page.new }
 {
     let r = explain_warnings::read(line, kind);
-    let flags = flags_of(kind, r);
+    let flags = flags_of(kind, r.known);
     let words = words_of(number, r);
     page.tell(
         b"line {a}: ring fit

@@ -40,6 +40,7 @@ fn numbered(k: u32) -> Part
     }
 }
 
+#[tactic(auto, unfolding(crate::specs::Sentences::part_of))]
 fn part_of(n: u32, place: u32) -> Part
     requires { place ≤ 65535 }
     ensures { result ≡ S.part_of n place }
@@ -72,6 +73,7 @@ fn is_disk(r: Refusal) -> bool
     super::of_disk(r.kind) & (r.number == 3)
 }
 
+#[tactic(auto, unfolding(crate::specs::Sentences::name_of))]
 fn name_of(r: Refusal, a: Above) -> Option<Part>
     ensures { result ≡ S.name_of r a }
 {

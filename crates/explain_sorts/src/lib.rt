@@ -85,6 +85,7 @@ fn is_of(kind: Option<Kind>, number: u32) -> bool
     }
 }
 
+#[tactic(auto, unfolding(crate::specs::Sorts::refusal_sort))]
 fn refusal_sort(line: &[u8], kind: Option<Kind>) -> Sort
     requires { 8 ≤ length line.now }
     ensures { (result ≡ S.refusal_sort line.now kind) × S.SortSound (length line.now) result }
@@ -115,6 +116,7 @@ fn fit_size(kind: Kind) -> usize
 }
 
 // An answer of a kind that has fits.
+#[tactic(auto, unfolding(crate::specs::Sorts::fit_answer))]
 fn fit_answer(line: &[u8], kind: Kind) -> Sort
     ensures { (result ≡ S.fit_answer line.now kind) × S.SortSound (length line.now) result }
 {
@@ -132,6 +134,7 @@ fn fit_answer(line: &[u8], kind: Kind) -> Sort
     Sort::Fit(kind)
 }
 
+#[tactic(auto, unfolding(crate::specs::Sorts::malformed_answer))]
 fn malformed_answer(line: &[u8]) -> Sort
     ensures { (result ≡ S.malformed_answer line.now) × S.SortSound (length line.now) result }
 {
@@ -142,6 +145,7 @@ fn malformed_answer(line: &[u8]) -> Sort
 }
 
 // A line of a type that no frame has.
+#[tactic(auto, unfolding(crate::specs::Sorts::answer_sort))]
 fn answer_sort(line: &[u8], answer: u32) -> Sort
     ensures { (result ≡ S.answer_sort line.now answer) × S.SortSound (length line.now) result }
 {
@@ -205,6 +209,7 @@ fn shape_sort(text: &[u8], line: u64, shape: Shape) -> Sort
 }
 
 // Line number `number`. A line of which a part is gone was too long.
+#[tactic(auto, unfolding(crate::specs::Sorts::sort_of))]
 pub fn sort_of(line: &[u8], skip: bool, number: u64) -> Sort
     ensures { (result ≡ S.sort_of line.now skip number) × S.SortSound (length line.now) result }
 {
@@ -239,8 +244,7 @@ fn is_asked(asks: Asks, kind: Option<Kind>) -> bool
     ensures { result ≡ S.is_asked asks kind }
 {
     match (asks, kind) {
-        (Asks::Ring(RingKind::Sixteen), Some(Kind::Ring(RingKind::Sixteen))) => true,
-        (Asks::Ring(RingKind::TwentyFour), Some(Kind::Ring(RingKind::TwentyFour))) => true,
+        (Asks::Ring(ring), Some(Kind::Ring(answered))) => ring == answered,
         (Asks::Disk(_), Some(Kind::Disk)) => true,
         _ => false,
     }

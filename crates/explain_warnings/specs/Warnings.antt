@@ -11,50 +11,42 @@ use Rattle.explain_words.specs.Tell.{telling}
 use Rattle.shapes.specs.declared.Kind.{Kind}
 use Rattle.shapes.specs.declared.Kind.TheVariants.{Ring, Disk}
 use Rattle.explain_warnings.specs.declared.Reading.{Reading}
+use Rattle.explain_warnings.specs.declared.Search.{Search}
+use Rattle.explain_warnings.specs.declared.Beside.{Beside}
+use Rattle.explain_warnings.specs.declared.Beside.TheVariants as Besides
 
 -- ---- an answer's values, where they stand in its line (docs/RULES.md, Frame lines)
 abbrev pub ring_reading : List ℕ → Reading
 ring_reading l =
     record {
-      disk = false;
       amp = value_of l 4;
       theta1 = value_of l 12;
       theta2 = value_of l 20;
       error1 = value_of l 28;
       error2 = value_of l 36;
       rms = value_of l 44;
-      width = nought;
-      rel_rms = nought;
-      corr = nought;
-      edge_score = nought;
-      objective = nought;
-      trials = 0;
-      starts = byte_of l 52;
-      first = byte_of l 54;
-      second = byte_of l 56;
       known = not (eqb (byte_of l 58) 0);
+      beside = Besides.Ring (record { number = byte_of l 52; first = byte_of l 54; second = byte_of l 56 });
     }
 
 abbrev pub disk_reading : List ℕ → Reading
 disk_reading l =
     record {
-      disk = true;
       theta1 = value_of l 4;
       theta2 = value_of l 12;
-      width = value_of l 20;
       amp = value_of l 28;
       rms = value_of l 36;
-      rel_rms = value_of l 44;
-      corr = value_of l 52;
-      edge_score = value_of l 60;
-      objective = value_of l 68;
       error1 = value_of l 76;
       error2 = value_of l 84;
-      trials = byte_of l 92 * 256 + byte_of l 94;
-      starts = 0;
-      first = 0;
-      second = 0;
       known = not (eqb (byte_of l 96) 0);
+      beside = Besides.Disk (record {
+        width = value_of l 20;
+        rel_rms = value_of l 44;
+        corr = value_of l 52;
+        edge_score = value_of l 60;
+        objective = value_of l 68;
+        trials = byte_of l 92 * 256 + byte_of l 94;
+      });
     }
 
 -- of a disk or of a ring
@@ -76,9 +68,31 @@ abbrev pub is_large : Float → Float → Bool
 is_large rms amp = finite rms && le (lit 0x3df5_c28f) (max rms nought ⊘ max amp one)
 
 -- a ring's start without contrast: amplitude 0, axes 0 and PI/2, and no update. Where there were two starts, either may be the one
+abbrev pub is_still : Beside → Bool
+is_still (Besides.Ring s) = eqb s.first 0 || eqb s.second 0
+is_still (Besides.Disk d) = false
+
 abbrev pub is_degenerate : Reading → Bool
-is_degenerate r =
-    not r.disk && (eq r.amp nought && eq r.theta1 nought && eq r.theta2 half_pi) && (eqb r.first 0 || eqb r.second 0)
+is_degenerate r = is_still r.beside && (eq r.amp nought && eq r.theta1 nought && eq r.theta2 half_pi)
+
+-- a disk of which p holds
+abbrev pub of_disk : (Search → Bool) → Beside → Bool
+of_disk p (Besides.Ring s) = false
+of_disk p (Besides.Disk d) = p d
+
+abbrev pub is_outside : Float → Bool
+is_outside x = lt x nought || lt one x
+
+abbrev pub disk_flags : Beside → List Bool
+disk_flags b =
+    of_disk (λ d. eq d.corr nought) b
+    ∷ of_disk (λ d. is_outside d.corr) b
+    ∷ of_disk (λ d. is_wild d.width) b
+    ∷ of_disk (λ d. is_wild d.rel_rms) b
+    ∷ of_disk (λ d. is_wild d.corr) b
+    ∷ of_disk (λ d. is_wild d.edge_score) b
+    ∷ of_disk (λ d. is_wild d.objective) b
+    ∷ []
 
 -- ---- the warnings: when, and in which words. Where the errors are known (docs/RULES.md, Known), a PI is an estimate of that or more;
 -- where they are not, a 0 says nothing
@@ -88,8 +102,8 @@ warnings_of r =
     ∷ (is_infinite r.rms, "  warning: the residual is infinite: a sum overflowed\n")
     ∷ (is_nan r.rms, "  warning: the residual is NaN: it says nothing of the fit\n")
     ∷ (is_large r.rms r.amp, "  warning: the residual is at least 12 % of the amplitude, or of 1 where that is more\n")
-    ∷ (r.disk && eq r.corr nought, "  warning: the correlation is 0: the fit explains nothing of the disk\n")
-    ∷ (lt r.corr nought || lt one r.corr, "  warning: the correlation is not between 0 and 1\n")
+    ∷ (of_disk (λ d. eq d.corr nought) r.beside, "  warning: the correlation is 0: the fit explains nothing of the disk\n")
+    ∷ (of_disk (λ d. is_outside d.corr) r.beside, "  warning: the correlation is not between 0 and 1\n")
     ∷ (not r.known, "  warning: the errors are not known: whatever stands in their place, PI or 0 too, is no estimate\n")
     ∷ (r.known && eq r.error1 pi, "  warning: the first error is estimated, and is PI or more: that axis is not determined\n")
     ∷ (r.known && eq r.error2 pi, "  warning: the second error is estimated, and is PI or more: that axis is not determined\n")
@@ -101,11 +115,11 @@ warnings_of r =
     ∷ (is_wild r.theta2, "  warning: the second axis is not finite\n")
     ∷ (is_wild r.error1, "  warning: the first error is not finite\n")
     ∷ (is_wild r.error2, "  warning: the second error is not finite\n")
-    ∷ (is_wild r.width, "  warning: the width is not finite\n")
-    ∷ (is_wild r.rel_rms, "  warning: the relative residual is not finite\n")
-    ∷ (is_wild r.corr, "  warning: the correlation is not finite\n")
-    ∷ (is_wild r.edge_score, "  warning: the edge score is not finite\n")
-    ∷ (is_wild r.objective, "  warning: the objective is not finite\n")
+    ∷ (of_disk (λ d. is_wild d.width) r.beside, "  warning: the width is not finite\n")
+    ∷ (of_disk (λ d. is_wild d.rel_rms) r.beside, "  warning: the relative residual is not finite\n")
+    ∷ (of_disk (λ d. is_wild d.corr) r.beside, "  warning: the correlation is not finite\n")
+    ∷ (of_disk (λ d. is_wild d.edge_score) r.beside, "  warning: the edge score is not finite\n")
+    ∷ (of_disk (λ d. is_wild d.objective) r.beside, "  warning: the objective is not finite\n")
     ∷ (is_degenerate r, "  warning: the samples have no contrast: axes and errors are placeholders\n")
     ∷ []
 

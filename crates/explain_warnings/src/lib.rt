@@ -10,51 +10,62 @@ ghost use Rattle.explain_warnings.specs.Warnings as W;
 use explain_words::Page;
 use shapes::Kind;
 
-// What a line's answer says. A ring has no width, relative residual, correlation, edge score, objective
-// and trials, and a disk no starts and updates: they are 0 there.
+// What a ring's line says beside its fit: its starts, and the updates of the first and of the second.
 #[derive(Clone, Copy)]
-pub struct Reading {
-    pub disk: bool,
-    pub amp: f32,
-    pub theta1: f32,
-    pub theta2: f32,
-    pub error1: f32,
-    pub error2: f32,
-    pub rms: f32,
+pub struct Starts {
+    pub number: u32,
+    pub first: u32,
+    pub second: u32,
+}
+
+// What a disk's line says beside its fit.
+#[derive(Clone, Copy)]
+pub struct Search {
     pub width: f32,
     pub rel_rms: f32,
     pub corr: f32,
     pub edge_score: f32,
     pub objective: f32,
     pub trials: u32,
-    pub starts: u32,
-    pub first: u32,
-    pub second: u32,
-    pub known: bool,
 }
 
+#[derive(Clone, Copy)]
+pub enum Beside {
+    Ring(Starts),
+    Disk(Search),
+}
+
+// What a line's answer says.
+#[derive(Clone, Copy)]
+pub struct Reading {
+    pub amp: f32,
+    pub theta1: f32,
+    pub theta2: f32,
+    pub error1: f32,
+    pub error2: f32,
+    pub rms: f32,
+    pub known: bool,
+    pub beside: Beside,
+}
+
+// Two readers, of a ring's line and of a disk's: most values stand elsewhere, so a common one would be two lists of places.
 fn ring_reading(line: &[u8]) -> Reading
     requires { 60 ≤ length line.now }
     ensures { result ≡ W.ring_reading line.now }
 {
     Reading {
-        disk: false,
         amp: hexadecimal::value_at(line, 4),
         theta1: hexadecimal::value_at(line, 12),
         theta2: hexadecimal::value_at(line, 20),
         error1: hexadecimal::value_at(line, 28),
         error2: hexadecimal::value_at(line, 36),
         rms: hexadecimal::value_at(line, 44),
-        width: 0.0,
-        rel_rms: 0.0,
-        corr: 0.0,
-        edge_score: 0.0,
-        objective: 0.0,
-        trials: 0,
-        starts: hexadecimal::byte_at(line, 52),
-        first: hexadecimal::byte_at(line, 54),
-        second: hexadecimal::byte_at(line, 56),
         known: hexadecimal::byte_at(line, 58) != 0,
+        beside: Beside::Ring(Starts {
+            number: hexadecimal::byte_at(line, 52),
+            first: hexadecimal::byte_at(line, 54),
+            second: hexadecimal::byte_at(line, 56),
+        }),
     }
 }
 
@@ -63,23 +74,21 @@ fn disk_reading(line: &[u8]) -> Reading
     ensures { result ≡ W.disk_reading line.now }
 {
     Reading {
-        disk: true,
         theta1: hexadecimal::value_at(line, 4),
         theta2: hexadecimal::value_at(line, 12),
-        width: hexadecimal::value_at(line, 20),
         amp: hexadecimal::value_at(line, 28),
         rms: hexadecimal::value_at(line, 36),
-        rel_rms: hexadecimal::value_at(line, 44),
-        corr: hexadecimal::value_at(line, 52),
-        edge_score: hexadecimal::value_at(line, 60),
-        objective: hexadecimal::value_at(line, 68),
         error1: hexadecimal::value_at(line, 76),
         error2: hexadecimal::value_at(line, 84),
-        trials: hexadecimal::byte_at(line, 92) * 256 + hexadecimal::byte_at(line, 94),
-        starts: 0,
-        first: 0,
-        second: 0,
         known: hexadecimal::byte_at(line, 96) != 0,
+        beside: Beside::Disk(Search {
+            width: hexadecimal::value_at(line, 20),
+            rel_rms: hexadecimal::value_at(line, 44),
+            corr: hexadecimal::value_at(line, 52),
+            edge_score: hexadecimal::value_at(line, 60),
+            objective: hexadecimal::value_at(line, 68),
+            trials: hexadecimal::byte_at(line, 92) * 256 + hexadecimal::byte_at(line, 94),
+        }),
     }
 }
 
@@ -110,12 +119,21 @@ fn is_large(rms: f32, amp: f32) -> bool
     floats::is_finite(rms) & (least >= 0.12)
 }
 
+// Whether a start of a ring made no update.
+fn is_still(beside: Beside) -> bool
+    ensures { result ≡ W.is_still beside }
+{
+    match beside {
+        Beside::Ring(s) => (s.first == 0) | (s.second == 0),
+        Beside::Disk(_) => false,
+    }
+}
+
 fn is_degenerate(r: Reading) -> bool
     ensures { result ≡ W.is_degenerate r }
 {
     let flat = (r.amp == 0.0) & (r.theta1 == 0.0) & (r.theta2 == floats::HALF_PI);
-    let still = (r.first == 0) | (r.second == 0);
-    !r.disk & flat & still
+    is_still(r.beside) & flat
 }
 
 fn is_wild(x: f32) -> bool
@@ -124,17 +142,45 @@ fn is_wild(x: f32) -> bool
     !floats::is_finite(x)
 }
 
+// Of a disk whether the correlation is 0 or out of range, and which of its values is not finite; none of
+// them of a ring.
+fn disk_flags(beside: Beside) -> [bool; 7]
+    ensures { (result ≡ W.disk_flags beside) × (7 ≡ length result) }
+{
+    match beside {
+        Beside::Ring(_) => [false; 7],
+        Beside::Disk(d) => [
+            d.corr == 0.0,
+            (d.corr < 0.0) | (d.corr > 1.0),
+            is_wild(d.width),
+            is_wild(d.rel_rms),
+            is_wild(d.corr),
+            is_wild(d.edge_score),
+            is_wild(d.objective),
+        ],
+    }
+}
+
 // Whether each warning is called for, in the order of the sentences.
 fn flags(r: Reading) -> [bool; 23]
     ensures { (result ≡ flags_of (W.warnings_of r)) × (23 ≡ length result) }
 {
+    let [
+        unexplained,
+        outside,
+        width,
+        rel_rms,
+        corr,
+        edge_score,
+        objective,
+    ] = disk_flags(r.beside);
     [
         r.rms == 0.0,
         is_infinite(r.rms),
         r.rms != r.rms,
         is_large(r.rms, r.amp),
-        r.disk & (r.corr == 0.0),
-        (r.corr < 0.0) | (r.corr > 1.0),
+        unexplained,
+        outside,
         !r.known,
         r.known & (r.error1 == floats::PI),
         r.known & (r.error2 == floats::PI),
@@ -146,11 +192,11 @@ fn flags(r: Reading) -> [bool; 23]
         is_wild(r.theta2),
         is_wild(r.error1),
         is_wild(r.error2),
-        is_wild(r.width),
-        is_wild(r.rel_rms),
-        is_wild(r.corr),
-        is_wild(r.edge_score),
-        is_wild(r.objective),
+        width,
+        rel_rms,
+        corr,
+        edge_score,
+        objective,
         is_degenerate(r),
     ]
 }

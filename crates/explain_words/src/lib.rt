@@ -77,6 +77,7 @@ impl Page<'_> {
     }
 
     // What a character of a sentence stands for: see specs/Tell.antt.
+    #[tactic(auto, using(crate::specs::TellLaws::said_none), unfolding(crate::specs::Tell::piece))]
     fn piece(&mut self, inside: bool, c: u8, words: &[Word])
         requires { self.old.at + 24 ≤ length self.old.text.now }
         ensures { (self.new.at ≤ self.old.at + 24) × T.Said self.old self.new (T.piece words.now inside c) }

@@ -220,22 +220,24 @@ pub fn figures(x: f64) -> Word {
     Numeral::placed(x < 0.0, n, s.power).spelt()
 }
 
-// With `least` digits or more, `places` of them behind the point, where ten to their power is `scale`.
-// From a million on, and where it is NaN, a number is written by four digits.
-fn fixed(x: f64, scale: f64, least: u64, places: u64) -> Word {
+// With so many places behind the point, where ten to their power is `scale`. From a million on, and where
+// it is NaN, a number is written by four digits.
+fn fixed(x: f64, scale: f64, places: u64) -> Word
+    requires { places ≤ 3 }
+{
     if x.abs() < 1000000.0 {
         let n = std::num::saturating_f64_to_u64(x.abs() * scale + 0.5);
-        return Numeral::plain(x < 0.0, n, least, places, 0).spelt();
+        return Numeral::plain(x < 0.0, n, places + 1, places, 0).spelt();
     }
     figures(x)
 }
 
 // With two places behind the point.
 pub fn hundredths(x: f64) -> Word {
-    fixed(x, 100.0, 3, 2)
+    fixed(x, 100.0, 2)
 }
 
 // With three places behind the point.
 pub fn thousandths(x: f64) -> Word {
-    fixed(x, 1000.0, 4, 3)
+    fixed(x, 1000.0, 3)
 }

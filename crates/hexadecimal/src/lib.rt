@@ -6,6 +6,7 @@ ghost use Rattle.loops.specs.Loops.{tab};
 ghost use Rattle.hexadecimal.specs.Hex.{is_hex, all_hex, digit_of, byte_of, word_of, word_list_of, value_of, values_of};
 ghost use Rattle.hexadecimal.specs.Hex.{hex_of, byte_text, count_text, word_text, words_text, put};
 
+#[tactic(auto, unfolding(crate::specs::Hex::is_hex))]
 pub fn is_hex(b: u8) -> bool
     ensures { result ≡ is_hex b }
 {
@@ -41,6 +42,7 @@ fn digit(b: u8) -> u32
 }
 
 // The byte that two characters spell.
+#[tactic(auto, unfolding(crate::specs::Hex::byte_of))]
 pub fn byte_at(s: &[u8], at: usize) -> u32
     requires { at + 2 ≤ length s.now }
     ensures { (result < 256) × (result ≡ byte_of s.now at) }
@@ -48,6 +50,7 @@ pub fn byte_at(s: &[u8], at: usize) -> u32
     digit(s[at]) * 16 + digit(s[at + 1])
 }
 
+#[tactic(auto, unfolding(crate::specs::Hex::word_of))]
 pub fn word_at(s: &[u8], at: usize) -> u32
     requires { at + 8 ≤ length s.now }
     ensures { result ≡ word_of s.now at }
@@ -104,6 +107,7 @@ fn all_at<T: Spelt>(s: &[u8], at: usize, out: &mut [T])
 }
 
 // The words from `at` on.
+#[tactic(auto, unfolding(crate::specs::Hex::word_list_of))]
 pub fn words(s: &[u8], at: usize, out: &mut [u32])
     requires { (length out.old < 4096) × (at + 8 * length out.old ≤ length s.now) }
     ensures { out.new ≡ word_list_of s.now at (length out.old) }
@@ -112,6 +116,7 @@ pub fn words(s: &[u8], at: usize, out: &mut [u32])
 }
 
 // The values of those words.
+#[tactic(auto, unfolding(crate::specs::Hex::values_of))]
 pub fn values(s: &[u8], at: usize, out: &mut [f32])
     requires { (length out.old < 4096) × (at + 8 * length out.old ≤ length s.now) }
     ensures { out.new ≡ values_of s.now at (length out.old) }

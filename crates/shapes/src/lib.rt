@@ -76,6 +76,7 @@ pub enum Shape {
     Malformed(Fault),
 }
 
+#[tactic(auto, unfolding(crate::specs::Shapes::ring_shape))]
 fn ring_shape(line: &[u8], kind: RingKind) -> Shape
     ensures { (result ≡ S.ring_shape line.now kind) × S.ShapeSized (length line.now) result }
 {
@@ -85,6 +86,7 @@ fn ring_shape(line: &[u8], kind: RingKind) -> Shape
     Shape::Malformed(Fault::RingLength(kind))
 }
 
+#[tactic(auto, unfolding(crate::specs::Shapes::counted_shape))]
 fn counted_shape(line: &[u8], n: u32) -> Shape
     requires { n < 65536 }
     ensures { (result ≡ S.counted_shape (length line.now) n) × S.ShapeSized (length line.now) result }
@@ -102,6 +104,7 @@ fn counted_shape(line: &[u8], n: u32) -> Shape
     Shape::Malformed(Fault::DiskLength(n))
 }
 
+#[tactic(auto, unfolding(crate::specs::Shapes::disk_shape))]
 fn disk_shape(line: &[u8]) -> Shape
     ensures { (result ≡ S.disk_shape line.now) × S.ShapeSized (length line.now) result }
 {
@@ -112,6 +115,7 @@ fn disk_shape(line: &[u8]) -> Shape
     counted_shape(line, n)
 }
 
+#[tactic(auto, unfolding(crate::specs::Shapes::typed_shape))]
 fn typed_shape(line: &[u8]) -> Shape
     requires { 2 ≤ length line.now }
     ensures { (result ≡ S.typed_shape line.now) × S.ShapeSized (length line.now) result }
@@ -124,6 +128,7 @@ fn typed_shape(line: &[u8]) -> Shape
     }
 }
 
+#[tactic(auto, unfolding(crate::specs::Shapes::shape_of))]
 pub fn shape_of(line: &[u8]) -> Shape
     ensures { (result ≡ S.shape_of line.now) × S.ShapeSized (length line.now) result }
 {

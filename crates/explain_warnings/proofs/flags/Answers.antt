@@ -9,6 +9,7 @@ pub returns : goal.returns
 unfolding flags_of W.warnings_of
 returns c = (
   rw (
+    c.disk_flags.ensures.0,
     c.is_infinite.ensures,
     ne_is_nan c.args.r.rms,
     c.is_large.ensures,
@@ -17,11 +18,6 @@ returns c = (
     c.is_wild-3.ensures,
     c.is_wild-4.ensures,
     c.is_wild-5.ensures,
-    c.is_wild-6.ensures,
-    c.is_wild-7.ensures,
-    c.is_wild-8.ensures,
-    c.is_wild-9.ensures,
-    c.is_wild-10.ensures,
     c.is_degenerate.ensures,
   ),
   refl,

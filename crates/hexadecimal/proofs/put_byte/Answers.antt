@@ -3,13 +3,10 @@ use mathlib.Core.List.{[], ◌∷◌}
 use mathlib.Core.Path.{◌≡◌}
 use Prim.Native.Nat.{◌+◌, ◌/◌, ◌%◌}
 use native.Mathlib.Omega.{arith}
-use lib.ListN.{length-set, length}
+use lib.ListN.{length}
 use Rattle.hexadecimal.specs.Hex.{hex_of, byte_text, put}
 use Rattle.hexadecimal.specs.HexLaws.{put_one, put_put, put_length}
 use Rattle.hexadecimal.proofs.put_byte.Goals as goal
-
-pub bounds-out-at-2 : goal.bounds-out-at-2
-bounds-out-at-2 c = simp length-set (omega arith)
 
 pub returns : goal.returns
 unfolding byte_text

@@ -8,6 +8,8 @@ pub returns : goal.returns
 unfolding flags_of S.bad_rows
 returns c = (
   rw (
+    c.is_upper-upper.ensures,
+    c.is_return-returned.ensures,
     c.is_too_long.ensures,
     c.is_foreign-foreign.ensures,
     c.is_short-short.ensures,

@@ -9,5 +9,5 @@ use Rattle.explain_sentences.proofs.bad.told.Goals as goal
 pub returns : goal.returns
 unfolding S.bad_rows barred bytes codes all_barless barless
 returns c =
-    let e = rw c.foreign_byte-b.ensures at c.flags_of-flags.ensures.0 in
+    let e = rw c.foreign_byte.ensures at c.flags_of-flags.ensures.0 in
     (omega (arith, c.tell.ensures.fits), rows_told (S.line_rows c.args.w c.args.line.now) _ c.tell.ensures.said e refl)

@@ -6,4 +6,4 @@ use Rattle.explain_sentences.proofs.fit.flags_of.Goals as goal
 
 pub returns : goal.returns
 unfolding flags_of S.fit_rows
-returns c = (rw (c.of_ring.ensures, c.of_ring-2.ensures, c.of_disk.ensures), refl)
+returns c = (rw (c.of_ring.ensures, c.of_ring-2.ensures, c.of_disk-disk.ensures), refl)
