@@ -99,15 +99,7 @@ fn words_of(line: u64, r: Reading) -> [Word; 24]
     let y = degrees(r.theta2);
     let [open, share, close] = share_words(r);
     let [starts, starts_end, first, and, second, updates_end] = ring_words(r.beside);
-    let [
-        rel_rms,
-        width,
-        corr,
-        edge_score,
-        objective,
-        trials,
-        trials_end,
-    ] = disk_words(r.beside);
+    let [rel_rms, width, corr, edge_score, objective, trials, noun] = disk_words(r.beside);
     [
         number(line),
         hundredths(x),
@@ -132,7 +124,7 @@ fn words_of(line: u64, r: Reading) -> [Word; 24]
         edge_score,
         objective,
         trials,
-        trials_end,
+        noun,
     ]
 }
 

@@ -146,8 +146,6 @@ fn is_angle(r: Refusal) -> bool
 fn flags_of(r: Refusal, a: Above, name: Option<Part>, shown: bool) -> [bool; 30]
     ensures { (result ≡ flags_of (S.refusal_rows r a name shown)) × (30 ≡ length result) }
 {
-    let number = r.number;
-    let place = r.place;
     let ring = super::of_ring(r.kind, RingKind::Sixteen);
     let ring24 = super::of_ring(r.kind, RingKind::TwentyFour);
     let nameless = is_disk(r) & is_nameless(name);
@@ -156,16 +154,16 @@ fn flags_of(r: Refusal, a: Above, name: Option<Part>, shown: bool) -> [bool; 30]
         ring24,
         super::of_disk(r.kind),
         super::of_malformed(r.kind),
-        number == 1,
-        number == 2,
-        number == 3,
-        number == 4,
-        number == 5,
-        (number == 2) & super::of_disk(super::kind_above(a)),
+        r.number == 1,
+        r.number == 2,
+        r.number == 3,
+        r.number == 4,
+        r.number == 5,
+        (r.number == 2) & super::of_disk(super::kind_above(a)),
         is_sample(r),
         is_angle(r),
-        ring & (number == 3) & (place > 31),
-        ring24 & (number == 3) & (place > 47),
+        ring & (r.number == 3) & (r.place > 31),
+        ring24 & (r.number == 3) & (r.place > 47),
         is_part(name, Part::Energy),
         is_part(name, Part::Base0),
         is_part(name, Part::Base1),
@@ -178,10 +176,10 @@ fn flags_of(r: Refusal, a: Above, name: Option<Part>, shown: bool) -> [bool; 30]
         nameless,
         nameless,
         shown,
-        number == 3,
-        number == 4,
-        (number == 5) & is_bad(a),
-        (place != 0) & ((number == 1) | (number == 2) | (number == 5)),
+        r.number == 3,
+        r.number == 4,
+        (r.number == 5) & is_bad(a),
+        (r.place != 0) & ((r.number == 1) | (r.number == 2) | (r.number == 5)),
     ]
 }
 
