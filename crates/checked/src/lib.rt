@@ -166,7 +166,7 @@ fn disk_fitted(d: Disk, base0: f32, base1: f32) -> Result<Measured, Refusal>
     }
 }
 
-// The disk entry: any five slices.
+// The disk entry: any five slices. They come apart, since a Disk has them of one length.
 pub fn fit_disk(
     val_energy: f32,
     base0: f32,

@@ -239,6 +239,7 @@ pub fn answer_line(line: &[u8], out: &mut [u8]) -> u32
     write_answer(answer_to(line), out, 0)
 }
 
+// A line whose start was dropped is malformed. As an Option of a line the `if` would only move to the caller.
 fn kept_answer(skip: bool, line: &[u8]) -> Result<FrameFit, LineRefusal>
     ensures { result ≡ F.kept_answer skip line.now }
 {
