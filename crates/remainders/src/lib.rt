@@ -89,6 +89,12 @@ fn rem_euclid_by<const Q: u32>(x: f32) -> f32
     r
 }
 
+pub fn rem_pi(x: f32) -> f32
+    ensures { result ≡ rem binary32 x pi }
+{
+    rem_by::<0>(x)
+}
+
 pub fn rem_tau(x: f32) -> f32
     ensures { result ≡ rem binary32 x tau }
 {
