@@ -73,7 +73,10 @@ unfoldable pub mismatch_rows : Above → List (Bool × String)
 mismatch_rows a =
     (is_refused a, "  warning: this does not answer line {a}: its frame is refused, {b}\n")
     ∷ (is_clean a && of_ring Sixteen (kind_above a), "  warning: this does not answer line {a}: a ring frame of finite values has a ring fit\n")
-    ∷ (is_clean a && of_ring TwentyFour (kind_above a), "  warning: this does not answer line {a}: a 24-point ring frame of finite values has a 24-point ring fit\n")
+    ∷ (
+      is_clean a && of_ring TwentyFour (kind_above a),
+      "  warning: this does not answer line {a}: a 24-point ring frame of finite values has a 24-point ring fit\n",
+    )
     ∷ (is_clean a && disk_kind (kind_above a), "  warning: this does not answer line {a}: a disk frame of finite values has a disk fit, or refusal 4\n")
     ∷ []
 
