@@ -72,6 +72,7 @@ fn wave_sums(samples: &[f32], mean: f32, sphi: &[f32], cphi: &[f32]) -> Waves
     w
 }
 
+#[tactic(auto, unfolding(crate::specs::Seed::settled))]
 fn settled(theta: f32) -> f32
     ensures { result ≡ S.settled theta }
 {
@@ -124,6 +125,7 @@ fn pair_sums(centered: &[f32], h1: &[f32], h2: &[f32]) -> Sums
     s
 }
 
+#[tactic(auto, unfolding(crate::specs::Seed::kept))]
 fn kept(s: SeedCandidate) -> Option<SeedCandidate>
     ensures { result ≡ S.kept s }
 {
@@ -133,6 +135,7 @@ fn kept(s: SeedCandidate) -> Option<SeedCandidate>
     None
 }
 
+#[tactic(auto, unfolding(crate::specs::Seed::flat))]
 pub fn is_flat(denom: f32) -> bool
     ensures { result ≡ S.flat denom }
 {
@@ -144,6 +147,7 @@ pub fn is_flat(denom: f32) -> bool
 
 // From num on: `n` is the number of samples. A struct of some of the eight would be no plainer: each caller has
 // them one by one.
+#[tactic(auto, unfolding(crate::specs::Seed::seed_from))]
 pub fn seed_from(
     n: f32,
     centered_ss: f32,
@@ -169,6 +173,7 @@ pub fn seed_from(
 }
 
 // The same, unless the denominator is flat.
+#[tactic(auto, unfolding(crate::specs::Seed::scored_from))]
 pub fn scored_from(
     n: f32,
     centered_ss: f32,
@@ -188,6 +193,7 @@ pub fn scored_from(
 }
 
 // The score of a pair from its sums.
+#[tactic(auto, unfolding(crate::specs::Seed::scored))]
 fn score_sums(
     n: f32,
     centered_ss: f32,
@@ -203,6 +209,7 @@ fn score_sums(
     scored_from(n, centered_ss, mean, s.num, q_mean, denom, theta1, theta2)
 }
 
+#[tactic(auto, unfolding(crate::specs::Seed::score_seed_pair))]
 pub fn score_seed_pair(
     centered: &[f32],
     centered_ss: f32,

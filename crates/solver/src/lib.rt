@@ -68,6 +68,7 @@ pub struct Sums {
     pub n: f32,
 }
 
+#[tactic(auto, unfolding(crate::specs::Solver::sample_at))]
 fn sample_at(p: Params, t1: SinCos, t2: SinCos, v: f32, s: f32, c: f32) -> Sample
     ensures { result ≡ S.sample_at p t1 t2 v s c }
 {
@@ -244,6 +245,7 @@ fn right_of(s: Sums) -> [f32; 4]
     [s.r, s.rq, s.rd1, s.rd2]
 }
 
+#[tactic(auto, unfolding(crate::specs::Solver::cut))]
 fn cut(d: f32) -> f32
     ensures { result ≡ S.cut d }
 {
@@ -253,6 +255,7 @@ fn cut(d: f32) -> f32
     d
 }
 
+#[tactic(auto, unfolding(crate::specs::Solver::small))]
 fn is_small(d1: f32, d2: f32, d3: f32) -> bool
     ensures { result ≡ S.small d1 d2 d3 }
 {

@@ -25,12 +25,14 @@ pub fn wrap_to_tau(x: f32) -> f32
     0.0
 }
 
+#[tactic(auto, unfolding(crate::specs::Canonical::arc))]
 fn arc(from: f32, to: f32) -> f32
     ensures { result ≡ C.arc from to }
 {
     remainders::rem_euclid_tau(to - from)
 }
 
+#[tactic(auto, unfolding(crate::specs::Canonical::placed))]
 fn placed(t: f32, d: f32, a: f32, w: bool) -> Axes
     ensures { result ≡ C.placed t d a w }
 {
@@ -44,6 +46,7 @@ fn placed(t: f32, d: f32, a: f32, w: bool) -> Axes
 }
 
 // Exchanging the axes is the one way to the short arc that leaves the model as it is.
+#[tactic(auto, unfolding(crate::specs::Canonical::axes_settled))]
 fn axes_settled(t1: f32, t2: f32, a: f32) -> Axes
     ensures { result ≡ C.axes_settled t1 t2 a }
 {

@@ -21,6 +21,7 @@ fn widened_row(r: [f32; 4], b: f32, c: f32) -> [f32; 8]
 }
 
 // Row k or the best so far: k where its entry in column i is larger in size.
+#[tactic(auto, unfolding(crate::specs::Solve::larger))]
 fn larger(m: &[[f32; 8]; 4], i: usize, k: usize, best: usize) -> usize
     requires { (i < 4) × (k < 4) × (best < 4) }
     ensures { (result < 4) × (result ≡ S.larger m.now i k best) }
@@ -43,6 +44,7 @@ fn pivot_row(m: &[[f32; 8]; 4], i: usize) -> usize
     best
 }
 
+#[tactic(auto, unfolding(crate::specs::Solve::unusable))]
 fn is_unusable(p: f32) -> bool
     ensures { result ≡ S.unusable p }
 {
@@ -87,6 +89,7 @@ fn reduced(r: [f32; 8], p: [f32; 8], f: f32) -> [f32; 8]
 }
 
 // Row k after column i was cleared by the pivot row p, which stays; f is the row's entry there.
+#[tactic(auto, unfolding(crate::specs::Solve::cleared))]
 fn cleared(row: [f32; 8], p: [f32; 8], f: f32, i: usize, k: usize) -> [f32; 8]
     requires { f ≡ at row i }
     ensures { result ≡ S.cleared i p k row }
@@ -111,6 +114,7 @@ fn clear(m: &mut [[f32; 8]; 4], i: usize, p: [f32; 8])
 
 // Column i: the pivot's row comes to the diagonal, is scaled to 1 there, and clears the column in
 // the others. True where the pivot stops the elimination. It has one caller, so that the compiler puts it into that loop.
+#[tactic(auto, unfolding(crate::specs::Solve::stopped, crate::specs::Solve::top_row, crate::specs::Solve::columned))]
 fn column_stops(m: &mut [[f32; 8]; 4], i: usize) -> bool
     requires { i < 4 }
     ensures { (result ≡ S.stopped m.old i) × (result ≡ false → m.new ≡ S.columned m.old i) }

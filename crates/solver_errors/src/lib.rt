@@ -28,6 +28,7 @@ pub struct Estimate {
     pub standing: Standing,
 }
 
+#[tactic(auto, unfolding(crate::specs::StdErrors::axis_error))]
 fn axis_error(v: f32, c: f32) -> f32
     ensures { result ≡ S.axis_error v c }
 {
@@ -53,6 +54,7 @@ fn no_estimate() -> Estimate
 }
 
 // The residual sum and the two entries on the inverse's diagonal, as the elimination left them.
+#[tactic(auto, unfolding(crate::specs::StdErrors::standing_by))]
 fn standing_by(ssr: f32, c2: f32, c3: f32) -> Standing
     ensures { result ≡ S.standing_by ssr c2 c3 }
 {

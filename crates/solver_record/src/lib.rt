@@ -44,6 +44,7 @@ pub struct Params {
     pub theta2: f32,
 }
 
+#[tactic(auto, unfolding(crate::specs::Record::degenerate_record, crate::specs::Fit::degenerate_fit))]
 pub fn degenerate_fit(centered_var: f32, mean: f32) -> TwoAxisFit
     ensures { result ≡ R.degenerate_record centered_var mean }
 {
@@ -71,6 +72,7 @@ pub fn refused(centered_var: f32, mean: f32) -> Started
     }
 }
 
+#[tactic(auto, unfolding(crate::specs::Fit::degenerate))]
 pub fn is_degenerate(amp: f32, centered_var: f32) -> bool
     ensures { result ≡ F.degenerate amp centered_var }
 {
@@ -78,6 +80,7 @@ pub fn is_degenerate(amp: f32, centered_var: f32) -> bool
 }
 
 // The errors follow their axes where these were exchanged.
+#[tactic(auto, unfolding(crate::specs::Fit::assembled))]
 fn assembled(a: Axes, e: Errors, rms: f32, mean: f32) -> TwoAxisFit
     ensures { result ≡ R.with_mean (F.assembled a e rms) mean }
 {
@@ -104,6 +107,7 @@ fn assembled(a: Axes, e: Errors, rms: f32, mean: f32) -> TwoAxisFit
 }
 
 // The record at the final parameters, with the matrix and the sum of squares of their pass.
+#[tactic(auto, unfolding(crate::specs::Fit::finished))]
 pub fn finished(p: Params, jtj: &[[f32; 4]; 4], ssr: f32, n: usize, updates: usize) -> Started
     requires { n < 2 ^ 32 }
     ensures { result ≡ R.start_of n p jtj.now ssr updates }
