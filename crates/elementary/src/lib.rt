@@ -26,7 +26,8 @@ fn raised(x: f32, bottom: f32) -> f32
     x
 }
 
-// Selects that turn a NaN into the end: what `scale` is given has passed a test, or is a constant.
+// Selects that turn a NaN into the end: what `scale` is given has passed a test, or is a constant. They are not one with the
+// two above, of which they differ in nothing else: a shared text would hide where a NaN goes.
 fn above(x: f32, bottom: f32) -> f32
     ensures { result ≡ E.above x bottom }
 {
@@ -211,6 +212,7 @@ pub fn sin_cos_two(x: f32, y: f32) -> TwoSinCos
     }
 }
 
+// Two functions, since the Rust has both names; what they share is `sin_cos`.
 pub fn sin(x: f32) -> f32
     ensures { result ≡ E.sin x }
 {
