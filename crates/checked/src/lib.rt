@@ -2,7 +2,7 @@
 // are not finite are refused by number and place; everything else is fitted.
 #![tactic(auto)]
 
-ghost use Rattle.std.specs.Prelude.{◌≡◌, [], ◌≤◌, length};
+ghost use Rattle.std.specs.Prelude.{◌≡◌, [], ◌<◌, ◌≤◌, length, IfSome};
 ghost use Rattle.solver.specs.Buffers.{max_samples};
 ghost use Rattle.data.specs.Data.{lent_disk, max_tanh_pixels};
 ghost use Rattle.data.specs.Disk.{the_disk};
@@ -67,7 +67,8 @@ fn find_wild(xs: &[f32]) -> Option<usize>
 
 // Whether all are finite is asked first: the place is looked for only where it is needed.
 pub fn first_wild(xs: &[f32]) -> Option<usize>
-    ensures { result ≡ C.first_wild xs.now }
+    ensures value { result ≡ C.first_wild xs.now }
+    ensures inside { IfSome result (λ i. i < length xs.now) }
 {
     if all_finite(xs) {
         return None;

@@ -31,7 +31,7 @@ pub enum LineRefusal {
 
 impl LineRefusal {
     // The type of its answer.
-    fn answer_type(self) -> u8
+    pub fn answer_type(self) -> u8
         ensures { result ≡ F.refused_type self }
     {
         match self {
@@ -41,7 +41,7 @@ impl LineRefusal {
         }
     }
 
-    fn number(self) -> u8
+    pub fn number(self) -> u8
         ensures { result ≡ F.refused_number self }
     {
         match self {
@@ -50,7 +50,7 @@ impl LineRefusal {
         }
     }
 
-    fn place(self) -> u16
+    pub fn place(self) -> u16
         ensures { result ≡ F.refused_place self }
     {
         match self {

@@ -308,7 +308,6 @@ pub extern "C" fn fl_fit_with_seed(
         theta1: seed[0],
         theta2: seed[1],
     };
-    let mut turned = [0.0f32; 16];
     let mut sphi = [0.0f32; 16];
     let mut cphi = [0.0f32; 16];
     let mut js = [Sample::NONE; 16];
@@ -317,7 +316,6 @@ pub extern "C" fn fl_fit_with_seed(
         ring_phi,
         p,
         centered_var,
-        &mut turned,
         &mut sphi,
         &mut cphi,
         &mut js,

@@ -4,8 +4,8 @@
 // a turn finds a line, asks `room` for its answer's place and calls `answered`, or reads on, or ends.
 #![tactic(auto)]
 
-ghost use Rattle.std.specs.Prelude.{◌≡◌, ◌+◌, ◌≤◌, ◌<◌, length, IfSome};
-ghost use Rattle.lines.specs.Lines.{Filled, Front, end_of, found_of, is_gone, kept_of, passed, FoundWithin};
+ghost use Rattle.std.specs.Prelude.{◌≡◌, ◌+◌, ◌^◌, ◌≤◌, ◌<◌, length, IfSome};
+ghost use Rattle.lines.specs.Lines.{Filled, Front, begun, end_of, found_of, is_gone, kept_of, passed, FoundWithin};
 ghost use Rattle.lines.specs.Turns as T;
 
 use std::io::{ErrorKind, Read, Write};
@@ -34,8 +34,14 @@ pub enum Found {
 }
 
 impl Feed {
+    pub fn start() -> Feed
+        ensures { result ≡ begun }
+    {
+        Feed::default()
+    }
+
     // Where the next line ends, counted from its start.
-    fn line_end(self, buf: &[u8]) -> Option<usize>
+    pub fn line_end(self, buf: &[u8]) -> Option<usize>
         requires { self.from + self.left ≤ length buf.now }
         ensures same { result ≡ end_of buf.now self }
         ensures within { IfSome result (λ k. k < self.left) }
@@ -62,8 +68,8 @@ impl Feed {
     }
 
     // The line before `from` has been answered.
-    fn past(self, from: usize) -> Feed
-        requires { (self.from + self.left ≤ T.input) × (from ≤ self.from + self.left) }
+    pub fn past(self, from: usize) -> Feed
+        requires { (self.from + self.left < 2 ^ 64) × (from ≤ self.from + self.left) }
         ensures { result ≡ passed self from }
     {
         Feed {
@@ -136,7 +142,7 @@ impl State {
         ensures { T.StateKept result × (result ≡ T.opening) }
     {
         State {
-            feed: Feed::default(),
+            feed: Feed::start(),
             put: 0,
             more: true,
         }

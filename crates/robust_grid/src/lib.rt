@@ -1,9 +1,8 @@
 // The grid of seeds behind a suspicious start: ring_fit/robust.rs, the rows of robust_grid_fit, and four pairs of them.
 #![tactic(auto)]
 
-ghost use Rattle.std.specs.Prelude.{◌≡◌, ◌+◌, ◌≤◌, ◌<◌, leb, length, take};
+ghost use Rattle.std.specs.Prelude.{◌≡◌, ◌^◌, ◌+◌, ◌≤◌, ◌<◌, leb, length, take};
 ghost use Rattle.floats.specs.Rows.{count};
-ghost use Rattle.solver.specs.Buffers.{max_samples};
 ghost use Rattle.robust_grid.specs.Grid as G;
 ghost use Rattle.robust_grid.specs.Places as P;
 ghost use Rattle.robust_lanes.specs.Lanes as L;
@@ -123,7 +122,7 @@ pub fn lanes_tried<const N: usize>(
     mean: f32,
     p: Pair,
 ) -> Best
-    requires { (N ≤ max_samples) × (p.a < 21) × (p.b < 23) }
+    requires { (N < 2 ^ 32) × (p.a < 21) × (p.b < 23) }
     ensures { result.top ≡ P.lanes_tried (count N) centered_ss mean m p best0.top }
 {
     let n = floats::count_f32(N);

@@ -2,8 +2,7 @@
 // ring_fit/robust.rs, robust_grid_fit.
 #![tactic(auto)]
 
-ghost use Rattle.std.specs.Prelude.{◌≡◌, ◌≤◌, ◌<◌};
-ghost use Rattle.solver.specs.Buffers.{max_samples};
+ghost use Rattle.std.specs.Prelude.{◌≡◌, ◌^◌, ◌<◌};
 ghost use Rattle.floats.specs.Ops.{nought};
 ghost use Rattle.floats.specs.Rows.{count};
 ghost use Rattle.floats.specs.Library.{max};
@@ -98,7 +97,7 @@ pub struct Models {
 }
 
 pub fn lane_models<const N: usize>(s: Lanes) -> Models
-    requires { N ≤ max_samples }
+    requires { N < 2 ^ 32 }
     ensures { result ≡ L.models_of s (count N) }
 {
     let n = floats::count_f32(N);
@@ -123,7 +122,7 @@ fn mean_square(num: f32, denom: f32, n: f32, centered_ss: f32) -> f32
 }
 
 pub fn mean_squares<const N: usize>(m: Models, centered_ss: f32) -> [f32; 4]
-    requires { N ≤ max_samples }
+    requires { N < 2 ^ 32 }
     ensures { result ≡ L.mean_squares m (count N) centered_ss }
 {
     let n = floats::count_f32(N);

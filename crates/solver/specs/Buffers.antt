@@ -34,10 +34,9 @@ abbrev pub max_samples : ℕ
 max_samples = 24
 
 -- every buffer of a start has a place for each sample
-pub record StartRoom (samples ring_phi turned sphi cphi : Row) (js : List Sample) : Type 0 where
+pub record StartRoom (samples ring_phi sphi cphi : Row) (js : List Sample) : Type 0 where
   pub few : length samples ≤ max_samples
   pub phi : length ring_phi ≡ length samples
-  pub t : length turned ≡ length samples
   pub s : length sphi ≡ length samples
   pub c : length cphi ≡ length samples
   pub j : length js ≡ length samples

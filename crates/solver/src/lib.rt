@@ -18,6 +18,9 @@ const GN_MAX_ANGLE_STEP: f32 = 0.5;
 
 const GN_TOL: f32 = 1e-4;
 
+// The most samples that a ring has.
+const MAX_SAMPLES: usize = 24;
+
 // A ring's samples, and beside each the sine and the cosine of its angle.
 #[derive(Clone, Copy)]
 pub struct Ring<'a> {
@@ -99,7 +102,7 @@ fn near_too(near: bool, x: f32) -> bool
 }
 
 // No early return, so that the loop becomes vector code.
-fn all_near(angles: &[f32]) -> bool
+pub fn all_near(angles: &[f32]) -> bool
     ensures { result ≡ true → B.RingNear (length angles.now) angles.now }
 {
     let mut near = true;
@@ -330,18 +333,19 @@ pub fn fit_with_seed(
     ring_phi: &[f32],
     seed: Params,
     centered_var: f32,
-    turned: &mut [f32],
     sphi: &mut [f32],
     cphi: &mut [f32],
     js: &mut [Sample],
 ) -> Started
-    requires { B.StartRoom samples.now ring_phi.now turned.old sphi.old cphi.old js.old }
+    requires { B.StartRoom samples.now ring_phi.now sphi.old cphi.old js.old }
     ensures { result ≡ R.record_with_seed (length samples.now) samples.now ring_phi.now seed centered_var }
 {
     if solver_record::is_degenerate(seed.amp, centered_var) {
         return solver_record::refused(centered_var, seed.mu);
     }
-    prepare(ring_phi, turned, sphi, cphi);
+    let mut turned = [0.0f32; MAX_SAMPLES];
+    let n = ring_phi.len();
+    prepare(ring_phi, &mut turned[..n], sphi, cphi);
     fit_prepared(
         &Ring {
             samples,

@@ -17,7 +17,7 @@ pub lanes_tried-best-requires : goal.lanes_tried-best-requires
 lanes_tried-best-requires g c =
     let l = c.loop-j in
     let inside = block_inside l.j c.loop-j-test.true in
-    (c.requires, rw l.invariant.1 inside.0, rw l.invariant.1 inside.1)
+    (omega (arith, c.requires), rw l.invariant.1 inside.0, rw l.invariant.1 inside.1)
 
 pub next_block-p-requires : goal.next_block-p-requires
 next_block-p-requires g c =

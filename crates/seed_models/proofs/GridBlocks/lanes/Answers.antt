@@ -10,7 +10,7 @@ lane_sums-requires g c =
     (omega (arith, r.0), (omega (arith, r.0), (rw r.2 (omega (arith, inside.0)), rw r.2 inside.1)))
 
 pub lane_models-requires : goal.lane_models-requires
-lane_models-requires g c = c.requires.0
+lane_models-requires g c = omega (arith, c.requires.0)
 
 pub returns : goal.returns
 returns g c = rw (← c.requires.2, ← c.lane_sums.ensures) c.lane_models.ensures
