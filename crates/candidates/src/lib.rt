@@ -24,7 +24,7 @@ const OFF_DEGS: [f32; 5] = [-8.0, -4.0, 0.0, 4.0, 8.0];
 const GRID_DEG: usize = 30;
 
 // Candidate line angles: their number and their places.
-// That n is at most 64 is asked and no ghost field: each definition that builds a set would carry the proof (tried: "missing field").
+// That n is at most 64 is asked and no ghost field: each definition that builds a set would carry its proof. Tried.
 #[derive(Clone, Copy)]
 pub struct CandidateSet {
     pub n: usize,
@@ -49,6 +49,7 @@ pub struct PairScore {
     pub forced: bool,
 }
 
+// A count and places, as CandidateSet: no heap, and what the places behind n hold is in the definition.
 // The allowed pairs in the order in which they are found: n of the places for all pairs.
 // That n is at most MAX_PAIRS is asked and no ghost field, for the reason of CandidateSet's n.
 #[derive(Drop)]
@@ -115,6 +116,7 @@ fn histogram(grad_angles: &[f32], grad_weights: &[f32]) -> [f32; HIST_BINS]
     hist
 }
 
+// A bin is a plain index, asked to be below 72: a struct for it would be opened at each read.
 fn prev_bin(i: usize) -> usize
     requires { i < hist_bins }
     ensures { (result < hist_bins) × (result ≡ C.prev_bin i) }
@@ -172,7 +174,7 @@ fn better_bin(smooth: &[f32; HIST_BINS], i: usize, best: Option<usize>) -> Optio
     best
 }
 
-// The greatest unused bin, the lower on a tie; none where every bin is used. By place: the answer is one.
+// The greatest unused bin, the lower on a tie; none where every bin is used. By place: bins are compared by their places.
 fn best_bin(smooth: &[f32; HIST_BINS], used: &[bool; HIST_BINS]) -> Option<usize>
     ensures { IfSome result (λ b. b < hist_bins) × (result ≡ C.best_bin smooth.now used.now) }
 {
@@ -267,6 +269,7 @@ pub fn histogram_candidates(
     coarse(second)
 }
 
+// From infinity on, as in the Rust: no Option, since a set of none does not come here.
 // The nearest so far, and how far it is.
 #[derive(Drop)]
 struct Nearby {
@@ -286,7 +289,7 @@ fn nearer(best: Nearby, c: usize, d: f32) -> Nearby
     best
 }
 
-// By place: the answer is one.
+// By place: the answer is one, and `enumerate` over a part of the array would be no plainer.
 fn nearest(candidates: CandidateSet, target_w: f32) -> Nearby
     requires { candidates.n ≤ C.max_candidates }
     ensures { (result.best_i ≤ candidates.n) × (result ≡ C.nearest candidates.angles target_w candidates.n) }
@@ -367,7 +370,7 @@ fn raised_tops(edge_align: &[f32], c: usize, t: Tops) -> Tops
     t
 }
 
-// The pair of the two greatest edge sums. By place: the answer is two.
+// The pair of the two greatest edge sums. By place: sums are compared by their places, from the third on.
 pub fn forced_histogram_pair(candidates: CandidateSet, edge_align: &[f32]) -> Forced
     requires { candidates.n ≤ length edge_align.now }
     ensures { result ≡ C.forced_histogram_pair candidates edge_align.now }
@@ -450,6 +453,7 @@ pub fn build_pair_pool(
 {
     let n = candidates.n;
     let mut pool = no_pairs();
+    // Two places and a skip by label: the form that this project names for pair loops.
     for i in 0..n {
         'pairs: for j in i + 1..n {
             if !geometry::valid_pair(candidates.angles[i], candidates.angles[j]) {

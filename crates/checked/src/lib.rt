@@ -108,6 +108,7 @@ pub fn fit_ring_of<const N: usize>(samples: &[f32], angles: &[f32]) -> Result<Ri
     Ok(robust::fit_ring::<N>(samples, angles))
 }
 
+// Two entries over the generic one: both are promised, and ask nothing, where that one asks of N.
 // The ring entry, which asks nothing: the Rust's ring.
 pub fn fit_ring(samples: &[f32], angles: &[f32]) -> Result<RingFit, Refusal>
     ensures { result ≡ C.checked_ring [] 16 samples.now angles.now }
@@ -142,6 +143,7 @@ pub struct Measured {
     pub trials: usize,
 }
 
+// The base angles are no part of a Disk: the search starts from them, and its scores do not read them.
 fn check_disk_values(d: Disk, base0: f32, base1: f32) -> Result<(), Refusal>
     ensures { result ≡ P.values_test (C.first_wild (C.disk_inputs (the_disk d.entry) base0 base1)) }
 {

@@ -7,6 +7,7 @@ ghost use Rattle.std.specs.Prelude.{◌≡◌, not, T};
 ghost use Rattle.std.specs.Float.Ieee.{is_nan};
 ghost use Rattle.elementary.specs.Elementary as E;
 
+// Four functions: the order of a comparison says what a NaN gives, and one with a closure for it would hide just that.
 // Selects that pass a NaN on. Each branch returns: two in a row compile to `minps` and `maxps`.
 fn capped(x: f32, top: f32) -> f32
     ensures { result ≡ E.capped x top }
@@ -26,8 +27,7 @@ fn raised(x: f32, bottom: f32) -> f32
     x
 }
 
-// Selects that turn a NaN into the end: what `scale` is given has passed a test, or is a constant. They are not one with the
-// two above, of which they differ in nothing else: a shared text would hide where a NaN goes.
+// Selects that turn a NaN into the end: what `scale` is given has passed a test, or is a constant.
 fn above(x: f32, bottom: f32) -> f32
     ensures { result ≡ E.above x bottom }
 {
@@ -212,7 +212,7 @@ pub fn sin_cos_two(x: f32, y: f32) -> TwoSinCos
     }
 }
 
-// Two functions, since the Rust has both names; what they share is `sin_cos`.
+// `sin` and `cos` are two names that C's exports and the promises have; each is a call and a field.
 pub fn sin(x: f32) -> f32
     ensures { result ≡ E.sin x }
 {
@@ -272,6 +272,7 @@ fn size(x: f32) -> f32
     x
 }
 
+// The flags here and below choose no step: they are what comparisons gave, as in the definitions.
 fn signed(b: f32, below: bool) -> f32
     ensures { result ≡ E.signed b below }
 {

@@ -44,7 +44,7 @@ fn is_return(b: Option<u8>) -> bool
     }
 }
 
-// What is wrong, by its sentence.
+// What is wrong, by its sentence. A function each: as matches in one array they would all be cases of one proof.
 fn is_too_long(w: Wrong) -> bool
     ensures { result ≡ S.is_too_long w }
 {
@@ -167,6 +167,7 @@ fn flags_of(w: Wrong, n: usize, b: Option<u8>) -> [bool; 20]
     ]
 }
 
+// No Options: a sentence without that blank does not show the 0, so each caller would unwrap to one.
 // The type that a sentence speaks of, the count of pixels, and the number of refusal: 0 where it speaks of none.
 fn type_of(w: Wrong) -> u32 {
     match w {

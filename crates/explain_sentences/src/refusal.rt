@@ -23,6 +23,7 @@ enum Part {
     Beyond,
 }
 
+// No From: with its ghost relation `from_gives` it would be longer and say the same.
 // The part with the number k.
 fn numbered(k: u32) -> Part
     ensures { result ≡ S.numbered k }

@@ -8,6 +8,7 @@ ghost use Rattle.explain_sorts.specs.Sorts as S;
 
 use shapes::{Fault, Kind, RingKind, Shape};
 
+// Numbers as they stand in the line, 0 for a fit: the sentences name them, and the rules of frame lines do.
 // A refusal: of a frame of its kind, or of a malformed line; its number and its place.
 #[derive(Clone, Copy)]
 pub struct Refusal {
@@ -163,6 +164,7 @@ fn wild_word(line: &[u8], at: usize, n: usize) -> Option<usize>
     requires { (n < 65536) × (at < 65536) × (at + 8 * n ≤ length line.now) }
     ensures { (result ≡ S.wild_word line.now at n 0) × S.WordWithin n result }
 {
+    // By number: the words lie 8 characters apart, and the answer is the number of one.
     for k in 0..n {
         if !floats::is_finite(hexadecimal::value_at(line, at + 8 * k)) {
             return Some(k);
@@ -208,6 +210,7 @@ fn shape_sort(text: &[u8], line: u64, shape: Shape) -> Sort
     }
 }
 
+// The flag comes with the line: as an Option of a line the `if` would only move to the caller.
 // Line number `number`. A line of which a part is gone was too long.
 #[tactic(auto, unfolding(crate::specs::Sorts::sort_of))]
 pub fn sort_of(line: &[u8], skip: bool, number: u64) -> Sort

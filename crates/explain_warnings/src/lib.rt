@@ -10,6 +10,7 @@ ghost use Rattle.explain_warnings.specs.Warnings as W;
 use explain_words::Page;
 use shapes::Kind;
 
+// As the line has them: where there was no second start, its updates are 0.
 // What a ring's line says beside its fit: its starts, and the updates of the first and of the second.
 #[derive(Clone, Copy)]
 pub struct Starts {
@@ -35,6 +36,7 @@ pub enum Beside {
     Disk(Search),
 }
 
+// As the line has it: errors stand there also where they are not known, so they are no Option.
 // What a line's answer says.
 #[derive(Clone, Copy)]
 pub struct Reading {

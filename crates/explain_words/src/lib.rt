@@ -37,6 +37,7 @@ fn after(k: usize, c: u8) -> usize
     if c == b'|' { k + 1 } else { k }
 }
 
+// How much room there must be is asked at each call, and no ghost field: it shrinks with each character.
 impl Page<'_> {
     fn put(&mut self, b: u8)
         requires { self.old.at < length self.old.text.now }
@@ -76,6 +77,7 @@ impl Page<'_> {
         }
     }
 
+    // `inside` is where in a sentence the character stands, and no switch that a caller sets.
     // What a character of a sentence stands for: see specs/Tell.antt.
     #[tactic(auto, using(crate::specs::TellLaws::said_none), unfolding(crate::specs::Tell::piece))]
     fn piece(&mut self, inside: bool, c: u8, words: &[Word])

@@ -48,6 +48,7 @@ fn turn<R: Read, W: Write>(
     }
 }
 
+// The loop of this program alone: one in `lines` with a closure for the turn would take that closure's contract for its own.
 fn serve<R: Read, W: Write>(
     reader: &mut R,
     writer: &mut W,

@@ -65,7 +65,8 @@ fn zero_signum(x: f32) -> f32
 }
 
 // Of two equal numbers either will do, but of two zeros +0 is the greater: their sum is +0 unless
-// both are -0. One text for both formats: a trait over them has four functions and two impls, more than it saves.
+// both are -0. One text for both formats: a type parameter's comparisons say nothing of a NaN, so that one
+// function would need a trait of its own.
 macro_rules! greater {
     ($x:ident, $y:ident) => {{
         if $x != $x {
@@ -120,6 +121,7 @@ pub fn to_radians(x: f32) -> f32
     x * 0.0174532924
 }
 
+// A key and no `total_cmp`: the function lines answer the key itself.
 // `a.total_cmp(&b)` is the order of `total_key(a)` and `total_key(b)`.
 pub fn total_key(x: f32) -> u32
     ensures { result ≡ L.total_key x }

@@ -84,6 +84,7 @@ fn typed_ring(line: &[u8], kind: RingKind) -> Result<FrameFit, LineRefusal>
         .map_err(|e| LineRefusal::Ring(kind, e))
 }
 
+// n goes beside the values, and is asked to be at most 320: it is where each run ends.
 // The answer to a disk's values: five runs of n in one slice.
 fn runs_fit(energy: f32, base0: f32, base1: f32, vs: &[f32], n: usize) -> Result<Measured, Refusal>
     requires { (n ≤ max_tanh_pixels) × (length vs.now ≡ 5 * n) }
@@ -163,6 +164,7 @@ fn ring_words(r: RingFit) -> [u32; 7]
     ]
 }
 
+// The room is asked here and below: as an array of 98 each writer would take a part of it at a place all the same.
 fn write_ring(kind: RingKind, r: RingFit, out: &mut [u8], at: usize)
     requires { at + 98 ≤ length out.old }
     ensures { out.new ≡ put out.old at (F.ring_text kind r) }

@@ -6,6 +6,7 @@ ghost use Rattle.loops.specs.Loops.{tab};
 ghost use Rattle.hexadecimal.specs.Hex.{is_hex, all_hex, digit_of, byte_of, word_of, word_list_of, value_of, values_of};
 ghost use Rattle.hexadecimal.specs.Hex.{hex_of, byte_text, count_text, word_text, words_text, put};
 
+// Four tests and no `matches!` over two ranges: tried, and its goals stayed open.
 #[tactic(auto, unfolding(crate::specs::Hex::is_hex))]
 pub fn is_hex(b: u8) -> bool
     ensures { result ≡ is_hex b }
@@ -22,7 +23,7 @@ pub fn is_hex(b: u8) -> bool
     b < 103
 }
 
-// Whether every character of a line is a digit. No `all`: it ends early, and in Rust takes ten times as long as this loop, which is vector code.
+// Whether every character of a line is a digit. No `all`: the loop has neither an early end nor a branch.
 pub fn all_hex(s: &[u8]) -> bool
     ensures { result ≡ all_hex s.now (length s.now) }
 {
@@ -101,11 +102,13 @@ fn all_at<T: Spelt>(s: &[u8], at: usize, out: &mut [T])
     ensures { out.new ≡ tab (λ k. T.spelt s.now (at + 8 * k)) (length out.old) }
 {
     let n = out.len();
+    // By place: the k-th is spelt 8 k characters on, so `enumerate` would count the same k.
     for k in 0..n {
         out[k] = T::spelt_at(s, at + 8 * k);
     }
 }
 
+// Two names over one generic function: they are public, and each promises its own definition.
 // The words from `at` on.
 #[tactic(auto, unfolding(crate::specs::Hex::word_list_of))]
 pub fn words(s: &[u8], at: usize, out: &mut [u32])
@@ -124,6 +127,7 @@ pub fn values(s: &[u8], at: usize, out: &mut [f32])
     all_at(s, at, out);
 }
 
+// By hand: std's `from_digit` answers an Option of a char, which would be taken apart and cast.
 // The character of a digit.
 pub fn hex(n: u32) -> u8
     requires { n < 16 }

@@ -10,6 +10,7 @@ ghost use Rattle.lines.specs.Turns as T;
 
 use std::io::{ErrorKind, Read, Write};
 
+// Asked as lengths of slices: as arrays they would be made slices at each call all the same.
 // The sizes of a program's buffers, for its input and its text.
 pub const INPUT: usize = 81920;
 
@@ -137,6 +138,7 @@ pub struct State {
     pub more: bool,
 }
 
+// Reader, writer and buffers go apart: in a struct of `&mut` each call would take them out one by one.
 impl State {
     pub fn begin() -> State
         ensures { T.StateKept result × (result ≡ T.opening) }

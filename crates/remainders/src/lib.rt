@@ -10,6 +10,7 @@ ghost use Rattle.floats.specs.Library.{rem_euclid};
 ghost use Rattle.floats.specs.UnitLaws.{Val};
 ghost use Rattle.remainders.specs.RemainderLaws.{within, modulus};
 
+// PI is q = 0 and TAU is q = 1, no enum: q stands in exponents, as the power of two between the two.
 // m * 2 ^ k less the multiples of 13176795, 32 digits at a time so that a product fits.
 fn reduced(m: u64, k: u64) -> u64
     requires { m < 2 ^ 24 }
@@ -89,6 +90,7 @@ fn rem_euclid_by<const Q: u32>(x: f32) -> f32
     r
 }
 
+// Four names over two functions: they are promised, and ask nothing, where the generic ones ask of Q.
 pub fn rem_pi(x: f32) -> f32
     ensures { result ≡ rem binary32 x pi }
 {

@@ -1,5 +1,5 @@
-// The whole ring fit: ring_fit/robust.rs, the suspicion gate and the grid search behind it. The grid itself is the crate
-// robust_grid.
+// The whole ring fit: ring_fit/robust.rs, the suspicion gate and the grid search behind it. The grid's rows are the crate
+// robust_grid, and the walk over its blocks is seed_models'.
 #![tactic(auto)]
 
 ghost use Rattle.std.specs.Prelude.{◌≡◌, true, List, [], ◌<◌, length};
@@ -80,6 +80,7 @@ pub fn fit_is_suspicious(f: TwoAxisFit) -> bool
     is_triggered(f)
 }
 
+// By place: after a `zip` over an `iter_mut` a proof knows no element, and the contract speaks of each.
 fn center(samples: &[f32], mean: f32, centered: &mut [f32])
     requires { length centered.old ≡ length samples.now }
     ensures { centered.new ≡ R.centered_of (length samples.now) samples.now mean }
@@ -191,6 +192,7 @@ fn grid_fit<const N: usize>(ready: &Ready, mean: f32, centered_var: f32) -> Opti
     refined::<N>(ready, centered_var, top)
 }
 
+// Not one with `grid_fit`: the grid's rows are made on a stack that ends before the start is made.
 // The start behind a table's models: robust_grid_fit_cached.
 fn cached_fit(table: Stored, ready: &Ready, mean: f32, centered_var: f32) -> Option<Started>
     requires { length ready.now.ring.samples.now ≡ W.ring_samples }
@@ -203,6 +205,7 @@ fn cached_fit(table: Stored, ready: &Ready, mean: f32, centered_var: f32) -> Opt
     refined::<{ seed_models::RING_SAMPLES }>(ready, centered_var, top)
 }
 
+// The arrays stand here and in robust_grid_fit: a function of both would have to hand out slices of its own stack.
 pub fn refine_seed_candidates<'a, const N: usize>(
     samples: &'a [f32],
     ring_phi: &'a [f32],
@@ -267,6 +270,7 @@ pub struct First {
     pub centered_var: f32,
 }
 
+// Not by a call of it: its buffers would be cleared before the test, and its clause says nothing of the sines.
 // What solver::fit_with_seed does. A start that is not refused leaves the sines and cosines for the grid, and no refused
 // start is suspicious. Its working buffers are not on a caller's stack either.
 #[inline(never)]
@@ -296,6 +300,7 @@ fn start<const N: usize>(
     solver::fit_prepared(&ring, seed, &mut js)
 }
 
+// Two slices, as the entries have them: a Ready, which says more, is there only behind the first start.
 fn first_start<const N: usize>(
     samples: &[f32],
     ring_phi: &[f32],

@@ -7,6 +7,7 @@ ghost use Rattle.robust_choice.specs.Parts as P;
 use solver_errors::Standing;
 use solver_record::{Started, TwoAxisFit};
 
+// No Option of the second: C and the lines have three counts, with 0 updates where there was no second start.
 // The fit that is answered with the standing of its errors, the number of starts, and the updates of each.
 #[derive(Clone, Copy)]
 pub struct RingFit {

@@ -27,6 +27,7 @@ fn grid_axes(
 )
     ensures { P.Axes sines.new cosines.new }
 {
+    // By place: two arrays are written, and the angle is made of the number.
     for a in 0..robust_lanes::GRID_PLACES {
         let t = elementary::sin_cos_near(grid_angle(a));
         sines[a] = t.s;
@@ -44,6 +45,7 @@ fn grid_row(
 )
     ensures { take L.grid_places row.new ≡ P.row_from s c sines.now cosines.now }
 {
+    // By place: two arrays are read and a third written; a `zip` over its `iter_mut` tells a proof of no element.
     for a in 0..robust_lanes::GRID_PLACES {
         row[a] = elementary::tanh(solver::TANH_BETA * (s * cosines[a] - c * sines[a]));
     }
@@ -58,6 +60,7 @@ pub fn fill_grid(sphi: &[f32], cphi: &[f32], h: &mut [GridRow])
     let mut sines = [0.0f32; robust_lanes::GRID_PLACES];
     let mut cosines = [0.0f32; robust_lanes::GRID_PLACES];
     grid_axes(&mut sines, &mut cosines);
+    // By place: two slices are read and a third written; a `zip` over its `iter_mut` tells a proof of no element.
     for i in 0..n {
         grid_row(sphi[i], cphi[i], &sines, &cosines, &mut h[i]);
     }
@@ -112,8 +115,8 @@ pub fn is_pair(p: Pair, k: usize) -> bool
 }
 
 // A block's pairs as far as they are allowed. The root is monotone, so a pair whose mean square is not below the best's
-// has no lower residual, and is skipped before its root is taken. A walk of its own has each kind of model, and both are
-// compiled with this in their loop: a call a block made a ring of two starts take a quarter longer.
+// has no lower residual, and is skipped before its root is taken. Each kind of model has its own instance of the walk, and
+// both are compiled with this in their loop: a call a block made a ring of two starts take a quarter more instructions.
 #[inline(always)]
 pub fn lanes_tried<const N: usize>(
     best0: Best,
@@ -131,6 +134,7 @@ pub fn lanes_tried<const N: usize>(
     let q_mean = m.q_mean;
     let denom = m.denom;
     let num = m.num;
+    // By lane: k is counted on from the pair's angle, and read in four arrays.
     'lanes: for k in 0..4 {
         if !is_pair(p, k) {
             break 'lanes;

@@ -18,6 +18,7 @@ pub const ROW_PLACES: usize = 26;
 
 pub type GridRow = [f32; ROW_PLACES];
 
+// Arrays of four, and no four structs: each step is one on four numbers.
 // The sums of four pairs side by side: of the angle a with b, b + 1, b + 2 and b + 3.
 #[derive(Drop)]
 pub struct Lanes {
@@ -60,7 +61,7 @@ fn lanes_added(s: Lanes, v: f32, x: f32, y: [f32; 4]) -> Lanes
 
 // Each lane adds its samples in their order. From b = 20 on the last lanes run past the grid's angles; nothing is asked of
 // them. The number of samples is a constant to the compiler, here and below: the loop has no end to test, and what is divided
-// by 16 is multiplied. It was a tenth of a fit with two starts.
+// by 16 is multiplied. It was a tenth of a fit with two starts (measured on an older kit).
 pub fn lane_sums<const N: usize>(h: &[GridRow; N], centered: &[f32; N], a: usize, b: usize) -> Lanes
     requires { (a < 23) × (b < 23) }
     ensures { result ≡ L.lane_sums N centered.now h.now a b }
@@ -136,6 +137,7 @@ pub fn mean_squares<const N: usize>(m: Models, centered_ss: f32) -> [f32; 4]
     ]
 }
 
+// No Option of both: nothing is at least NaN, so one comparison of `lanes_tried` serves either case.
 // The best seed so far, and what the root of its residual was taken of: NaN where there is none.
 #[derive(Drop)]
 pub struct Best {

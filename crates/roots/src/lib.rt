@@ -34,7 +34,7 @@ fn square(s: u64) -> u64
 }
 
 // the whole number nearest to the root of n, from any guess g: the heart of the square root
-// The loops count nothing: they look for a number from where the guess is, and no iterator of std's stops there.
+// No range with `find` in these loops: each would answer an Option that is never None.
 fn nearest_root(n: u64, g: u64) -> u64
     requires { (1 ≤ n) × (n < 281474976710656) × (g ≤ 33554432) }
     ensures { (n ≤ result * result + result) × (result * result < n + result) }

@@ -95,6 +95,7 @@ fn far(x: f32) -> usize
     usize::from(!((-floats::TAU < x) & (x < floats::TAU)))
 }
 
+// Counted, and no `all` or flag: with neither an early end nor a branch the loop can be vector code.
 // Whether every difference can be found without `%`.
 fn all_near(grad_angles: &[f32], theta: f32) -> bool
     ensures { result ≡ true → N.AllNear (length grad_angles.now) grad_angles.now theta }
@@ -106,22 +107,26 @@ fn all_near(grad_angles: &[f32], theta: f32) -> bool
     count == 0
 }
 
+// Slices and no Disk, here and below: these need two of its five, and no bound on their length.
 // The terms of the gradients, where every difference can be found without `%`. By place: two rows are read and the third written in step.
 fn near_terms<G: Gaussian>(grad_angles: &[f32], grad_weights: &[f32], theta: f32, terms: &mut [f32])
     requires { (length grad_weights.now ≡ length grad_angles.now) × (length terms.old ≡ length grad_angles.now) }
     ensures { terms.new ≡ N.near_terms G.term (length grad_angles.now) grad_angles.now grad_weights.now theta }
 {
+    // By place: after a `zip` over an `iter_mut` a proof knows no element, and the contract speaks of each.
     for p in 0..grad_angles.len() {
         let d = near_delta(grad_angles[p] - theta + floats::HALF_PI);
         terms[p] = G::term(grad_weights[p], d);
     }
 }
 
+// Two loops: with the test inside, the loop of the usual angles would have the call of `%` in it.
 // The same of any differences.
 fn far_terms<G: Gaussian>(grad_angles: &[f32], grad_weights: &[f32], theta: f32, terms: &mut [f32])
     requires { (length grad_weights.now ≡ length grad_angles.now) × (length terms.old ≡ length grad_angles.now) }
     ensures { terms.new ≡ N.far_terms G.term (length grad_angles.now) grad_angles.now grad_weights.now theta }
 {
+    // By place, for the same reason.
     for p in 0..grad_angles.len() {
         let d = geometry::signed_line_delta(grad_angles[p], theta);
         terms[p] = G::term(grad_weights[p], d);

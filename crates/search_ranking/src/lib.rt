@@ -9,6 +9,7 @@ use candidates::{PairScore, Pool};
 
 pub const MAX_TOP_PAIRS: usize = 24;
 
+// Not one type with Pool of a const size: two lines are shared, and each definition has its record.
 // The first pairs of the ranking, best first: n of the places.
 // That n is at most MAX_TOP_PAIRS is no ghost field, for the reason of candidates::CandidateSet's n.
 #[derive(Clone, Copy)]
@@ -19,6 +20,7 @@ pub struct Ranked {
 
 // Whether a stands before b: forced pairs first, then by greater edge score in the total order, lower
 // i and lower j.
+// Key after key, and not all by `then`: with all keys made first a ranking took twice as long.
 fn is_before(a: PairScore, b: PairScore) -> bool
     ensures { result ≡ R.is_before a b }
 {
@@ -41,7 +43,7 @@ fn unranked() -> Ranked
     Ranked { n: 0, pairs }
 }
 
-// Each pair goes down the ranking so far; the one that falls off the last place is dropped. By place: the ranking is written in step.
+// Each pair goes down the ranking; the last falls off. By place, on by `continue`: a swap inside the `if` was slower by a third.
 pub fn rank(pool: Pool) -> Ranked
     requires { pool.n ≤ max_pairs }
     ensures { result ≡ R.rank pool }

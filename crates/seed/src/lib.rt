@@ -43,6 +43,7 @@ fn double_near(ring_phi: &[f32], turned: &mut [f32])
     ensures { turned.new ≡ B.doubled_near (length ring_phi.now) ring_phi.now }
 {
     let n = ring_phi.len();
+    // By place: after a `zip` over an `iter_mut` a proof knows no element, and the contract speaks of each.
     for i in 0..n {
         turned[i] = 2.0 * ring_phi[i];
     }
@@ -64,6 +65,7 @@ fn wave_sums(samples: &[f32], mean: f32, sphi: &[f32], cphi: &[f32]) -> Waves
 {
     let n = samples.len();
     let mut w = Waves { c2: 0.0, s2: 0.0 };
+    // By place: three slices are read in step, and a `zip` in a `zip` would be no plainer.
     for i in 0..n {
         let v = samples[i] - mean;
         w.c2 += v * cphi[i];
@@ -116,6 +118,7 @@ fn pair_sums(centered: &[f32], h1: &[f32], h2: &[f32]) -> Sums
         q2_sum: 0.0,
         num: 0.0,
     };
+    // By place: three slices are read in step, and a `zip` in a `zip` would be no plainer.
     for i in 0..n {
         let q = h1[i] * h2[i];
         s.q_sum += q;

@@ -99,6 +99,7 @@ fn is_ring_phi(ring_phi: &[f32], expected: &[f32]) -> bool
     all
 }
 
+// A count as an f32: the caller's memory is words of that type, and has no other place for it.
 // How many tables the words hold: whatever the first word is, at most three.
 pub fn held(words: &[f32]) -> usize
     requires { length words.now ≡ W.state_size }
@@ -124,6 +125,7 @@ pub fn first_table(words: &[f32], ring_phi: &[f32]) -> Option<usize>
         × P.FoundBelow (W.held_in words.now) result }
 {
     let k = held(words);
+    // By number: the answer is one.
     for t in 0..k {
         let b = 1 + t * TABLE_SIZE;
         if is_ring_phi(ring_phi, &words[b..b + RING_SAMPLES]) {
@@ -133,7 +135,7 @@ pub fn first_table(words: &[f32], ring_phi: &[f32]) -> Option<usize>
     None
 }
 
-// ---- the search over a table's models
+// ---- the search over a table's models, and over the grid's
 
 // A sample v more, which has the factors q in the four models.
 fn num_added(m: Models, v: f32, q: [f32; 4]) -> Models
@@ -156,6 +158,7 @@ fn block_lanes(block: &[f32], centered: &[f32]) -> Models
         denom: [block[4], block[5], block[6], block[7]],
         num: [0.0f32; 4],
     };
+    // By place: chunks of the block would come as slices, and go into arrays of four all the same.
     for i in 0..RING_SAMPLES {
         let k = 8 + 4 * i;
         let q = [block[k], block[k + 1], block[k + 2], block[k + 3]];
@@ -219,6 +222,7 @@ impl<'a> Blocks<RING_SAMPLES> for Stored<'a> {
     }
 }
 
+// The samples, their sum of squares and the mean go apart: the function lines have them so.
 // The seed of least residual over all allowed pairs, the earlier on a tie.
 pub fn best_seed<const N: usize, B: Blocks<N>>(
     models: &B,
@@ -243,6 +247,7 @@ pub fn best_seed<const N: usize, B: Blocks<N>>(
 
 type GridRows = [GridRow; RING_SAMPLES];
 
+// a and b apart, no Pair: a lane's b lies behind its block's, and Pair is a block's first.
 fn q_at(h: &GridRows, a: usize, b: usize, i: usize) -> f32
     requires { (a < 23) × (b < 23) × (i < W.ring_samples) }
     ensures { result ≡ P.q_at h.now a b i }
@@ -298,11 +303,13 @@ fn fill_block(h: &GridRows, p: Pair, block: &mut [f32])
     requires { (p.a < 21) × (p.b < 23) × (length block.old ≡ W.block_size) }
     ensures { block.new ≡ W.block_of (P.model_from h.now) p }
 {
+    // By place: a word is made of its number; `enumerate` would count the same.
     for w in 0..BLOCK_SIZE {
         block[w] = block_word(h, p, w);
     }
 }
 
+// Lengths are asked of slices, here and below: a table is cut out of a caller's words as a slice.
 fn put_angles(angles: &[f32], table: &mut [f32])
     requires { (length angles.now ≡ W.ring_samples) × (length table.old ≡ W.table_size) }
     ensures { table.new ≡ angles.now ++ drop W.ring_samples table.old }
@@ -317,6 +324,7 @@ fn fill_table(angles: &[f32], h: &GridRows, table: &mut [f32])
 {
     put_angles(angles, table);
     let mut p = robust_grid::first_block();
+    // By place: of what `chunks_exact_mut` lends a proof knows the length alone.
     for j in 0..robust_grid::BLOCKS {
         let s = RING_SAMPLES + j * BLOCK_SIZE;
         fill_block(h, p, &mut table[s..s + BLOCK_SIZE]);

@@ -125,11 +125,13 @@ pub fn turn_all(angles: &mut [f32])
     }
 }
 
+// Three buffers and no struct: in `robust` they are on different stacks, and `turned` ends first.
 pub fn sin_cos_all(turned: &[f32], sphi: &mut [f32], cphi: &mut [f32])
     requires { (length sphi.old ≡ length turned.now) × (length cphi.old ≡ length turned.now) }
     ensures { B.Sines turned.now sphi.new cphi.new }
 {
     let n = turned.len();
+    // By place: one slice is read and two are written; a `zip` over an `iter_mut` tells a proof of no element.
     for i in 0..n {
         let t = elementary::sin_cos_near(turned[i]);
         sphi[i] = t.s;
@@ -148,6 +150,7 @@ pub fn prepare(ring_phi: &[f32], turned: &mut [f32], sphi: &mut [f32], cphi: &mu
     sin_cos_all(turned, sphi, cphi);
 }
 
+// `js` is no field of Ring: a Ring is copied, and shared by passes that write `js`.
 // The residual and the Jacobian's row of each sample: this loop has no running sum, so it becomes vector code.
 fn fill(ring: &Ring, p: Params, t1: SinCos, t2: SinCos, js: &mut [Sample])
     requires { length js.old ≡ length ring.now.samples.now }
@@ -157,6 +160,7 @@ fn fill(ring: &Ring, p: Params, t1: SinCos, t2: SinCos, js: &mut [Sample])
     let sphi = ring.sphi;
     let cphi = ring.cphi;
     let n = samples.len();
+    // By place: three slices are read and one written; a `zip` over an `iter_mut` tells a proof of no element.
     for i in 0..n {
         js[i] = sample_at(p, t1, t2, samples[i], sphi[i], cphi[i]);
     }
@@ -294,8 +298,9 @@ fn run_updates(ring: &Ring, seed: Params, js: &mut [Sample]) -> Run
     let mut p = seed;
     let mut count = 0usize;
     // Two calls, here and at the loop's end, keep `pass` a function of its own: put into the loop, its
-    // sums would be packed as the matrix is, at 47 instructions a sample and not 21.
+    // sums were packed as the matrix is, at twice the instructions (measured on an older kit).
     let mut s = pass(ring, p, js);
+    // Left by break and carrying the count: the form that this project names for the updates.
     loop {
         if count >= GN_MAX_ITERS {
             break;

@@ -20,6 +20,7 @@ fn widened_row(r: [f32; 4], b: f32, c: f32) -> [f32; 8]
     [r[0], r[1], r[2], r[3], b, c, 0.0, 0.0]
 }
 
+// That i is below 4 is asked of each: the 4 by 4 array with plain indices is the form that this project names.
 // Row k or the best so far: k where its entry in column i is larger in size.
 #[tactic(auto, unfolding(crate::specs::Solve::larger))]
 fn larger(m: &[[f32; 8]; 4], i: usize, k: usize, best: usize) -> usize
@@ -38,6 +39,7 @@ fn pivot_row(m: &[[f32; 8]; 4], i: usize) -> usize
     ensures { (result < 4) × (result ≡ S.pivot_row m.now i) }
 {
     let mut best = i;
+    // By place, here and below: rows and columns of the 4 by 4 array are numbers, the form that this project names.
     for k in i + 1..4 {
         best = larger(m, i, k, best);
     }

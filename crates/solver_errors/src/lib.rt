@@ -21,6 +21,7 @@ pub struct Standing {
     pub known: bool,
 }
 
+// No Option: the errors are answered as numbers also where they are not known, as in the Rust.
 // Errors with their standing.
 #[derive(Clone, Copy)]
 pub struct Estimate {
