@@ -36,7 +36,16 @@ abbrev pub lent_disk : Float → InSlice → InSlice → InSlice → InSlice →
 lent_disk val_energy xs ys vals_centered grad_angles grad_weights =
     disk_of val_energy xs.entry.now ys.entry.now vals_centered.entry.now grad_angles.entry.now grad_weights.entry.now
 
--- what a function that is handed a disk's gradients says: P, of every disk that has them
+-- what a function that is handed some slices of a disk says: P, of every disk that has them
+abbrev pub OfPixels : Float → InSlice → InSlice → InSlice → (DiskData → Type 0) → Type 0
+OfPixels val_energy xs ys vals_centered P =
+    (angles weights : Row) → P (disk_of val_energy xs.entry.now ys.entry.now vals_centered.entry.now angles weights)
+
+abbrev pub OfValues : Float → InSlice → (DiskData → Type 0) → Type 0
+OfValues val_energy vals_centered P =
+    let vals = vals_centered.entry.now in
+    (xs ys angles weights : Row) → length xs ≡ length vals → P (disk_of val_energy xs ys vals angles weights)
+
 abbrev pub OfGradients : InSlice → InSlice → (DiskData → Type 0) → Type 0
 OfGradients grad_angles grad_weights P =
     let angles = grad_angles.entry.now in

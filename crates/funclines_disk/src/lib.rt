@@ -280,8 +280,7 @@ pub extern "C" fn fl_combine_edge_pair(a: f32, b: f32, total: f32) -> f32 {
     candidates::combine_edge_pair(a, b, total)
 }
 
-// ---- 80 to 83: the score of a pair. Where a line has no slice for a part of the disk, the function does not
-// read that part, and another slice stands in its place.
+// ---- 80 to 83: the score of a pair
 
 #[unsafe(no_mangle)]
 pub extern "C" fn fl_score_pair_cached(
@@ -298,21 +297,13 @@ pub extern "C" fn fl_score_pair_cached(
     requires h1_len { length h1.now ≡ length vals_centered.now }
     requires vals_centered_len_bound { length vals_centered.now ≤ max_tanh_pixels }
 {
-    let d = Disk {
-        val_energy,
-        xs: vals_centered,
-        ys: vals_centered,
-        vals_centered,
-        grad_angles: vals_centered,
-        grad_weights: vals_centered,
-    };
     let t = Trial {
         theta0,
         theta1,
         width,
         edge_score,
     };
-    Fit9::from(score::score_pair_cached(d, t, h0, h1))
+    Fit9::from(score::score_pair_cached(val_energy, vals_centered, t, h0, h1))
 }
 
 #[unsafe(no_mangle)]
@@ -354,15 +345,7 @@ pub extern "C" fn fl_fit_std_errors(
     requires vals_centered_len { length vals_centered.now ≡ length xs.now }
     requires xs_len_bound { length xs.now ≤ max_tanh_pixels }
 {
-    let d = Disk {
-        val_energy: 0.0,
-        xs,
-        ys,
-        vals_centered,
-        grad_angles: xs,
-        grad_weights: xs,
-    };
-    let errors = score::fit_std_errors(d, fit_of(*fit)).errors;
+    let errors = score::fit_std_errors(xs, ys, vals_centered, fit_of(*fit)).errors;
     Two {
         values: [errors.error1, errors.error2],
     }
@@ -465,15 +448,16 @@ pub extern "C" fn fl_build_axis_rows(
 ) -> Rows
     requires { Outlined xs.now ys.now grad_angles.now grad_weights.now }
 {
-    let d = Disk {
-        val_energy: 0.0,
+    let mut rows = [0.0f32; search_rows::ROWS];
+    let sums = search_rows::build_axis_rows(
         xs,
         ys,
-        vals_centered: xs,
         grad_angles,
         grad_weights,
-    };
-    let mut rows = [0.0f32; search_rows::ROWS];
-    let sums = search_rows::build_axis_rows(d, base, offsets, width, &mut rows);
+        base,
+        offsets,
+        width,
+        &mut rows,
+    );
     Rows { sums, rows }
 }

@@ -1,14 +1,12 @@
 // The score of a pair of axes, the order of fits and the errors of a fit: disk_sector/score.rs.
 #![tactic(auto)]
 
-ghost use Rattle.std.specs.Prelude.{◌≡◌, ◌≤◌, length};
-ghost use Rattle.data.specs.Data.{OfGradients, max_tanh_pixels};
-ghost use Rattle.data.specs.Disk.{the_disk};
+ghost use Rattle.std.specs.Prelude.{◌≡◌, ◌≤◌, Float, length};
+ghost use Rattle.data.specs.Data.{OfPixels, OfValues, OfGradients, max_tanh_pixels};
 ghost use Rattle.candidates.specs.Candidates.{max_candidates};
 ghost use Rattle.score.specs.Score as S;
 
 use candidates::CandidateSet;
-use data::Disk;
 use elementary::SinCos;
 use score_edges::Ranking;
 use solver_errors::Estimate;
@@ -132,19 +130,27 @@ fn scored_sums(val_energy: f32, n_inv: f32, s: Sums, t: Trial) -> Option<Fit>
 }
 
 // The score of two axes from their rows of tanh, or none.
-pub fn score_pair_cached(d: Disk, t: Trial, h0: &[f32], h1: &[f32]) -> Option<Fit>
-    requires { (length h0.now ≡ length d.xs.now) × (length h1.now ≡ length d.xs.now) }
-    ensures { result ≡ S.score_pair_cached (the_disk d.entry) t.theta0 t.theta1 t.width t.edge_score h0.now h1.now }
+pub fn score_pair_cached(
+    val_energy: f32,
+    vals_centered: &[f32],
+    t: Trial,
+    h0: &[f32],
+    h1: &[f32],
+) -> Option<Fit>
+    requires { (length h0.now ≡ length vals_centered.now) × (length h1.now ≡ length vals_centered.now)
+        × (length vals_centered.now ≤ max_tanh_pixels) }
+    ensures { OfValues val_energy vals_centered
+        (λ D. result ≡ S.score_pair_cached D t.theta0 t.theta1 t.width t.edge_score h0.now h1.now) }
 {
     if !geometry::valid_pair(t.theta0, t.theta1) {
         return None;
     }
-    if d.val_energy <= 1e-9 {
+    if val_energy <= 1e-9 {
         return None;
     }
-    let s = cached_sums(d.vals_centered, h0, h1);
-    let n_inv = 1.0 / floats::count_f32(d.xs.len());
-    scored_sums(d.val_energy, n_inv, s, t)
+    let s = cached_sums(vals_centered, h0, h1);
+    let n_inv = 1.0 / floats::count_f32(vals_centered.len());
+    scored_sums(val_energy, n_inv, s, t)
 }
 
 // Step 1 of best_disk_fit: the candidates' edge sums into `out`, and the weights' total; `terms` is
@@ -251,15 +257,16 @@ fn gathered(t: Slopes, m: Moments) -> Moments
 }
 
 // By place: three rows are read in step.
-fn moments_of(d: Disk, fit: Fit) -> Moments
-    ensures { result ≡ S.moments_of (length d.entry.xs.now) d.entry.xs.now d.entry.ys.now d.entry.vals_centered.now fit }
+fn moments_of(xs: &[f32], ys: &[f32], vals_centered: &[f32], fit: Fit) -> Moments
+    requires { (length ys.now ≡ length xs.now) × (length vals_centered.now ≡ length xs.now) }
+    ensures { result ≡ S.moments_of (length xs.now) xs.now ys.now vals_centered.now fit }
 {
     let inv_w = 1.0 / fit.width;
     let t1 = elementary::sin_cos(fit.theta1);
     let t2 = elementary::sin_cos(fit.theta2);
     let mut m = Moments::default();
-    for p in 0..d.xs.len() {
-        let t = slopes_at(fit.amp, inv_w, t1, t2, d.xs[p], d.ys[p], d.vals_centered[p]);
+    for p in 0..xs.len() {
+        let t = slopes_at(fit.amp, inv_w, t1, t2, xs[p], ys[p], vals_centered[p]);
         m = gathered(t, m);
     }
     m
@@ -297,11 +304,14 @@ fn normal(n: usize, m: Moments) -> [[f32; 4]; 4]
 }
 
 // The standard errors of a fit's two axes and their standing, from one pass at its own angles and width.
-pub fn fit_std_errors(d: Disk, fit: Fit) -> Estimate
-    ensures { result ≡ S.fit_estimate (the_disk d.entry) fit }
+pub fn fit_std_errors(xs: &[f32], ys: &[f32], vals_centered: &[f32], fit: Fit) -> Estimate
+    requires { (length ys.now ≡ length xs.now) × (length vals_centered.now ≡ length xs.now)
+        × (length xs.now ≤ max_tanh_pixels) }
+    ensures { (energy : Float) →
+        OfPixels energy xs ys vals_centered (λ D. result ≡ S.fit_estimate D fit) }
 {
-    let n = d.xs.len();
-    let m = moments_of(d, fit);
+    let n = xs.len();
+    let m = moments_of(xs, ys, vals_centered, fit);
     let jtj = normal(n, m);
     let ssr = narrowing::narrow(residual(n, fit.amp, m));
     solver_errors::axis_std_errors(&jtj, ssr, n)

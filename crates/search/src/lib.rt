@@ -132,7 +132,13 @@ fn score_cached(
         width,
         edge_score: p.edge_score,
     };
-    score::score_pair_cached(d, t, &cache[a..ae], &cache[b..be])
+    score::score_pair_cached(
+        d.val_energy,
+        d.vals_centered,
+        t,
+        &cache[a..ae],
+        &cache[b..be],
+    )
 }
 
 // Step 5: one ranked pair at one width.

@@ -10,7 +10,7 @@ use Rattle.loops.specs.Loops.{iter}
 use Rattle.loops.proofs.IterLaws.{pick_true}
 use Rattle.loops.proofs.TabLaws.{tab_at, tab_length}
 use Rattle.floats.specs.Rows.{Row}
-use Rattle.data.specs.Data.{DiskData, max_tanh_pixels}
+use Rattle.data.specs.Data.{DiskData, disk_of, max_tanh_pixels}
 use Rattle.score_edges.specs.Edges.{edge_weight_total}
 use Rattle.score.specs.Score.{fit_is_better}
 use Rattle.score.specs.ScoreLaws.{scored_width}
@@ -24,20 +24,28 @@ use Rattle.search_refine.specs.Refine.{best_after, refine_fit_cached, answers, r
 use Rattle.search_refine.specs.RefineLaws.{offsets_are}
 
 -- ---- a neighbour
-module _ (D : DiskData) {rows : Row} {slots : Slots} (o : Offset) (best : Fit) (i j : ℕ)
-    (h : Stands D (best.theta1 ⊕ o.d0) best.width slots rows i) (k : Stands D (best.theta2 ⊕ o.d1) best.width slots rows j) where
-  -- with the rows of both axes in their slots the held score is the neighbour's
-  held_is : held_score D slots best.width i j rows ≡ neighbour D slots.total o best
-  unfolding held_score neighbour
-  held_is = rw (h.key, k.key, h.row, k.row, h.edge, k.edge)
+-- with the rows of both axes in their slots the held score is the neighbour's
+held_is :
+    {xs ys angles weights rows : Row} {slots : Slots} (energy : Float) (vals : Row) (o : Offset) (best : Fit) (i j : ℕ) →
+    Stands xs ys angles weights (best.theta1 ⊕ o.d0) best.width slots rows i →
+    Stands xs ys angles weights (best.theta2 ⊕ o.d1) best.width slots rows j →
+    held_score (disk_of energy xs ys vals angles weights) slots best.width i j rows
+    ≡ neighbour (disk_of energy xs ys vals angles weights) slots.total o best
+unfolding held_score neighbour
+held_is energy vals o best i j h k = rw (h.key, k.key, h.row, k.row, h.edge, k.edge)
 
-  -- so what is made of it is the definition's turn
-  pub tried_held :
-      (total : Float) (next : Fit) (a : Option Fit) → next ≡ better_of a best → a ≡ held_score D slots best.width i j rows →
-      slots.total ≡ total → next ≡ tried D total o best
-  unfolding tried
-  tried_held total next a en ea et =
-      en ∙ ap (λ (x : Option Fit). better_of x best) (ea ∙ held_is ∙ ap (λ (t : Float). neighbour D t o best) et)
+-- so what is made of it is the definition's turn
+pub tried_held :
+    {xs ys angles weights rows : Row} {slots : Slots} (energy : Float) (vals : Row) (total : Float) (o : Offset) (best next : Fit)
+    (i j : ℕ) (a : Option Fit) →
+    next ≡ better_of a best → a ≡ held_score (disk_of energy xs ys vals angles weights) slots best.width i j rows → slots.total ≡ total →
+    Stands xs ys angles weights (best.theta1 ⊕ o.d0) best.width slots rows i →
+    Stands xs ys angles weights (best.theta2 ⊕ o.d1) best.width slots rows j →
+    next ≡ tried (disk_of energy xs ys vals angles weights) total o best
+unfolding tried
+tried_held {xs} {ys} {angles} {weights} energy vals total o best next i j a en ea et h k =
+    let D = disk_of energy xs ys vals angles weights in
+    en ∙ ap (λ (x : Option Fit). better_of x best) (ea ∙ held_is energy vals o best i j h k ∙ ap (λ (t : Float). neighbour D t o best) et)
 
 -- ---- what every answer has, the best keeps
 pub better_keeps : (P : Fit → Type 0) (a : Option Fit) (best : Fit) → ((f : Fit) → a ≡ Some f → P f) → P best → P (better_of a best)
@@ -56,10 +64,10 @@ tried_width D total o best = better_keeps (λ f. f.width ≡ best.width) _ best 
 
 -- and what is kept for the best's width stays so
 pub kept_on :
-    {rows : Row} {slots : Slots} (D : DiskData) (total : Float) (o : Offset) (best next : Fit) →
-    next ≡ tried D total o best → SlotsKept D best.width slots rows → SlotsKept D next.width slots rows
-kept_on {rows} {slots} D total o best next e h =
-    subst (λ (w : Float). SlotsKept D w slots rows) (sym (ap (λ (f : Fit). f.width) e ∙ tried_width D total o best)) h
+    {xs ys angles weights rows : Row} {slots : Slots} (D : DiskData) (total : Float) (o : Offset) (best next : Fit) →
+    next ≡ tried D total o best → SlotsKept xs ys angles weights best.width slots rows → SlotsKept xs ys angles weights next.width slots rows
+kept_on {xs} {ys} {angles} {weights} {rows} {slots} D total o best next e h =
+    subst (λ (w : Float). SlotsKept xs ys angles weights w slots rows) (sym (ap (λ (f : Fit). f.width) e ∙ tried_width D total o best)) h
 
 -- ---- the whole refinement
 -- 24 turns of the code, with the total of all weights

@@ -78,24 +78,30 @@ fn judge(s: Refined, answer: Option<Fit>) -> Refined
 // Neighbour t of the best.
 fn try_neighbour(d: Disk, turn: Turn, t: usize, rows: &mut [f32]) -> Turn
     requires { (t < R.neighbours) × (turn.refined.trials < 1000)
-        × SlotsKept (the_disk d) turn.refined.best.width turn.slots rows.old }
+        × SlotsKept d.xs.now d.ys.now d.grad_angles.now d.grad_weights.now
+        turn.refined.best.width turn.slots rows.old }
     ensures { let D = the_disk d.entry in (result.refined.trials ≡ turn.refined.trials + 1)
-        × SlotsKept D result.refined.best.width result.slots rows.new
+        × SlotsKept D.xs D.ys D.grad_angles D.grad_weights
+        result.refined.best.width result.slots rows.new
         × (result.slots.total ≡ turn.slots.total)
         × (result.refined.best ≡ R.tried D turn.slots.total (get_or R.offsets t R.nowhere) turn.refined.best) }
 {
+    let (xs, ys) = (d.xs, d.ys);
+    let (angles, weights) = (d.grad_angles, d.grad_weights);
     let before = turn.refined;
     let best = before.best;
+    let width = best.width;
     let o = offset_at(t);
     let t1 = best.theta1 + o.d0;
     let t2 = best.theta2 + o.d1;
     let k = place(t);
     let none = turn.slots;
     let i = search_rows::slot_of(none, 0, best.theta1, t1, k / 3);
-    let one = search_rows::hold(d, none, t1, best.width, i, rows);
+    let one = search_rows::hold(xs, ys, angles, weights, none, t1, width, i, rows);
     let j = search_rows::slot_of(one, 3, best.theta2, t2, k % 3);
-    let slots = search_rows::hold(d, one, t2, best.width, j, rows);
-    let answer = search_rows::score_held(d, slots, best.width, i, j, rows);
+    let slots = search_rows::hold(xs, ys, angles, weights, one, t2, width, j, rows);
+    let vals = d.vals_centered;
+    let answer = search_rows::score_held(d.val_energy, vals, slots, width, i, j, rows);
     let refined = judge(before, answer);
     Turn { refined, slots }
 }

@@ -75,38 +75,41 @@ slot_of slots from base theta k =
     (cond (eq (key_at slots (from + k)) base) (from + 1) (from + k))))
 
 -- the slots and the six rows with theta in slot q
-unfoldable pub held_slots : DiskData → Slots → Float → ℕ → Slots
-held_slots D slots theta q =
-    let edge = refined_sum D.n D.grad_angles D.grad_weights theta in
+unfoldable pub held_slots : Row → Row → Row → Slots → Float → ℕ → Slots
+held_slots xs angles weights slots theta q =
+    let edge = refined_sum (length xs) angles weights theta in
     cond (is_same (key_at slots q) theta) slots
     (record { held = set slots.held q (record { key = theta; edge = edge }); total = slots.total })
 
-unfoldable pub held_rows : DiskData → Float → Slots → Row → Float → ℕ → List Row
-held_rows D width slots rows theta q =
-    cond (is_same (key_at slots q) theta) (rows_of D.n rows 6)
-    (set (rows_of D.n rows 6) q (axis_row D.n D.xs D.ys theta width))
+unfoldable pub held_rows : Row → Row → Float → Slots → Row → Float → ℕ → List Row
+held_rows xs ys width slots rows theta q =
+    cond (is_same (key_at slots q) theta) (rows_of (length xs) rows 6)
+    (set (rows_of (length xs) rows 6) q (axis_row (length xs) xs ys theta width))
 
 -- theta stands in slot q: it is the key, and the row and the edge sum are its own
-pub record Stands (D : DiskData) (theta width : Float) (slots : Slots) (rows : Row) (q : ℕ) : Type 0 where
+pub record Stands (xs ys angles weights : Row) (theta width : Float) (slots : Slots) (rows : Row) (q : ℕ) : Type 0 where
   pub key : key_at slots q ≡ theta
-  pub row : row_of D.n rows q ≡ axis_row D.n D.xs D.ys theta width
-  pub edge : edge_at slots q ≡ refined_sum D.n D.grad_angles D.grad_weights theta
+  pub row : row_of (length xs) rows q ≡ axis_row (length xs) xs ys theta width
+  pub edge : edge_at slots q ≡ refined_sum (length xs) angles weights theta
 
 -- where a key is above 0, that angle stands in its slot
-pub record SlotsKept (D : DiskData) (width : Float) (slots : Slots) (rows : Row) : Type 0 where
+pub record SlotsKept (xs ys angles weights : Row) (width : Float) (slots : Slots) (rows : Row) : Type 0 where
   pub places : length slots.held ≡ 6
   pub room : length rows ≡ rows_room
-  pub slot : (q : ℕ) → q < 6 → lt nought (key_at slots q) ≡ true → Stands D (key_at slots q) width slots rows q
+  pub slot :
+      (q : ℕ) → q < 6 → lt nought (key_at slots q) ≡ true → Stands xs ys angles weights (key_at slots q) width slots rows q
 
 -- the slots and the rows after theta was asked for in slot q; so it stands there, and whatever stood in another slot still does
 pub record SlotHeld
-    (D : DiskData) (theta width : Float) (slots : Slots) (rows : Row) (slots' : Slots) (rows' : Row) (q : ℕ) : Type 0 where
-  pub slots_are : slots' ≡ held_slots D slots theta q
-  pub rows_are : rows_of D.n rows' 6 ≡ held_rows D width slots rows theta q
+    (xs ys angles weights : Row) (theta width : Float) (slots : Slots) (rows : Row) (slots' : Slots) (rows' : Row) (q : ℕ) : Type 0 where
+  pub slots_are : slots' ≡ held_slots xs angles weights slots theta q
+  pub rows_are : rows_of (length xs) rows' 6 ≡ held_rows xs ys width slots rows theta q
   pub total : slots'.total ≡ slots.total
-  pub kept : SlotsKept D width slots' rows'
-  pub here : Stands D theta width slots' rows' q
-  pub still : (j : ℕ) (t : Float) → j < 6 → (j ≡ q → ⊥) → Stands D t width slots rows j → Stands D t width slots' rows' j
+  pub kept : SlotsKept xs ys angles weights width slots' rows'
+  pub here : Stands xs ys angles weights theta width slots' rows' q
+  pub still :
+      (j : ℕ) (t : Float) → j < 6 → (j ≡ q → ⊥) → Stands xs ys angles weights t width slots rows j →
+      Stands xs ys angles weights t width slots' rows' j
 
 -- the axes in the slots i and j, scored from what stands there
 unfoldable pub held_score : DiskData → Slots → Float → ℕ → ℕ → Row → Option Fit

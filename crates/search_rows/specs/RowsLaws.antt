@@ -16,7 +16,7 @@ use Rattle.floats.specs.RemLaws.{nought_val}
 use Rattle.remainders.specs.RemainderLaws.{same_val}
 use Rattle.loops.proofs.TabLaws.{Stores, tab_length, tab_at, tab_same, part_length, stores_all}
 use Rattle.floats.specs.Rows.{Row, at}
-use Rattle.data.specs.Data.{DiskData, disk_of, max_tanh_pixels, row_of}
+use Rattle.data.specs.Data.{disk_of, max_tanh_pixels, row_of}
 use Rattle.data.specs.RowLaws.{lent, Wrote, wrote}
 use Rattle.score_edges.specs.Edges.{refined_sum}
 use Rattle.score.specs.Score.{axis_row}
@@ -143,8 +143,8 @@ module _ {xs ys : Row} {base width : Float} {offsets : Row} where
 -- ---- the slots
 -- six keys of 0 mark six empty slots
 pub kept_none :
-    {D : DiskData} {width : Float} (total : Float) (rows : Row) → length rows ≡ rows_room →
-    SlotsKept D width (no_slots total) rows
+    {xs ys angles weights : Row} {width : Float} (total : Float) (rows : Row) → length rows ≡ rows_room →
+    SlotsKept xs ys angles weights width (no_slots total) rows
 unfolding lt of_bits
 kept_none total rows m = record { places = refl; room = m; slot = λ q b l. absurd (false≢true (sym (never q) ∙ l)) }
   where
@@ -157,11 +157,11 @@ kept_none total rows m = record { places = refl; room = m; slot = λ q b l. absu
     never (suc (suc (suc (suc (suc zero))))) = refl
     never (suc (suc (suc (suc (suc (suc q)))))) = refl
 
-module _ {D : DiskData} {theta width : Float} {slots : Slots} {rows : Row} where
+module _ {xs ys angles weights : Row} {theta width : Float} {slots : Slots} {rows : Row} where
   -- slot q has theta already
   pub held_here :
-      (q : ℕ) → q < 6 → SlotsKept D width slots rows → is_same (key_at slots q) theta ≡ true →
-      (key_at slots q ≡ theta) × (lt nought theta ≡ true) → SlotHeld D theta width slots rows slots rows q
+      (q : ℕ) → q < 6 → SlotsKept xs ys angles weights width slots rows → is_same (key_at slots q) theta ≡ true →
+      (key_at slots q ≡ theta) × (lt nought theta ≡ true) → SlotHeld xs ys angles weights theta width slots rows slots rows q
   unfolding held_slots held_rows
   held_here q b h t e =
       record {
@@ -169,16 +169,16 @@ module _ {D : DiskData} {theta width : Float} {slots : Slots} {rows : Row} where
         rows_are = rw t;
         total = refl;
         kept = h;
-        here = subst (λ (t : Float). Stands D t width slots rows q) e.0
+        here = subst (λ (t : Float). Stands xs ys angles weights t width slots rows q) e.0
             (h.slot q b (subst (λ (t : Float). lt nought t ≡ true) (sym e.0) e.1));
         still = λ j t l o s. s;
       }
 
   -- slot q was filled
   pub held_filled :
-      {rows' : Row} (edge : Float) (q : ℕ) → q < 6 → SlotsKept D width slots rows → is_same (key_at slots q) theta ≡ false →
-      edge ≡ refined_sum D.n D.grad_angles D.grad_weights theta → RowFilled D.n q (axis_row D.n D.xs D.ys theta width) rows rows' →
-      SlotHeld D theta width slots rows
+      {rows' : Row} (edge : Float) (q : ℕ) → q < 6 → SlotsKept xs ys angles weights width slots rows → is_same (key_at slots q) theta ≡ false →
+      edge ≡ refined_sum (length xs) angles weights theta → RowFilled (length xs) q (axis_row (length xs) xs ys theta width) rows rows' →
+      SlotHeld xs ys angles weights theta width slots rows
       (record { held = set slots.held q (record { key = theta; edge = edge }); total = slots.total }) rows' q
   unfolding held_slots held_rows
   held_filled {rows'} edge q b h t e f =
@@ -207,7 +207,7 @@ module _ {D : DiskData} {theta width : Float} {slots : Slots} {rows : Row} where
       other : (j : ℕ) → (j ≡ q → ⊥) → get_or new.held j beyond ≡ get_or slots.held j beyond
       other j o = get_or-set_other slots.held q j slot_new beyond o
 
-      here : Stands D theta width new rows' q
+      here : Stands xs ys angles weights theta width new rows' q
       here =
           record {
             key = ap (λ (x : Slot). x.key) same;
@@ -216,8 +216,8 @@ module _ {D : DiskData} {theta width : Float} {slots : Slots} {rows : Row} where
           }
 
       still :
-          (j : ℕ) (t : Float) → j < 6 → (j ≡ q → ⊥) → Stands D t width slots rows j →
-          Stands D t width new rows' j
+          (j : ℕ) (t : Float) → j < 6 → (j ≡ q → ⊥) → Stands xs ys angles weights t width slots rows j →
+          Stands xs ys angles weights t width new rows' j
       still j t l o s =
           record {
             key = ap (λ (x : Slot). x.key) (other j o) ∙ s.key;
@@ -225,12 +225,12 @@ module _ {D : DiskData} {theta width : Float} {slots : Slots} {rows : Row} where
             edge = ap (λ (x : Slot). x.edge) (other j o) ∙ s.edge;
           }
 
-      slot : (j : ℕ) → j < 6 → lt nought (key_at new j) ≡ true → Stands D (key_at new j) width new rows' j
+      slot : (j : ℕ) → j < 6 → lt nought (key_at new j) ≡ true → Stands xs ys angles weights (key_at new j) width new rows' j
       slot j l g = elim (same_or_not j q) [
-        | inl i ↦ subst (λ (k : ℕ). Stands D (key_at new k) width new rows' k) (sym i)
-            (subst (λ (t : Float). Stands D t width new rows' q) (sym here.key) here)
+        | inl i ↦ subst (λ (k : ℕ). Stands xs ys angles weights (key_at new k) width new rows' k) (sym i)
+            (subst (λ (t : Float). Stands xs ys angles weights t width new rows' q) (sym here.key) here)
         | inr o ↦ let k = ap (λ (x : Slot). x.key) (other j o) in
-            subst (λ (t : Float). Stands D t width new rows' j) (sym k)
+            subst (λ (t : Float). Stands xs ys angles weights t width new rows' j) (sym k)
             (still j _ l o (h.slot j l (subst (λ (t : Float). lt nought t ≡ true) k g)))
       ]
 

@@ -4,15 +4,15 @@
 // 2, axis 2 in 3 to 5, and scratch behind them.
 #![tactic(auto)]
 
-ghost use Rattle.std.specs.Prelude.{◌≡◌, true, ◌+◌, ◌≤◌, ◌<◌, length};
+ghost use Rattle.std.specs.Prelude.{◌≡◌, true, ◌+◌, ◌≤◌, ◌<◌, Float, length};
 ghost use Rattle.std.specs.Float.Ieee.{lt};
 ghost use Rattle.floats.specs.Ops.{nought};
-ghost use Rattle.data.specs.Disk.{the_disk};
+ghost use Rattle.floats.specs.Rows.{Row};
+ghost use Rattle.data.specs.Data.{disk_of, OfValues, max_tanh_pixels};
 ghost use Rattle.score.specs.Score.{axis_row};
 ghost use Rattle.score_edges.specs.Edges.{refined_sum};
 ghost use Rattle.search_rows.specs.Rows as R;
 
-use data::Disk;
 use score::{Fit, Trial};
 use score_edges::Refinement;
 
@@ -45,37 +45,52 @@ pub fn no_slots(total: f32) -> Slots
 }
 
 // The row of an axis at theta into row q of the buffer, and its edge sum.
-fn fill_row(d: Disk, theta: f32, width: f32, q: usize, rows: &mut [f32]) -> f32
-    requires { (q < 6) × (length rows.old ≡ R.rows_room) }
-    ensures { let D = the_disk d.entry in (result ≡ refined_sum D.n D.grad_angles D.grad_weights theta)
-        × R.RowFilled D.n q (axis_row D.n D.xs D.ys theta width) rows.old rows.new }
+fn fill_row(
+    xs: &[f32],
+    ys: &[f32],
+    grad_angles: &[f32],
+    grad_weights: &[f32],
+    theta: f32,
+    width: f32,
+    q: usize,
+    rows: &mut [f32],
+) -> f32
+    requires { (q < 6) × R.Outlined xs.now ys.now grad_angles.now grad_weights.now × (length rows.old ≡ R.rows_room) }
+    ensures { (result ≡ refined_sum (length xs.now) grad_angles.now grad_weights.now theta)
+        × R.RowFilled (length xs.now) q (axis_row (length xs.now) xs.now ys.now theta width)
+        rows.old rows.new }
 {
-    let n = d.xs.len();
+    let n = xs.len();
     let b = q * data::MAX_TANH_PIXELS;
     let e = b + n;
-    score::axis_row(d.xs, d.ys, theta, width, &mut rows[b..e]);
+    score::axis_row(xs, ys, theta, width, &mut rows[b..e]);
     let from = SCRATCH;
     let to = from + n;
-    score_edges::edge_sum::<Refinement>(d.grad_angles, d.grad_weights, theta, &mut rows[from..to])
+    score_edges::edge_sum::<Refinement>(grad_angles, grad_weights, theta, &mut rows[from..to])
 }
 
 // The three rows of an axis around base, into the first three rows of the buffer, and their edge
 // sums. The refinement makes a row at a time: the function lines alone call this.
 pub fn build_axis_rows(
-    d: Disk,
+    xs: &[f32],
+    ys: &[f32],
+    grad_angles: &[f32],
+    grad_weights: &[f32],
     base: f32,
     offsets: &[f32; 3],
     width: f32,
     rows: &mut [f32],
 ) -> [f32; 3]
-    requires { length rows.old ≡ R.rows_room }
-    ensures { ◌≡◌ {A = R.AxisRows}
-        (record { rows = R.rows_of (length d.entry.xs.now) rows.exit.now 3; edges = result })
-        (R.build_axis_rows (the_disk d.entry) base offsets.now width) }
+    requires { R.Outlined xs.now ys.now grad_angles.now grad_weights.now × (length rows.old ≡ R.rows_room) }
+    ensures { (energy : Float) (vals : Row) → ◌≡◌ {A = R.AxisRows}
+        (record { rows = R.rows_of (length xs.now) rows.exit.now 3; edges = result })
+        (R.build_axis_rows (disk_of energy xs.now ys.now vals grad_angles.now grad_weights.now)
+        base offsets.now width) }
 {
     let mut edges = [0.0f32; 3];
     for k in 0..3usize {
-        edges[k] = fill_row(d, base + offsets[k], width, k, rows);
+        let theta = base + offsets[k];
+        edges[k] = fill_row(xs, ys, grad_angles, grad_weights, theta, width, k, rows);
     }
     edges
 }
@@ -109,32 +124,45 @@ pub fn slot_of(slots: Slots, from: usize, base: f32, theta: f32, k: usize) -> us
 }
 
 // The slots with theta in slot q, whether its row was kept or is made.
-pub fn hold(d: Disk, slots: Slots, theta: f32, width: f32, q: usize, rows: &mut [f32]) -> Slots
-    requires { (q < 6) × R.SlotsKept (the_disk d) width slots rows.old }
-    ensures { R.SlotHeld (the_disk d.entry) theta width slots rows.old result rows.new q }
+pub fn hold(
+    xs: &[f32],
+    ys: &[f32],
+    grad_angles: &[f32],
+    grad_weights: &[f32],
+    slots: Slots,
+    theta: f32,
+    width: f32,
+    q: usize,
+    rows: &mut [f32],
+) -> Slots
+    requires { (q < 6) × R.Outlined xs.now ys.now grad_angles.now grad_weights.now
+        × R.SlotsKept xs.now ys.now grad_angles.now grad_weights.now width slots rows.old }
+    ensures { R.SlotHeld xs.now ys.now grad_angles.now grad_weights.now theta width
+        slots rows.old result rows.new q }
 {
     if is_same(slots.held[q].key, theta) {
         return slots;
     }
     let mut s = slots;
-    let edge = fill_row(d, theta, width, q, rows);
+    let edge = fill_row(xs, ys, grad_angles, grad_weights, theta, width, q, rows);
     s.held[q] = Slot { key: theta, edge };
     s
 }
 
 // The score of the axes in the slots i and j.
 pub fn score_held(
-    d: Disk,
+    val_energy: f32,
+    vals_centered: &[f32],
     slots: Slots,
     width: f32,
     i: usize,
     j: usize,
     rows: &[f32],
 ) -> Option<Fit>
-    requires { (i < 6) × (j < 6) × (length rows.now ≡ R.rows_room) }
-    ensures { result ≡ R.held_score (the_disk d.entry) slots width i j rows.now }
+    requires { (i < 6) × (j < 6) × (length vals_centered.now ≤ max_tanh_pixels) × (length rows.now ≡ R.rows_room) }
+    ensures { OfValues val_energy vals_centered (λ D. result ≡ R.held_score D slots width i j rows.now) }
 {
-    let n = d.xs.len();
+    let n = vals_centered.len();
     let a = i * data::MAX_TANH_PIXELS;
     let ae = a + n;
     let b = j * data::MAX_TANH_PIXELS;
@@ -147,5 +175,5 @@ pub fn score_held(
         width,
         edge_score: candidates::combine_edge_pair(first.edge, second.edge, slots.total),
     };
-    score::score_pair_cached(d, t, &rows[a..ae], &rows[b..be])
+    score::score_pair_cached(val_energy, vals_centered, t, &rows[a..ae], &rows[b..be])
 }

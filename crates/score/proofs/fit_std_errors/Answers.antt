@@ -5,7 +5,7 @@ use Rattle.score.proofs.fit_std_errors.Goals as goal
 pub returns : goal.returns
 unfolding S.fit_std_errors S.fit_standing
 returns c =
-    rw (
+    λ energy angles weights. rw (
       ← c.moments_of-m.ensures,
       ← c.normal-jtj.ensures,
       ← c.residual.ensures,

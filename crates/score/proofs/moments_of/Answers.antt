@@ -34,5 +34,5 @@ loop-p-preserved c =
 pub returns : goal.returns
 unfolding S.moments_of
 returns c =
-    let h : c.loop-p.p ≡ length c.args.d.xs.now = omega arith in
+    let h : c.loop-p.p ≡ length c.args.xs.now = omega arith in
     rw (← c.sin_cos-t1.ensures, ← c.sin_cos-t2.ensures, ← h) c.loop-p.invariant.1

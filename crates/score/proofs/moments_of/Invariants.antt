@@ -9,5 +9,5 @@ use Rattle.score.proofs.moments_of.Given as goal
 
 abbrev pub invariant-loop-p : goal.invariant-loop-p
 invariant-loop-p l =
-    (l.p ≤ length l.d.xs.now)
-    × (l.m ≡ iter (λ p. S.gathered (S.slopes_at l.fit.amp l.inv_w l.t1 l.t2 (at l.d.xs.now p) (at l.d.ys.now p) (at l.d.vals_centered.now p))) S.no_moments l.p)
+    (l.p ≤ length l.xs)
+    × (l.m ≡ iter (λ p. S.gathered (S.slopes_at l.fit.amp l.inv_w l.t1 l.t2 (at l.xs p) (at l.ys p) (at l.vals_centered p))) S.no_moments l.p)

@@ -16,8 +16,7 @@ loop-k-preserved c =
     (search rules, built_more (search rules) i.1 f.1, stores_next _ _ _ _ _ i.2 f.0)
 
 pub returns : goal.returns
-returns c =
-    let d = c.args.d in
+returns c = λ energy vals.
     let h : c.loop-k.k ≡ 3 = omega arith in
     let i = rw h at c.loop-k.invariant in
-    built_all d.val_energy d.vals_centered.now _ _ i.1 i.2 refl
+    built_all energy vals _ _ i.1 i.2 refl

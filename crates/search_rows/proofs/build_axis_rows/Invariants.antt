@@ -9,5 +9,5 @@ use Rattle.search_rows.specs.RowsLaws.{Built}
 use Rattle.search_rows.proofs.build_axis_rows.Given as goal
 
 abbrev pub invariant-loop-k : goal.invariant-loop-k
-invariant-loop-k l = (l.k ≤ 3) × Built l.d.xs.now l.d.ys.now l.base l.width l.offsets l.rows l.k
-    × Stores (λ k. refined_sum (length l.d.xs.now) l.d.grad_angles.now l.d.grad_weights.now (l.base ⊕ at l.offsets k)) l.initial.edges l.edges l.k
+invariant-loop-k l = (l.k ≤ 3) × Built l.xs l.ys l.base l.width l.offsets l.rows l.k
+    × Stores (λ k. refined_sum (length l.xs) l.grad_angles l.grad_weights (l.base ⊕ at l.offsets k)) l.initial.edges l.edges l.k

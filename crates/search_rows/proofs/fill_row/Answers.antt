@@ -9,13 +9,13 @@ use Rattle.search_rows.proofs.fill_row.Goals as goal
 
 pub returns : goal.returns
 returns c =
-    let n = length c.args.d.xs.now in
+    let n = length c.args.xs.now in
     let q = c.args.q in
     let p : q * 320 + n - q * 320 ≡ n = omega arith in
     let z : 1920 + n - 1920 ≡ n = omega arith in
     let er = c.axis_row.auto.row in
     let eu = c.edge_sum.auto.terms in
     let u = c.edge_sum.new.terms in (
-      rw c.args.d.sized.a at c.edge_sum.ensures,
-      rw (p, z, ← c.axis_row.ensures) (row_filled n q _ u _ c.args.d.sized.most c.requires.0 c.requires.1 (er ∙ search rules) (eu ∙ search rules)),
+      rw c.requires.1.a at c.edge_sum.ensures,
+      rw (p, z, ← c.axis_row.ensures) (row_filled n q _ u _ c.requires.1.most c.requires.0 c.requires.2 (er ∙ search rules) (eu ∙ search rules)),
     )

@@ -8,10 +8,10 @@ use Rattle.search_rows.proofs.score_held.Goals as goal
 
 pub returns : goal.returns
 unfolding held_score
-returns c =
-    let n = length c.args.d.xs.now in
+returns c = λ xs ys angles weights l.
+    let n = length c.args.vals_centered.now in
     let i = c.args.i in
     let j = c.args.j in
     let p : i * 320 + n - i * 320 ≡ n = omega arith in
     let z : j * 320 + n - j * 320 ≡ n = omega arith in
-    rw (← c.combine_edge_pair.ensures) (rw (p, z) at c.score_pair_cached.ensures)
+    rw (l, ← c.combine_edge_pair.ensures) (rw (p, z, l) at (c.score_pair_cached.ensures xs ys angles weights l))
