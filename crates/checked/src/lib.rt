@@ -162,7 +162,7 @@ fn disk_fitted(d: Disk, base0: f32, base1: f32) -> Result<Measured, Refusal>
     match search::best_disk_fit(d, base0, base1) {
         Ok(found) => Ok(Measured {
             fit: found.best,
-            estimate: score::fit_std_errors(d, found.best),
+            estimate: score::fit_std_errors(d.xs, d.ys, d.vals_centered, found.best),
             trials: found.trials,
         }),
         Err(trials) => Err(Refusal::NothingFound(trials as u16)),

@@ -198,6 +198,7 @@ fn pairs_of(pool: Pool) -> Pairs {
 
 fn ranked_of(top: Ranked) -> Pairs {
     let mut pairs = [Ranking::from(top.pairs[0]); candidates::MAX_PAIRS];
+    // By place: the first places of a longer array are written.
     for k in 0..search_ranking::MAX_TOP_PAIRS {
         pairs[k] = Ranking::from(top.pairs[k]);
     }

@@ -68,7 +68,7 @@ pub struct Moments {
     pub see: f64,
 }
 
-// The model's factor of each pixel for an axis at theta. By place: two rows are read and the third written in step.
+// The model's factor of each pixel for an axis at theta. By place: a `zip` over `row.iter_mut()` tells a proof of no element.
 pub fn axis_row(xs: &[f32], ys: &[f32], theta: f32, width: f32, row: &mut [f32])
     requires { (length ys.now ≡ length xs.now) × (length row.old ≡ length xs.now) }
     ensures { row.new ≡ S.axis_row (length xs.now) xs.now ys.now theta width }
@@ -79,7 +79,8 @@ pub fn axis_row(xs: &[f32], ys: &[f32], theta: f32, width: f32, row: &mut [f32])
     }
 }
 
-// By place: three rows are read in step.
+// By place: three rows are read in step, and a `zip` in a `zip` would be no plainer.
+// The disk's twin of seed::pair_sums: each crate stands for its Rust file, and neither uses the other.
 fn cached_sums(vals_centered: &[f32], h0: &[f32], h1: &[f32]) -> Sums
     requires { (length h0.now ≡ length vals_centered.now) × (length h1.now ≡ length vals_centered.now) }
     ensures { result
@@ -171,6 +172,7 @@ pub fn precompute_edge_alignments(
     if total <= 1e-9 {
         return 0.0;
     }
+    // By place: a `zip` over `out.iter_mut()` tells a proof of no element, and what lies behind n is promised to stay.
     for c in 0..candidates.n {
         out[c] = score_edges::edge_sum::<Ranking>(
             grad_angles,
@@ -195,7 +197,7 @@ fn lower(a: f32, b: f32) -> Option<bool>
     None
 }
 
-// The same by the higher.
+// The same by the higher: no `lower(b, a)`, since a - 1e-9 and b + 1e-9 round apart.
 fn higher(a: f32, b: f32) -> Option<bool>
     ensures { result ≡ S.higher_told a b }
 {
@@ -256,7 +258,7 @@ fn gathered(t: Slopes, m: Moments) -> Moments
     }
 }
 
-// By place: three rows are read in step.
+// By place: three rows are read in step, and a `zip` in a `zip` would be no plainer.
 fn moments_of(xs: &[f32], ys: &[f32], vals_centered: &[f32], fit: Fit) -> Moments
     requires { (length ys.now ≡ length xs.now) × (length vals_centered.now ≡ length xs.now) }
     ensures { result ≡ S.moments_of (length xs.now) xs.now ys.now vals_centered.now fit }

@@ -14,6 +14,7 @@ use score::{Fit, Trial};
 use search_ranking::Ranked;
 use search_refine::Refined;
 
+// One flat buffer, as that of search_rows: each use cuts n of a row's 320 places out all the same.
 // A row for each of the candidates that are paired.
 const CACHE: usize = candidates::MAX_PAIRED * data::MAX_TANH_PIXELS;
 

@@ -88,6 +88,7 @@ pub fn build_axis_rows(
         base offsets.now width) }
 {
     let mut edges = [0.0f32; 3];
+    // By number: k is the row to fill, the offset and the place of its sum.
     for k in 0..3usize {
         let theta = base + offsets[k];
         edges[k] = fill_row(xs, ys, grad_angles, grad_weights, theta, width, k, rows);
@@ -111,6 +112,7 @@ pub fn slot_of(slots: Slots, from: usize, base: f32, theta: f32, k: usize) -> us
     requires { (from ≤ 3) × (k < 3) }
     ensures { (result ≡ R.slot_of slots from base theta k) × (from ≤ result) × (result < from + 3) }
 {
+    // By place: the answer is one, counted from the first of all six, as no `position` in the three would.
     for q in from..from + 3 {
         if is_same(slots.held[q].key, theta) {
             return q;

@@ -6,7 +6,10 @@ use Rattle.checked.proofs.disk_fitted.Goals as goal
 
 pub returns-in-Ok : goal.returns-in-Ok
 unfolding C.disk_fitted C.disk_measured
-returns-in-Ok c = rw (← c.in-Ok.ensures, c.fit_std_errors.ensures)
+returns-in-Ok c =
+    let d = c.args.d in
+    let errors = c.fit_std_errors.ensures d.val_energy d.grad_angles.now d.grad_weights.now in
+    rw (← c.in-Ok.ensures, errors)
 
 pub returns-in-Err : goal.returns-in-Err
 unfolding C.disk_fitted C.disk_measured
