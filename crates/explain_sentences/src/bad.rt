@@ -44,7 +44,7 @@ fn is_return(b: Option<u8>) -> bool
     }
 }
 
-// What is wrong, by its sentence. A function each: as matches in one array they would all be cases of one proof.
+// What is wrong, by its sentence. A function each: as matches in one array, tried, they left over forty goals open.
 fn is_too_long(w: Wrong) -> bool
     ensures { result ≡ S.is_too_long w }
 {
