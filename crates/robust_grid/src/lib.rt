@@ -1,7 +1,7 @@
 // The grid of seeds behind a suspicious start: ring_fit/robust.rs, the rows of robust_grid_fit, and four pairs of them.
 #![tactic(auto)]
 
-ghost use Rattle.std.specs.Prelude.{◌≡◌, ◌^◌, ◌+◌, ◌≤◌, ◌<◌, leb, length, take};
+ghost use Rattle.std.specs.Prelude.{◌≡◌, ◌^◌, ◌+◌, ◌<◌, leb, length, take};
 ghost use Rattle.floats.specs.Rows.{count};
 ghost use Rattle.robust_grid.specs.Grid as G;
 ghost use Rattle.robust_grid.specs.Places as P;
