@@ -45,7 +45,7 @@ fn answer_type(kind: Option<Kind>) -> u8 {
     }
 }
 
-// What the frame above is of, where a frame stands there.
+// What the frame above is of, where a frame stands there. No conversion: of three of the four cases there is no kind.
 fn kind_above(a: Above) -> Option<Kind>
     ensures { result ≡ S.kind_above a }
 {

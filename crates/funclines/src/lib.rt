@@ -69,6 +69,7 @@ pub struct Ring {
     pub counts: [usize; 3],
 }
 
+// Into types that are not this crate's there is no `From`: these are functions.
 fn values_of(f: TwoAxisFit) -> [f32; 6] {
     [
         f.amp,
@@ -93,22 +94,25 @@ fn fit_of(x: [f32; 6]) -> TwoAxisFit {
     }
 }
 
-fn start_of(s: Started) -> Start {
-    let values = values_of(s.fit);
-    Start {
-        some: true,
-        values,
-        updates: s.updates,
+impl From<Started> for Start {
+    fn from(s: Started) -> Start {
+        Start {
+            some: true,
+            values: values_of(s.fit),
+            updates: s.updates,
+        }
     }
 }
 
-fn second_of(s: Option<Started>) -> Start {
-    let nothing = Start {
-        some: false,
-        values: [0.0f32; 6],
-        updates: 0,
-    };
-    s.map_or(nothing, start_of)
+impl From<Option<Started>> for Start {
+    fn from(s: Option<Started>) -> Start {
+        let nothing = Start {
+            some: false,
+            values: [0.0f32; 6],
+            updates: 0,
+        };
+        s.map_or(nothing, Start::from)
+    }
 }
 
 fn candidate_of(x: [f32; 5]) -> SeedCandidate {
@@ -125,11 +129,13 @@ fn top_of(s: Seed5) -> Option<SeedCandidate> {
     s.some.then(|| candidate_of(s.values))
 }
 
-fn seed_of(s: Option<SeedCandidate>) -> Seed5 {
-    let values = s.map(|c| [c.theta1, c.theta2, c.mu, c.amp, c.rms]);
-    Seed5 {
-        some: values.is_some(),
-        values: values.unwrap_or([0.0f32; 5]),
+impl From<Option<SeedCandidate>> for Seed5 {
+    fn from(s: Option<SeedCandidate>) -> Seed5 {
+        let values = s.map(|c| [c.theta1, c.theta2, c.mu, c.amp, c.rms]);
+        Seed5 {
+            some: values.is_some(),
+            values: values.unwrap_or([0.0f32; 5]),
+        }
     }
 }
 
@@ -311,7 +317,7 @@ pub extern "C" fn fl_fit_with_seed(
     let mut sphi = [0.0f32; 16];
     let mut cphi = [0.0f32; 16];
     let mut js = [Sample::NONE; 16];
-    start_of(solver::fit_with_seed(
+    Start::from(solver::fit_with_seed(
         samples,
         ring_phi,
         p,
@@ -345,12 +351,12 @@ pub extern "C" fn fl_score_seed_pair(
     theta1: f32,
     theta2: f32,
 ) -> Seed5 {
-    seed_of(seed::score_seed_pair(centered, centered_sum_sq, mean, h1, h2, theta1, theta2))
+    Seed5::from(seed::score_seed_pair(centered, centered_sum_sq, mean, h1, h2, theta1, theta2))
 }
 
 #[unsafe(no_mangle)]
 pub extern "C" fn fl_insert_seed_candidate(top: Seed5, candidate: &[f32; 5]) -> Seed5 {
-    seed_of(seed::insert_seed_candidate(top_of(top), candidate_of(*candidate)))
+    Seed5::from(seed::insert_seed_candidate(top_of(top), candidate_of(*candidate)))
 }
 
 // ---- 68: a seed model's score
@@ -366,7 +372,7 @@ pub extern "C" fn fl_score_cached_seed_model(
     q_centered: &[f32; 16],
     denom: f32,
 ) -> Seed5 {
-    seed_of(seed_models::score_cached_seed_model(
+    Seed5::from(seed_models::score_cached_seed_model(
         centered,
         centered_sum_sq,
         mean,
@@ -380,24 +386,24 @@ pub extern "C" fn fl_score_cached_seed_model(
 
 // ---- 60 to 67: the whole ring; 60 and 66 are one export, and 67's tables are made and stored by the library's own calls
 
-fn ring_of(r: RingFit) -> Ring {
-    let f = r.fit;
-    let values = values_of(f);
-    Ring {
-        values,
-        mean: f.mean,
-        counts: [r.starts, r.first, r.second],
+impl From<RingFit> for Ring {
+    fn from(r: RingFit) -> Ring {
+        Ring {
+            values: values_of(r.fit),
+            mean: r.fit.mean,
+            counts: [r.starts, r.first, r.second],
+        }
     }
 }
 
 #[unsafe(no_mangle)]
 pub extern "C" fn fl_fit_ring(samples: &[f32; 16], ring_phi: &[f32; 16]) -> Ring {
-    ring_of(robust::fit_ring::<16>(samples, ring_phi))
+    Ring::from(robust::fit_ring::<16>(samples, ring_phi))
 }
 
 #[unsafe(no_mangle)]
 pub extern "C" fn fl_fit_ring24(samples: &[f32; 24], ring_phi: &[f32; 24]) -> Ring {
-    ring_of(robust::fit_ring::<24>(samples, ring_phi))
+    Ring::from(robust::fit_ring::<24>(samples, ring_phi))
 }
 
 #[unsafe(no_mangle)]
@@ -406,7 +412,7 @@ pub extern "C" fn fl_tables_fit(
     samples: &[f32; 16],
     ring_phi: &[f32; 16],
 ) -> Ring {
-    ring_of(robust::fit_ring_with(tables, samples, ring_phi))
+    Ring::from(robust::fit_ring_with(tables, samples, ring_phi))
 }
 
 // The number of the first table whose angles are near, or 3.
@@ -435,7 +441,7 @@ pub extern "C" fn fl_robust_grid_fit(
     mean: f32,
     centered_var: f32,
 ) -> Start {
-    second_of(robust::robust_grid_fit::<16>(samples, ring_phi, mean, centered_var))
+    Start::from(robust::robust_grid_fit::<16>(samples, ring_phi, mean, centered_var))
 }
 
 #[unsafe(no_mangle)]
@@ -445,5 +451,5 @@ pub extern "C" fn fl_refine_seed_candidates(
     centered_var: f32,
     top: Seed5,
 ) -> Start {
-    second_of(robust::refine_seed_candidates::<16>(samples, ring_phi, centered_var, top_of(top)))
+    Start::from(robust::refine_seed_candidates::<16>(samples, ring_phi, centered_var, top_of(top)))
 }

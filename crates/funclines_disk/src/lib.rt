@@ -95,6 +95,7 @@ pub struct Rows {
     pub rows: [f32; search_rows::ROWS],
 }
 
+// Into types that are not this crate's there is no `From`: these are functions, the first with a clause.
 fn candidates_of(s: Set) -> CandidateSet
     ensures { result.n ≡ s.n }
 {
@@ -102,19 +103,23 @@ fn candidates_of(s: Set) -> CandidateSet
     CandidateSet { n: s.n, angles }
 }
 
-fn set_of(s: CandidateSet) -> Set {
-    let angles = s.angles;
-    Set { n: s.n, angles }
+impl From<CandidateSet> for Set {
+    fn from(s: CandidateSet) -> Set {
+        let angles = s.angles;
+        Set { n: s.n, angles }
+    }
 }
 
 fn forced_of(p: Pair) -> Forced {
     if p.some { Some((p.i, p.j)) } else { None }
 }
 
-fn pair_of(f: Forced) -> Pair {
-    match f {
-        Some((i, j)) => Pair { some: true, i, j },
-        None => Pair::default(),
+impl From<Forced> for Pair {
+    fn from(f: Forced) -> Pair {
+        match f {
+            Some((i, j)) => Pair { some: true, i, j },
+            None => Pair::default(),
+        }
     }
 }
 
@@ -196,13 +201,12 @@ fn pairs_of(pool: Pool) -> Pairs {
     }
 }
 
-fn ranked_of(top: Ranked) -> Pairs {
-    let mut pairs = [Ranking::from(top.pairs[0]); candidates::MAX_PAIRS];
-    // By place: the first places of a longer array are written.
-    for k in 0..search_ranking::MAX_TOP_PAIRS {
-        pairs[k] = Ranking::from(top.pairs[k]);
+impl From<Ranked> for Pairs {
+    fn from(top: Ranked) -> Pairs {
+        let mut pairs = [Ranking::from(top.pairs[0]); candidates::MAX_PAIRS];
+        pairs[..search_ranking::MAX_TOP_PAIRS].copy_from_slice(&top.pairs.map(Ranking::from));
+        Pairs { n: top.n, pairs }
     }
-    Pairs { n: top.n, pairs }
 }
 
 // ---- 70 to 77: candidate angles and their pairs
@@ -212,7 +216,7 @@ pub extern "C" fn fl_push_unique(set: Set, angle: f32, min_sep: f32) -> Set
     requires { set.n ≤ max_candidates }
 {
     let s = candidates_of(set);
-    set_of(s.push_unique(angle, min_sep))
+    Set::from(s.push_unique(angle, min_sep))
 }
 
 #[unsafe(no_mangle)]
@@ -224,21 +228,21 @@ pub extern "C" fn fl_histogram_candidates(
 ) -> Set
     requires { length grad_weights.now ≡ length grad_angles.now }
 {
-    set_of(candidates::histogram_candidates(grad_angles, grad_weights, base0, base1))
+    Set::from(candidates::histogram_candidates(grad_angles, grad_weights, base0, base1))
 }
 
 #[unsafe(no_mangle)]
 pub extern "C" fn fl_forced_seed_pair(set: Set, base0: f32, base1: f32) -> Pair
     requires { set.n ≤ max_candidates }
 {
-    pair_of(candidates::forced_seed_pair(candidates_of(set), base0, base1))
+    Pair::from(candidates::forced_seed_pair(candidates_of(set), base0, base1))
 }
 
 #[unsafe(no_mangle)]
 pub extern "C" fn fl_forced_histogram_pair(set: Set, edges: &[f32]) -> Pair
     requires { set.n ≤ length edges.now }
 {
-    pair_of(candidates::forced_histogram_pair(candidates_of(set), edges))
+    Pair::from(candidates::forced_histogram_pair(candidates_of(set), edges))
 }
 
 #[unsafe(no_mangle)]
@@ -391,7 +395,7 @@ pub extern "C" fn fl_best_disk_fit(
 pub extern "C" fn fl_rank(pool: Pairs) -> Pairs
     requires { pool.n ≤ max_pairs }
 {
-    ranked_of(search_ranking::rank(pool_of(pool)))
+    Pairs::from(search_ranking::rank(pool_of(pool)))
 }
 
 #[unsafe(no_mangle)]
