@@ -120,8 +120,7 @@ pub fn alone_told(page: &mut Page, a: Above)
     );
 }
 
-// The number is a part of that line, as in explain_sorts::Refusal.
-// A refusal as its line is written.
+// A refusal as its line is written. The number is a part of that line, as in explain_sorts::Refusal.
 fn refusal_line(kind: Option<Kind>, number: u8, place: u16) -> Word {
     let answer = u64::from(answer_type(kind));
     bits(

@@ -8,7 +8,7 @@ ghost use Rattle.explain_sorts.specs.Sorts as S;
 
 use shapes::{Fault, Kind, RingKind, Shape};
 
-// Numbers as they stand in the line, 0 for a fit: the sentences name them, and the rules of frame lines do.
+// Numbers as they stand in the line: the sentences name them, and the rules of frame lines do.
 // A refusal: of a frame of its kind, or of a malformed line; its number and its place.
 #[derive(Clone, Copy)]
 pub struct Refusal {

@@ -69,7 +69,7 @@ pub struct Ring {
     pub counts: [usize; 3],
 }
 
-// Into types that are not this crate's there is no `From`: these are functions.
+// Functions and no `From`: neither type of the first two is this crate's, and a bare array says not which values it has.
 fn values_of(f: TwoAxisFit) -> [f32; 6] {
     [
         f.amp,

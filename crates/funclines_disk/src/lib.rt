@@ -95,7 +95,7 @@ pub struct Rows {
     pub rows: [f32; search_rows::ROWS],
 }
 
-// Into types that are not this crate's there is no `From`: these are functions, the first with a clause.
+// Functions and no `From`: the callers of the first need its clause, and the others go from C's pair of a flag and a value.
 fn candidates_of(s: Set) -> CandidateSet
     ensures { result.n ≡ s.n }
 {

@@ -10,8 +10,8 @@ ghost use Rattle.lines.specs.Turns as T;
 
 use std::io::{ErrorKind, Read, Write};
 
-// Asked as lengths of slices: as arrays they would be made slices at each call all the same.
-// The sizes of a program's buffers, for its input and its text.
+// The sizes of a program's buffers, for its input and its text. They are asked as lengths of slices: as arrays they would be
+// made slices at each call all the same.
 pub const INPUT: usize = 81920;
 
 pub const OUTPUT: usize = 65536;

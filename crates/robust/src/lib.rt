@@ -270,10 +270,8 @@ pub struct First {
     pub centered_var: f32,
 }
 
-// Not by a call of it: its buffers would be cleared before the test, and its clause says nothing of the sines.
-// What solver::fit_with_seed does. A start that is not refused leaves the sines and cosines for the grid, and no refused
-// start is suspicious. Its working buffers are not on a caller's stack either.
-#[inline(never)]
+// What solver::fit_with_seed does, and not by a call of it, whose clause says nothing of the sines. A start that is not
+// refused leaves the sines and cosines for the grid, and no refused start is suspicious.
 fn start<const N: usize>(
     samples: &[f32],
     ring_phi: &[f32],
