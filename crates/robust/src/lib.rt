@@ -271,7 +271,9 @@ pub struct First {
 }
 
 // What solver::fit_with_seed does, and not by a call of it, whose clause says nothing of the sines. A start that is not
-// refused leaves the sines and cosines for the grid, and no refused start is suspicious.
+// refused leaves the sines and cosines for the grid, and no refused start is suspicious. Its working buffers are not on a
+// caller's stack either.
+#[inline(never)]
 fn start<const N: usize>(
     samples: &[f32],
     ring_phi: &[f32],
