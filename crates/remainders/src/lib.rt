@@ -2,10 +2,10 @@
 // PI is 13176795 * 2 ^ -22 and TAU is twice that, so a remainder is one of whole numbers by 13176795.
 #![tactic(auto)]
 
-ghost use Rattle.std.specs.Prelude.{◌≡◌, false, ◌+◌, ◌*◌, ◌%◌, ◌^◌, ◌<◌, ◌≤◌};
+ghost use Rattle.std.specs.Prelude.{◌≡◌, false, cond, ◌+◌, ◌*◌, ◌%◌, ◌^◌, ◌<◌, ◌≤◌};
 ghost use Rattle.std.specs.Float.{binary32};
 ghost use Rattle.std.specs.Float.Ieee.{lt, rem};
-ghost use Rattle.floats.specs.Ops.{nought, pi, tau};
+ghost use Rattle.floats.specs.Ops.{◌⊕◌, nought, pi, tau};
 ghost use Rattle.floats.specs.Library.{rem_euclid};
 ghost use Rattle.floats.specs.UnitLaws.{Val};
 ghost use Rattle.remainders.specs.RemainderLaws.{within, modulus};
@@ -79,11 +79,11 @@ fn rem_by<const Q: u32>(x: f32) -> f32
     rem_far(x, Q)
 }
 
-fn rem_euclid_by<const Q: u32>(x: f32) -> f32
+// A remainder r by PI or TAU, and the divisor added where r is below zero.
+fn raised<const Q: u32>(r: f32) -> f32
     requires { Q ≤ 1 }
-    ensures { result ≡ rem_euclid binary32 x (modulus Q) }
+    ensures { result ≡ cond (lt r nought) (r ⊕ modulus Q) r }
 {
-    let r = rem_by::<Q>(x);
     if r < 0.0 {
         return r + divisor(Q);
     }
@@ -106,11 +106,11 @@ pub fn rem_tau(x: f32) -> f32
 pub fn rem_euclid_pi(x: f32) -> f32
     ensures { result ≡ rem_euclid binary32 x pi }
 {
-    rem_euclid_by::<0>(x)
+    raised::<0>(rem_pi(x))
 }
 
 pub fn rem_euclid_tau(x: f32) -> f32
     ensures { result ≡ rem_euclid binary32 x tau }
 {
-    rem_euclid_by::<1>(x)
+    raised::<1>(rem_tau(x))
 }
