@@ -19,10 +19,10 @@ abbrev pub output : ℕ
 output = 65536
 
 abbrev pub StateKept : State → Type 0
-StateKept s = (s.feed.from + s.feed.left ≤ input) × (s.put ≤ output)
+StateKept s = (s.feed.from ≤ s.feed.total) × (s.feed.total ≤ input) × (s.put ≤ output)
 
 abbrev pub Lies : State → ℕ → ℕ → Type 0
-Lies s e from = (s.feed.from ≤ e) × (e ≤ from) × (from ≤ s.feed.from + s.feed.left)
+Lies s e from = (s.feed.from ≤ e) × (e ≤ from) × (from ≤ s.feed.total)
 
 abbrev pub opening : State
 opening = record { feed = begun; put = 0; more = true }

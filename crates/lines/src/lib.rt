@@ -4,7 +4,7 @@
 // a turn finds a line, asks `room` for its answer's place and calls `answered`, or reads on, or ends.
 #![tactic(auto)]
 
-ghost use Rattle.std.specs.Prelude.{◌≡◌, ◌+◌, ◌^◌, ◌≤◌, ◌<◌, length, IfSome};
+ghost use Rattle.std.specs.Prelude.{◌≡◌, ◌+◌, ◌≤◌, ◌<◌, length, IfSome};
 ghost use Rattle.lines.specs.Lines.{Filled, Front, begun, end_of, found_of, is_gone, kept_of, passed, FoundWithin};
 ghost use Rattle.lines.specs.Turns as T;
 
@@ -16,12 +16,12 @@ pub const INPUT: usize = 81920;
 
 pub const OUTPUT: usize = 65536;
 
-// What is left of the buffer: `left` bytes from `from` on; whether the start of the line there is
+// What is left of the buffer: the bytes from `from` up to `total`; whether the start of the line there is
 // gone; whether the input has ended. At first nothing is read.
 #[derive(Clone, Copy, Default)]
 pub struct Feed {
     pub from: usize,
-    pub left: usize,
+    pub total: usize,
     pub skip: bool,
     pub ended: bool,
 }
@@ -43,39 +43,35 @@ impl Feed {
 
     // Where the next line ends, counted from its start.
     pub fn line_end(self, buf: &[u8]) -> Option<usize>
-        requires { self.from + self.left ≤ length buf.now }
+        requires { (self.from ≤ self.total) × (self.total ≤ length buf.now) }
         ensures same { result ≡ end_of buf.now self }
-        ensures within { IfSome result (λ k. k < self.left) }
+        ensures within { IfSome result (λ k. self.from + k < self.total) }
     {
-        buf[self.from..self.from + self.left]
+        buf[self.from..self.total]
             .iter()
             .position(|b| *b == b'\n')
     }
 
     // The next line of the buffer.
     pub fn find(self, buf: &[u8]) -> Found
-        requires { self.from + self.left ≤ length buf.now }
+        requires { (self.from ≤ self.total) × (self.total ≤ length buf.now) }
         ensures { (result ≡ found_of buf.now self) × FoundWithin self result }
     {
         match self.line_end(buf) {
             Some(k) => Found::Line(self.from + k, self.from + k + 1),
             None if !self.ended => Found::More,
-            None if (self.left > 0) | self.skip => {
-                let end = self.from + self.left;
-                Found::Line(end, end)
-            }
+            None if (self.from < self.total) | self.skip => Found::Line(self.total, self.total),
             None => Found::Done,
         }
     }
 
     // The line before `from` has been answered.
     pub fn past(self, from: usize) -> Feed
-        requires { (self.from + self.left < 2 ^ 64) × (from ≤ self.from + self.left) }
+        requires { from ≤ self.total }
         ensures { result ≡ passed self from }
     {
         Feed {
             from,
-            left: self.from + self.left - from,
             skip: false,
             ..self
         }
@@ -83,34 +79,35 @@ impl Feed {
 
     // Whether the unfinished line loses its start: it is over the limit, or its start is gone already.
     fn gone(self, limit: usize) -> bool
+        requires { self.from ≤ self.total }
         ensures { result ≡ is_gone self limit }
     {
-        self.skip | (self.left > limit)
+        self.skip | (self.total - self.from > limit)
     }
 
     // How much of the unfinished line is kept, at the front of the buffer: all of it, or nothing.
     fn kept(self, buf: &mut [u8], limit: usize) -> usize
-        requires { self.from + self.left ≤ length buf.old }
+        requires { (self.from ≤ self.total) × (self.total ≤ length buf.old) }
         ensures { (result ≤ limit) × (result ≤ length buf.old) × (result ≡ kept_of self limit) × Front result self.from buf.old buf.new }
     {
         if self.gone(limit) {
             return 0;
         }
-        buf.copy_within(self.from..self.from + self.left, 0);
-        self.left
+        buf.copy_within(self.from..self.total, 0);
+        self.total - self.from
     }
 
     // The next block of the input, behind what is kept. A read that fails is taken for the input's end.
     pub fn fill<R: Read>(self, reader: &mut R, buf: &mut [u8], limit: usize) -> Feed
-        requires { (self.from + self.left ≤ length buf.old) × (limit < length buf.old) }
-        ensures { (result.from + result.left ≤ length buf.old) × Filled self limit buf.old buf.new result }
+        requires { (self.from ≤ self.total) × (self.total ≤ length buf.old) × (limit < length buf.old) }
+        ensures { (result.from ≤ result.total) × (result.total ≤ length buf.old) × Filled self limit buf.old buf.new result }
     {
         let skip = self.gone(limit);
         let have = self.kept(buf, limit);
         let n = reader.read(&mut buf[have..]).unwrap_or(0);
         Feed {
             from: 0,
-            left: have + n,
+            total: have + n,
             skip,
             ended: n == 0,
         }
@@ -166,7 +163,7 @@ impl State {
 
     // A line has been answered: the text stands up to `put`, and the next line starts at `from`.
     pub fn answered(self, from: usize, put: usize) -> State
-        requires { T.StateKept self × (from ≤ self.feed.from + self.feed.left) × (put ≤ T.output) }
+        requires { T.StateKept self × (from ≤ self.feed.total) × (put ≤ T.output) }
         ensures { T.StateKept result × (result ≡ T.answered_of self from put) }
     {
         State {
