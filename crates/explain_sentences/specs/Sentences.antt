@@ -5,6 +5,7 @@ use Rattle.std.specs.Prelude.{Option, Some, None, is_none, position, slice_index
 use Prim.Native.String.{String}
 use Rattle.hexadecimal.specs.Hex.{is_hex}
 use Rattle.shapes.specs.Shapes.{samples_of}
+use Rattle.shapes.specs.Shapes as Shapes
 use Rattle.shapes.specs.declared.RingKind.{RingKind}
 use Rattle.shapes.specs.declared.RingKind.TheVariants.{Sixteen, TwentyFour}
 use Rattle.shapes.specs.declared.Kind.{Kind}
@@ -47,6 +48,27 @@ abbrev pub kind_above : Above → Option Kind
 kind_above (Aboves.Asked f) = Some (kind_asked f.asks)
 kind_above _ = None
 
+-- an answer's type: a disk's is 82, that of a malformed line ff
+abbrev pub answer_type : Option Kind → ℕ
+answer_type (Some (Ring kind)) = Shapes.answer_type kind
+answer_type (Some Disk) = 0x82
+answer_type None = 0xff
+
+-- the number of the line above, and the count of pixels there; 0 where there is none
+abbrev pub line_above : Above → ℕ
+line_above Aboves.Nothing = 0
+line_above (Aboves.Asked f) = f.line
+line_above (Aboves.Malformed line) = line
+line_above (Aboves.Flawed line) = line
+
+abbrev pub pixels_asked : Asks → ℕ
+pixels_asked (Askings.Ring kind) = 0
+pixels_asked (Askings.Disk n) = n
+
+abbrev pub pixels_above : Above → ℕ
+pixels_above (Aboves.Asked f) = pixels_asked f.asks
+pixels_above _ = 0
+
 -- ---- a frame that no answer follows
 unfoldable pub alone_rows : Above → List (Bool × String)
 alone_rows a =
@@ -68,6 +90,17 @@ is_refused _ = false
 abbrev pub is_clean : Above → Bool
 is_clean (Aboves.Asked f) = is_fit_due f.due
 is_clean _ = false
+
+-- that refusal, by its kind, its number and its place
+abbrev pub due_refusal : Asks → Due → Option Refusal
+due_refusal asks Dues.Fit = None
+due_refusal asks Dues.BadCount = Some (record { kind = Some (kind_asked asks); number = 2; place = 0 })
+due_refusal asks (Dues.Wild k bits) = Some (record { kind = Some (kind_asked asks); number = 3; place = k })
+
+abbrev pub due : Above → Option Refusal
+due (Aboves.Asked f) = due_refusal f.asks f.due
+due (Aboves.Malformed line) = Some (record { kind = None; number = 5; place = 0 })
+due _ = None
 
 unfoldable pub mismatch_rows : Above → List (Bool × String)
 mismatch_rows a =
@@ -296,6 +329,23 @@ is_no_number _ = false
 abbrev pub is_strange_number : Wrong → Bool
 is_strange_number (StrangeNumber kind number) = true
 is_strange_number _ = false
+
+-- the type, the count of pixels and the number of refusal that a sentence speaks of; 0 where it speaks of none
+abbrev pub type_of : Wrong → ℕ
+type_of (UnknownType kind) = kind
+type_of (AnswerLength kind) = answer_type kind
+type_of (StrangeNumber kind number) = answer_type kind
+type_of _ = 0
+
+abbrev pub pixels_of : Wrong → ℕ
+pixels_of (Malformed (DiskLength n)) = n
+pixels_of _ = 0
+
+abbrev pub number_of : Wrong → ℕ
+number_of (FitNumber number) = number
+number_of (NoNumber number) = number
+number_of (StrangeNumber kind number) = number
+number_of _ = 0
 
 unfoldable pub bad_rows : Wrong → ℕ → Option ℕ → List (Bool × String)
 bad_rows w n b =

@@ -15,11 +15,12 @@ fn first_foreign(line: &[u8]) -> Option<usize>
     line.iter().position(|b| !hexadecimal::is_hex(*b))
 }
 
-// That character.
-fn foreign_byte(line: &[u8]) -> Option<u8>
+// That character, at its place: a long line is looked through once.
+fn foreign_byte(line: &[u8], place: Option<usize>) -> Option<u8>
+    requires { place ≡ S.foreign_place line.now }
     ensures { result ≡ S.foreign_byte line.now }
 {
-    match first_foreign(line) {
+    match place {
         Some(k) => Some(line[k]),
         None => None,
     }
@@ -169,7 +170,9 @@ fn flags_of(w: Wrong, n: usize, b: Option<u8>) -> [bool; 20]
 
 // No Options: a sentence without that blank does not show the 0, so each caller would unwrap to one.
 // The type that a sentence speaks of, the count of pixels, and the number of refusal: 0 where it speaks of none.
-fn type_of(w: Wrong) -> u32 {
+fn type_of(w: Wrong) -> u32
+    ensures { result ≡ S.type_of w }
+{
     match w {
         Wrong::UnknownType(kind) => kind,
         Wrong::AnswerLength(kind) | Wrong::StrangeNumber(kind, _) => {
@@ -179,14 +182,18 @@ fn type_of(w: Wrong) -> u32 {
     }
 }
 
-fn pixels_of(w: Wrong) -> u32 {
+fn pixels_of(w: Wrong) -> u32
+    ensures { result ≡ S.pixels_of w }
+{
     match w {
         Wrong::Malformed(Fault::DiskLength(n)) => n,
         _ => 0,
     }
 }
 
-fn number_of(w: Wrong) -> u32 {
+fn number_of(w: Wrong) -> u32
+    ensures { result ≡ S.number_of w }
+{
     match w {
         Wrong::FitNumber(n) | Wrong::NoNumber(n) | Wrong::StrangeNumber(_, n) => n,
         _ => 0,
@@ -194,10 +201,11 @@ fn number_of(w: Wrong) -> u32 {
 }
 
 // The place of the first character that is no digit, and its byte. People count characters from 1.
-fn foreign_words(line: &[u8]) -> [Word; 2]
+fn foreign_words(line: &[u8], place: Option<usize>) -> [Word; 2]
+    requires { place ≡ S.foreign_place line.now }
     ensures { 2 ≡ length result }
 {
-    match first_foreign(line) {
+    match place {
         Some(k) => [
             number(std::num::wrapping_add_u64(k as u64, 1)),
             bits(u64::from(line[k]), 2),
@@ -206,10 +214,11 @@ fn foreign_words(line: &[u8]) -> [Word; 2]
     }
 }
 
-fn words_of(line_number: u64, line: &[u8], w: Wrong) -> [Word; 11]
+fn words_of(line_number: u64, line: &[u8], place: Option<usize>, w: Wrong) -> [Word; 11]
+    requires { place ≡ S.foreign_place line.now }
     ensures { 11 ≡ length result }
 {
-    let [place, foreign] = foreign_words(line);
+    let [at, foreign] = foreign_words(line, place);
     let characters = line.len() as u64;
     let pixels = u64::from(pixels_of(w));
     let odd = if characters % 2 == 1 {
@@ -219,7 +228,7 @@ fn words_of(line_number: u64, line: &[u8], w: Wrong) -> [Word; 11]
     };
     [
         number(line_number),
-        place,
+        at,
         foreign,
         bits(u64::from(type_of(w)), 2),
         number(characters),
@@ -237,8 +246,9 @@ pub fn told(page: &mut Page, number: u64, line: &[u8], w: Wrong)
     requires { page.old.at + 24936 ≤ length page.old.text.now }
     ensures { (page.new.at ≤ page.old.at + 24936) × Told (S.line_rows w line.now) page.old page.new }
 {
-    let flags = flags_of(w, line.len(), foreign_byte(line));
-    let words = words_of(number, line, w);
+    let place = first_foreign(line);
+    let flags = flags_of(w, line.len(), foreign_byte(line, place));
+    let words = words_of(number, line, place, w);
     page.tell(
         b"line {a}: bad line: |\
 over 12830 characters, the most that a frame has

@@ -2,7 +2,7 @@
 // equals its definition in specs/Sentences.antt. The words in their blanks are proved safe, no more.
 #![tactic(auto)]
 
-use explain_sorts::{Above, Asks, Due};
+use explain_sorts::{Above, Asks, Due, Refusal};
 use explain_words::Page;
 use explain_words::numbers::{BLANK, Word, bits, number, plural};
 use shapes::{Kind, RingKind};
@@ -37,7 +37,9 @@ fn of_malformed(kind: Option<Kind>) -> bool
 }
 
 // The type of an answer, ff of a malformed line.
-fn answer_type(kind: Option<Kind>) -> u8 {
+fn answer_type(kind: Option<Kind>) -> u8
+    ensures { result ≡ S.answer_type kind }
+{
     match kind {
         Some(Kind::Ring(k)) => k.answer_type(),
         Some(Kind::Disk) => 130,
@@ -78,16 +80,21 @@ fn is_clean(a: Above) -> bool
     }
 }
 
-// The words of what stands above: the number of its line, its count of pixels.
-fn line_above(a: Above) -> Word {
+// The number of the line above, and the count of pixels there: no Options, since a sentence without that blank does not
+// show the 0.
+fn line_above(a: Above) -> u64
+    ensures { result ≡ S.line_above a }
+{
     match a {
-        Above::Nothing => BLANK,
-        Above::Asked(f) => number(f.line),
-        Above::Malformed(line) | Above::Flawed(line) => number(line),
+        Above::Nothing => 0,
+        Above::Asked(f) => f.line,
+        Above::Malformed(line) | Above::Flawed(line) => line,
     }
 }
 
-fn pixels_above(a: Above) -> u32 {
+fn pixels_above(a: Above) -> u32
+    ensures { result ≡ S.pixels_above a }
+{
     match a {
         Above::Asked(f) => match f.asks {
             Asks::Ring(_) => 0,
@@ -109,7 +116,7 @@ pub fn alone_told(page: &mut Page, a: Above)
         of_disk(kind),
     ];
     let n = u64::from(pixels_above(a));
-    let words = [line_above(a), number(n), plural(n)];
+    let words = [number(line_above(a)), number(n), plural(n)];
     page.tell(
         b"line {a}: ring frame without an answer: run it through fitlines
 |line {a}: 24-point ring frame without an answer: run it through fitlines
@@ -120,25 +127,44 @@ pub fn alone_told(page: &mut Page, a: Above)
     );
 }
 
-// A refusal as its line is written. The number is a part of that line, as in explain_sorts::Refusal.
-fn refusal_line(kind: Option<Kind>, number: u8, place: u16) -> Word {
-    let answer = u64::from(answer_type(kind));
-    bits(
-        answer * 16777216 + u64::from(number) * 65536 + u64::from(place),
-        8,
-    )
-}
-
 // The refusal that what stands above is due.
-fn due(a: Above) -> Word {
+fn due(a: Above) -> Option<Refusal>
+    ensures { result ≡ S.due a }
+{
     match a {
         Above::Asked(f) => match f.due {
-            Due::Fit => BLANK,
-            Due::BadCount => refusal_line(kind_above(a), 2, 0),
-            Due::Wild(k, _) => refusal_line(kind_above(a), 3, k),
+            Due::Fit => None,
+            Due::BadCount => Some(Refusal {
+                kind: kind_above(a),
+                number: 2,
+                place: 0,
+            }),
+            Due::Wild(k, _) => Some(Refusal {
+                kind: kind_above(a),
+                number: 3,
+                place: k,
+            }),
         },
-        Above::Malformed(_) => refusal_line(None, 5, 0),
-        Above::Nothing | Above::Flawed(_) => BLANK,
+        Above::Malformed(_) => Some(Refusal {
+            kind: None,
+            number: 5,
+            place: 0,
+        }),
+        Above::Nothing | Above::Flawed(_) => None,
+    }
+}
+
+// A refusal as its line is written.
+fn refusal_line(r: Option<Refusal>) -> Word {
+    match r {
+        Some(r) => {
+            let answer = u64::from(answer_type(r.kind));
+            bits(
+                answer * 16777216 + u64::from(r.number) * 65536 + u64::from(r.place),
+                8,
+            )
+        }
+        None => BLANK,
     }
 }
 
@@ -155,7 +181,7 @@ pub fn mismatch_told(page: &mut Page, a: Above)
         clean & of_ring(kind, RingKind::TwentyFour),
         clean & of_disk(kind),
     ];
-    let words = [line_above(a), due(a)];
+    let words = [number(line_above(a)), refusal_line(due(a))];
     page.tell(
         b"  warning: this does not answer line {a}: its frame is refused, {b}
 |  warning: this does not answer line {a}: a ring frame of finite values has a ring fit

@@ -233,7 +233,7 @@ fn words_of(line: u64, r: Refusal, a: Above) -> [Word; 11]
         value,
         value_bits,
         plural(place),
-        super::line_above(a),
+        number(super::line_above(a)),
     ]
 }
 
