@@ -3,7 +3,7 @@
 
 ghost use Rattle.std.specs.Prelude.{◌≡◌, ◌+◌, ◌*◌, ◌≤◌, length};
 ghost use Rattle.data.specs.Data.{max_tanh_pixels};
-ghost use Rattle.hexadecimal.specs.Hex.{put, Written};
+ghost use Rattle.hexadecimal.specs.Hex.{put, values_of, Written};
 ghost use Rattle.shapes.specs.Shapes.{ring_length, samples_of};
 ghost use Rattle.checked.specs.Checked.{checked_disk, fit_counts};
 ghost use Rattle.checked.specs.Parts.{RingSize};
@@ -60,25 +60,32 @@ impl LineRefusal {
     }
 }
 
-// The N samples and the N angles of a ring, behind the type.
-fn ring_line<const N: usize>(line: &[u8]) -> Result<RingFit, Refusal>
-    requires { RingSize N × (length line.now ≡ ring_length N) }
-    ensures { result ≡ F.ring_of_line line.now N }
+// N values of a ring's line, from a place on.
+fn ring_values<const N: usize>(line: &[u8], at: usize) -> [f32; N]
+    requires { RingSize N × (at + 8 * N ≤ length line.now) }
+    ensures { result ≡ values_of line.now at N }
 {
-    let mut samples = [0.0f32; N];
-    let mut angles = [0.0f32; N];
-    hexadecimal::values(line, 2, &mut samples);
-    hexadecimal::values(line, 2 + 8 * N, &mut angles);
-    checked::fit_ring_of::<N>(&samples, &angles)
+    let mut xs = [0.0f32; N];
+    hexadecimal::values(line, at, &mut xs);
+    xs
 }
 
+// The samples and the angles stand behind the type. Each ring has its own entry, which asks nothing.
 fn typed_ring(line: &[u8], kind: RingKind) -> Result<FrameFit, LineRefusal>
     requires { length line.now ≡ ring_length (samples_of kind) }
     ensures { result ≡ F.ring_answer line.now kind }
 {
     let fit = match kind {
-        RingKind::Sixteen => ring_line::<16>(line),
-        RingKind::TwentyFour => ring_line::<24>(line),
+        RingKind::Sixteen => {
+            let samples = ring_values::<16>(line, 2);
+            let angles = ring_values::<16>(line, 130);
+            checked::fit_ring(&samples, &angles)
+        }
+        RingKind::TwentyFour => {
+            let samples = ring_values::<24>(line, 2);
+            let angles = ring_values::<24>(line, 194);
+            checked::fit_ring24(&samples, &angles)
+        }
     };
     fit.map(|r| FrameFit::Ring(kind, r))
         .map_err(|e| LineRefusal::Ring(kind, e))
@@ -114,7 +121,9 @@ fn runs_line(line: &[u8], n: usize, vs: &mut [f32]) -> Result<Measured, Refusal>
     runs_fit(energy, base0, base1, vs, n)
 }
 
-// The same, with the row on this call's stack.
+// The same, with the row on this call's stack. Not put into its caller: else each line, a malformed one too, would touch every
+// page of the search's room.
+#[inline(never)]
 fn disk_line(line: &[u8], n: usize) -> Result<FrameFit, LineRefusal>
     requires { (n ≤ max_tanh_pixels) × (length line.now ≡ 30 + 40 * n) }
     ensures { result ≡ F.disk_answer line.now n }

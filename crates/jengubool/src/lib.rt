@@ -5,8 +5,8 @@
 ghost use Rattle.std.specs.Prelude.{◌≡◌, ◌≤◌, [], map, length, take};
 ghost use Rattle.std.specs.Float.{binary32};
 ghost use Rattle.data.specs.Data.{lent_disk};
-ghost use Rattle.checked.specs.Checked.{record_values, fit_counts, measured_values, measured_counts};
-ghost use Rattle.checked.specs.Parts.{RingSize};
+ghost use Rattle.checked.specs.Checked.{checked_ring, record_values, fit_counts, measured_values, measured_counts};
+ghost use Rattle.shapes.specs.Shapes.{samples_of};
 ghost use Rattle.checked_tables.specs.Tables.{refusal_code, table_refusal, words_with};
 ghost use Rattle.seed_models.specs.Words as W;
 ghost use Rattle.frames.specs.Frames as F;
@@ -16,6 +16,7 @@ ghost use Rattle.elementary.specs.Elementary as E;
 
 use checked::{Measured, Refusal};
 use robust_choice::RingFit;
+use shapes::RingKind;
 use solver_record::TwoAxisFit;
 
 #[unsafe(no_mangle)]
@@ -140,19 +141,30 @@ fn put_ring<const V: usize>(r: RingFit, fit: &mut [f32], counts: &mut [u32])
     put(&ring_counts(r), counts);
 }
 
-// The value call of a ring of N samples, of whose fit V values are written: any four slices.
-fn ring_call<const N: usize, const V: usize>(
+// A ring's fit, by the entry of its kind.
+fn ring_fit(kind: RingKind, samples: &[f32], angles: &[f32]) -> Result<RingFit, Refusal>
+    ensures { result ≡ checked_ring [] (samples_of kind) samples.now angles.now }
+{
+    match kind {
+        RingKind::Sixteen => checked::fit_ring(samples, angles),
+        RingKind::TwentyFour => checked::fit_ring24(samples, angles),
+    }
+}
+
+// The value call of a ring, of whose fit V values are written: any four slices.
+fn ring_call<const V: usize>(
+    kind: RingKind,
     samples: &[f32],
     angles: &[f32],
     fit: &mut [f32],
     counts: &mut [u32],
 ) -> Result<(), Refusal>
-    requires { RingSize N × (V ≤ 7) }
+    requires { V ≤ 7 }
     ensures { ◌≡◌ {A = J.Stored} (record { code = refusal_code result; fit = fit.new; counts = counts.new })
-        (J.ring_call (J.first_values V) [] N samples.now angles.now fit.old counts.old) }
+        (J.ring_call (J.first_values V) [] (samples_of kind) samples.now angles.now fit.old counts.old) }
 {
     check_room(fit, V, counts, 4)?;
-    let r = checked::fit_ring_of::<N>(samples, angles)?;
+    let r = ring_fit(kind, samples, angles)?;
     put_ring::<V>(r, fit, counts);
     Ok(())
 }
@@ -184,7 +196,7 @@ pub extern "C" fn jb_fit_ring(
     ensures { ◌≡◌ {A = J.Stored} (record { code = result; fit = fit.new; counts = counts.new })
         (J.ring_call J.the_six [] 16 samples.now angles.now fit.old counts.old) }
 {
-    code(ring_call::<16, 6>(samples, angles, fit, counts))
+    code(ring_call::<6>(RingKind::Sixteen, samples, angles, fit, counts))
 }
 
 #[unsafe(no_mangle)]
@@ -197,7 +209,7 @@ pub extern "C" fn jb_fit_ring24(
     ensures { ◌≡◌ {A = J.Stored} (record { code = result; fit = fit.new; counts = counts.new })
         (J.ring_call J.the_six [] 24 samples.now angles.now fit.old counts.old) }
 {
-    code(ring_call::<24, 6>(samples, angles, fit, counts))
+    code(ring_call::<6>(RingKind::TwentyFour, samples, angles, fit, counts))
 }
 
 // The ring's answer with its mean, of 16 samples or of 24: any four slices.
@@ -213,9 +225,9 @@ pub extern "C" fn jb_ring_record(
         fit.old counts.old) }
 {
     if samples.len() == 24 {
-        return code(ring_call::<24, 7>(samples, angles, fit, counts));
+        return code(ring_call::<7>(RingKind::TwentyFour, samples, angles, fit, counts));
     }
-    code(ring_call::<16, 7>(samples, angles, fit, counts))
+    code(ring_call::<7>(RingKind::Sixteen, samples, angles, fit, counts))
 }
 
 // Words that hold no table, whatever they held.
