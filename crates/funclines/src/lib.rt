@@ -441,7 +441,7 @@ pub extern "C" fn fl_robust_grid_fit(
     mean: f32,
     centered_var: f32,
 ) -> Start {
-    Start::from(robust::robust_grid_fit::<16>(samples, ring_phi, mean, centered_var))
+    Start::from(robust::robust_grid_fit(samples, ring_phi, mean, centered_var))
 }
 
 #[unsafe(no_mangle)]
@@ -451,5 +451,5 @@ pub extern "C" fn fl_refine_seed_candidates(
     centered_var: f32,
     top: Seed5,
 ) -> Start {
-    Start::from(robust::refine_seed_candidates::<16>(samples, ring_phi, centered_var, top_of(top)))
+    Start::from(robust::refine_seed_candidates(samples, ring_phi, centered_var, top_of(top)))
 }

@@ -2,11 +2,11 @@
 // robust_grid, and the walk over its blocks is seed_models'.
 #![tactic(auto)]
 
-ghost use Rattle.std.specs.Prelude.{◌≡◌, true, List, [], ◌<◌, length};
+ghost use Rattle.std.specs.Prelude.{◌≡◌, true, List, [], ◌≤◌, ◌<◌, length, take};
 ghost use Rattle.solver_record.specs.Record.{without_mean};
 ghost use Rattle.solver.specs.Record.{record_with_seed};
 ghost use Rattle.solver.specs.Solver.{sines, cosines};
-ghost use Rattle.solver.specs.Buffers.{Prepared};
+ghost use Rattle.solver.specs.Buffers.{Prepared, max_samples};
 ghost use Rattle.robust_grid.specs.Grid.{best_seed};
 ghost use Rattle.seed_models.specs.Models.{Table};
 ghost use Rattle.robust.specs.Robust as R;
@@ -24,6 +24,9 @@ use solver_record::{Params, Started, TwoAxisFit};
 const AMP_FLOOR: f32 = 1.0;
 
 const ROBUST_REL_RMS_TRIGGER: f32 = 0.12;
+
+// The most samples that a ring has.
+const MAX_SAMPLES: usize = 24;
 
 // 65 and 115 degrees, by `to_radians`.
 const ROBUST_SEP_TRIGGER_MIN_RAD: f32 = 1.13446403;
@@ -112,18 +115,19 @@ struct Ready<'a> {
 }
 
 // A start from a seed: solver.rs, fit_with_seed behind its sin_cos. Its working buffer is not on a caller's stack, where the
-// grid's rows come next.
+// grid's rows come next. N is how many samples that stack has room for, here and below.
 #[inline(never)]
 fn started<const N: usize>(ready: &Ready, seed: Params, centered_var: f32) -> Started
-    requires { length ready.now.ring.samples.now ≡ N }
+    requires { (length ready.now.ring.samples.now ≤ N) × (N ≤ max_samples) }
     ensures { result ≡ record_with_seed (length ready.now.ring.samples.now) ready.now.ring.samples.now
         ready.now.ring_phi.now seed centered_var }
 {
     if solver_record::is_degenerate(seed.amp, centered_var) {
         return solver_record::refused(centered_var, seed.mu);
     }
+    let n = ready.ring.samples.len();
     let mut js = [Sample::NONE; N];
-    solver::fit_prepared(&ready.ring, seed, &mut js)
+    solver::fit_prepared(&ready.ring, seed, &mut js[..n])
 }
 
 // The one seed's fit, where there is a seed.
@@ -132,7 +136,7 @@ fn refined<const N: usize>(
     centered_var: f32,
     top: Option<SeedCandidate>,
 ) -> Option<Started>
-    requires { length ready.now.ring.samples.now ≡ N }
+    requires { (length ready.now.ring.samples.now ≤ N) × (N ≤ max_samples) }
     ensures { result ≡ second_of (R.refine_seed_candidates (length ready.now.ring.samples.now)
         ready.now.ring.samples.now ready.now.ring_phi.now centered_var top) }
 {
@@ -171,23 +175,33 @@ fn grid_seed<const N: usize>(
     centered_ss: f32,
     mean: f32,
 ) -> Option<SeedCandidate>
-    requires { length ring.now.samples.now ≡ N }
-    ensures { result ≡ best_seed N ring.now.sphi.now ring.now.cphi.now centered.now centered_ss mean }
+    requires { (length ring.now.samples.now ≤ N) × (N ≤ max_samples) }
+    ensures { result ≡ best_seed (length ring.now.samples.now) ring.now.sphi.now ring.now.cphi.now
+        (take (length ring.now.samples.now) centered.now) centered_ss mean }
 {
     let mut rows = [[0.0f32; robust_lanes::ROW_PLACES]; N];
-    robust_grid::fill_grid(ring.sphi, ring.cphi, &mut rows);
-    seed_models::best_seed(&Grid { rows: &rows }, centered, centered_ss, mean)
+    let n = ring.samples.len();
+    // Full arrays are taken whole, so that the number of samples is a constant to the compiler: it was a tenth of a fit with
+    // two starts (measured on an older kit).
+    if n == N {
+        robust_grid::fill_grid(ring.sphi, ring.cphi, &mut rows);
+        return seed_models::best_seed(&Grid { rows: &rows }, centered, centered_ss, mean);
+    }
+    let filled = &mut rows[..n];
+    robust_grid::fill_grid(ring.sphi, ring.cphi, filled);
+    seed_models::best_seed(&Grid { rows: filled }, &centered[..n], centered_ss, mean)
 }
 
 // The start behind the grid.
 fn grid_fit<const N: usize>(ready: &Ready, mean: f32, centered_var: f32) -> Option<Started>
-    requires { length ready.now.ring.samples.now ≡ N }
+    requires { (length ready.now.ring.samples.now ≤ N) × (N ≤ max_samples) }
     ensures { result ≡ second_of (R.robust_grid_fit [] (length ready.now.ring.samples.now)
         ready.now.ring.samples.now ready.now.ring_phi.now mean centered_var) }
 {
     let ring = &ready.ring;
+    let n = ring.samples.len();
     let mut centered = [0.0f32; N];
-    let centered_ss = centered_sum(ring.samples, mean, centered_var, &mut centered)?;
+    let centered_ss = centered_sum(ring.samples, mean, centered_var, &mut centered[..n])?;
     let top = grid_seed(ring, &centered, centered_ss, mean);
     refined::<N>(ready, centered_var, top)
 }
@@ -206,48 +220,59 @@ fn cached_fit(table: Stored, ready: &Ready, mean: f32, centered_var: f32) -> Opt
 }
 
 // The arrays stand here and in robust_grid_fit: a function of both would have to hand out slices of its own stack.
-pub fn refine_seed_candidates<'a, const N: usize>(
+pub fn refine_seed_candidates<'a>(
     samples: &'a [f32],
     ring_phi: &'a [f32],
     centered_var: f32,
     top: Option<SeedCandidate>,
 ) -> Option<Started>
-    requires { P.SamplesSized N samples.now ring_phi.now }
+    requires { (length samples.now ≤ max_samples) × (length ring_phi.now ≡ length samples.now) }
     ensures { result ≡ second_of (R.refine_seed_candidates (length samples.now) samples.now ring_phi.now
         centered_var top) }
 {
-    let mut turned = [0.0f32; N];
-    let mut sphi = [0.0f32; N];
-    let mut cphi = [0.0f32; N];
-    solver::prepare(ring_phi, &mut turned, &mut sphi, &mut cphi);
+    let n = ring_phi.len();
+    let mut turned = [0.0f32; MAX_SAMPLES];
+    let mut sines = [0.0f32; MAX_SAMPLES];
+    let mut cosines = [0.0f32; MAX_SAMPLES];
+    let sphi = &mut sines[..n];
+    let cphi = &mut cosines[..n];
+    solver::prepare(ring_phi, &mut turned[..n], sphi, cphi);
     let ring = Ring {
         samples,
-        sphi: &sphi,
-        cphi: &cphi,
+        sphi,
+        cphi,
     };
-    refined::<N>(&Ready { ring, ring_phi }, centered_var, top)
+    refined::<MAX_SAMPLES>(&Ready { ring, ring_phi }, centered_var, top)
 }
 
-pub fn robust_grid_fit<'a, const N: usize>(
+pub fn robust_grid_fit<'a>(
     samples: &'a [f32],
     ring_phi: &'a [f32],
     mean: f32,
     centered_var: f32,
 ) -> Option<Started>
-    requires { P.SamplesSized N samples.now ring_phi.now }
+    requires { (length samples.now ≤ max_samples) × (length ring_phi.now ≡ length samples.now) }
     ensures { result ≡ second_of (R.robust_grid_fit [] (length samples.now) samples.now ring_phi.now
         mean centered_var) }
 {
-    let mut turned = [0.0f32; N];
-    let mut sphi = [0.0f32; N];
-    let mut cphi = [0.0f32; N];
-    solver::prepare(ring_phi, &mut turned, &mut sphi, &mut cphi);
+    let n = ring_phi.len();
+    let mut turned = [0.0f32; MAX_SAMPLES];
+    let mut sines = [0.0f32; MAX_SAMPLES];
+    let mut cosines = [0.0f32; MAX_SAMPLES];
+    let sphi = &mut sines[..n];
+    let cphi = &mut cosines[..n];
+    solver::prepare(ring_phi, &mut turned[..n], sphi, cphi);
     let ring = Ring {
         samples,
-        sphi: &sphi,
-        cphi: &cphi,
+        sphi,
+        cphi,
     };
-    grid_fit::<N>(&Ready { ring, ring_phi }, mean, centered_var)
+    let ready = Ready { ring, ring_phi };
+    // The usual number has arrays of its own size behind this, so that the compiler knows it there too.
+    if n == seed_models::RING_SAMPLES {
+        return grid_fit::<{ seed_models::RING_SAMPLES }>(&ready, mean, centered_var);
+    }
+    grid_fit::<MAX_SAMPLES>(&ready, mean, centered_var)
 }
 
 // The axes lie PI/4 on either side of the sector's midpoint.

@@ -1,8 +1,7 @@
 // The grid of seeds behind a suspicious start: ring_fit/robust.rs, the rows of robust_grid_fit, and four pairs of them.
 #![tactic(auto)]
 
-ghost use Rattle.std.specs.Prelude.{◌≡◌, ◌^◌, ◌+◌, ◌<◌, leb, length, take};
-ghost use Rattle.floats.specs.Rows.{count};
+ghost use Rattle.std.specs.Prelude.{◌≡◌, ◌+◌, ◌<◌, leb, length, take};
 ghost use Rattle.robust_grid.specs.Grid as G;
 ghost use Rattle.robust_grid.specs.Places as P;
 ghost use Rattle.robust_lanes.specs.Lanes as L;
@@ -117,20 +116,14 @@ pub fn is_pair(p: Pair, k: usize) -> bool
 // A block's pairs as far as they are allowed. The root is monotone, so a pair whose mean square is not below the best's
 // has no lower residual, and is skipped before its root is taken. Each kind of model has its own instance of the walk, and
 // both are compiled with this in their loop: a call a block made a ring of two starts take a quarter more instructions.
+// n is the number of samples as a float.
 #[inline(always)]
-pub fn lanes_tried<const N: usize>(
-    best0: Best,
-    m: Models,
-    centered_ss: f32,
-    mean: f32,
-    p: Pair,
-) -> Best
-    requires { (N < 2 ^ 32) × (p.a < 21) × (p.b < 23) }
-    ensures { result.top ≡ P.lanes_tried (count N) centered_ss mean m p best0.top }
+pub fn lanes_tried(best0: Best, m: Models, n: f32, centered_ss: f32, mean: f32, p: Pair) -> Best
+    requires { (p.a < 21) × (p.b < 23) }
+    ensures { result.top ≡ P.lanes_tried n centered_ss mean m p best0.top }
 {
-    let n = floats::count_f32(N);
     let mut best = best0;
-    let xs = robust_lanes::mean_squares::<N>(m, centered_ss);
+    let xs = robust_lanes::mean_squares(m, n, centered_ss);
     let q_mean = m.q_mean;
     let denom = m.denom;
     let num = m.num;

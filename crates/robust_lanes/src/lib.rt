@@ -2,9 +2,8 @@
 // ring_fit/robust.rs, robust_grid_fit.
 #![tactic(auto)]
 
-ghost use Rattle.std.specs.Prelude.{◌≡◌, ◌^◌, ◌<◌};
+ghost use Rattle.std.specs.Prelude.{◌≡◌, ◌<◌, length};
 ghost use Rattle.floats.specs.Ops.{nought};
-ghost use Rattle.floats.specs.Rows.{count};
 ghost use Rattle.floats.specs.Library.{max};
 ghost use Rattle.robust_lanes.specs.Lanes as L;
 ghost use Rattle.robust_lanes.specs.BoundLaws.{bound_once};
@@ -60,11 +59,12 @@ fn lanes_added(s: Lanes, v: f32, x: f32, y: [f32; 4]) -> Lanes
 }
 
 // Each lane adds its samples in their order. From b = 20 on the last lanes run past the grid's angles; nothing is asked of
-// them. The number of samples is a constant to the compiler, here and below: the loop has no end to test, and what is divided
-// by 16 is multiplied. It was a tenth of a fit with two starts (measured on an older kit).
-pub fn lane_sums<const N: usize>(h: &[GridRow; N], centered: &[f32; N], a: usize, b: usize) -> Lanes
-    requires { (a < 23) × (b < 23) }
-    ensures { result ≡ L.lane_sums N centered.now h.now a b }
+// them. It is compiled into its caller, here and below: where that one has arrays, the number of samples is a constant, the
+// loop has no end to test, and what is divided by 16 is multiplied.
+#[inline(always)]
+pub fn lane_sums(h: &[GridRow], centered: &[f32], a: usize, b: usize) -> Lanes
+    requires { (length h.now ≡ length centered.now) × (a < 23) × (b < 23) }
+    ensures { result ≡ L.lane_sums (length centered.now) centered.now h.now a b }
 {
     let none = [0.0f32; 4];
     let mut s = Lanes {
@@ -97,11 +97,11 @@ pub struct Models {
     pub num: [f32; 4],
 }
 
-pub fn lane_models<const N: usize>(s: Lanes) -> Models
-    requires { N < 2 ^ 32 }
-    ensures { result ≡ L.models_of s (count N) }
+// n is the number of samples as a float, here and below.
+#[inline(always)]
+pub fn lane_models(s: Lanes, n: f32) -> Models
+    ensures { result ≡ L.models_of s n }
 {
-    let n = floats::count_f32(N);
     let q = s.q_sum;
     let q2 = s.q2_sum;
     let num = s.num;
@@ -122,11 +122,10 @@ fn mean_square(num: f32, denom: f32, n: f32, centered_ss: f32) -> f32
     ahead(centered_ss - num * num / denom) / n
 }
 
-pub fn mean_squares<const N: usize>(m: Models, centered_ss: f32) -> [f32; 4]
-    requires { N < 2 ^ 32 }
-    ensures { result ≡ L.mean_squares m (count N) centered_ss }
+#[inline(always)]
+pub fn mean_squares(m: Models, n: f32, centered_ss: f32) -> [f32; 4]
+    ensures { result ≡ L.mean_squares m n centered_ss }
 {
-    let n = floats::count_f32(N);
     let num = m.num;
     let denom = m.denom;
     [

@@ -92,6 +92,12 @@ pub table_walked : (table centered : Row) (centered_ss mean : Float)
 unfolding walk
 table_walked table centered centered_ss mean = models_best centered centered_ss mean table
 
+-- of as many centred samples as a table is for
+pub table_fits : (table centered : Row) (centered_ss mean : Float) → length centered ≡ ring_samples
+    → walk (count (length centered)) centered_ss mean (λ j. lanes_in ring_samples (block_part table j) centered)
+    ≡ best_cached ring_samples centered centered_ss mean (models_in table)
+table_fits table centered centered_ss mean l = rw l (table_walked table centered centered_ss mean)
+
 pub grid_walked : (n : ℕ) (rows : GridRows) (centered : Row) (centered_ss mean : Float) → length centered ≡ n
     → walk (count n) centered_ss mean (grid_models n rows centered) ≡ best_of (score_at n rows centered centered_ss mean)
 unfolding walk best_of

@@ -2,7 +2,7 @@
 // that a caller supplies, in memory that the caller lends.
 #![tactic(auto)]
 
-ghost use Rattle.std.specs.Prelude.{◌≡◌, ℕ, ◌&&◌, ◌++◌, ◌≤◌, ◌<◌, length, drop, Option, Float};
+ghost use Rattle.std.specs.Prelude.{◌≡◌, refl, ℕ, ◌&&◌, ◌++◌, ◌≤◌, ◌<◌, length, drop, Option, Float};
 ghost use Rattle.floats.specs.Rows.{Row, at, count};
 ghost use Rattle.solver.specs.Buffers.{max_samples};
 ghost use Rattle.seed.specs.declared.SeedCandidate.{SeedCandidate};
@@ -12,7 +12,7 @@ ghost use Rattle.robust_grid.specs.Places.{block_pair, blocks, score_at};
 ghost use Rattle.seed_models.specs.Models as M;
 ghost use Rattle.seed_models.specs.Words as W;
 ghost use Rattle.seed_models.specs.Parts as P;
-ghost use Rattle.seed_models.specs.WalkLaws.{grid_walked, table_walked};
+ghost use Rattle.seed_models.specs.WalkLaws.{grid_walked, table_fits};
 
 use robust_grid::Pair;
 use robust_lanes::{GridRow, Models};
@@ -168,36 +168,43 @@ fn block_lanes(block: &[f32], centered: &[f32]) -> Models
 }
 
 // Where a walk over the blocks has their models from.
-pub trait Blocks<const N: usize> {
+pub trait Blocks {
+    // Of which centred samples the models are.
+    ghost fits: { Self → Row → Type 0 };
+
     ghost lanes_of: { Self → Row → ℕ → Models };
 
     ghost seed_of: { Self → Row → Float → Float → Option SeedCandidate };
 
     // What the four models of the block j bring to their scores; p is the block's first pair.
-    fn lanes(&self, centered: &[f32; N], p: Pair, j: usize) -> Models
-        requires { (N ≤ max_samples) × (j < blocks) × (p ≡ block_pair j) }
+    fn lanes(&self, centered: &[f32], p: Pair, j: usize) -> Models
+        requires { fits self.now centered.now × (length centered.now ≤ max_samples) × (j < blocks) × (p ≡ block_pair j) }
         ensures { result ≡ lanes_of self.now centered.now j };
 
     // The walk finds the seed.
-    ghost walked: { (s : Self) (centered : Row) (centered_ss mean : Float) → length centered ≡ N →
-        P.walk (count N) centered_ss mean (lanes_of s centered) ≡ seed_of s centered centered_ss mean };
+    ghost walked: { (s : Self) (centered : Row) (centered_ss mean : Float) → fits s centered →
+        P.walk (count (length centered)) centered_ss mean (lanes_of s centered) ≡ seed_of s centered centered_ss mean };
 }
 
-// The grid's rows.
+// The grid's rows, one for each sample.
 #[derive(Clone, Copy)]
-pub struct Grid<'a, const N: usize> {
-    pub rows: &'a [GridRow; N],
+pub struct Grid<'a> {
+    pub rows: &'a [GridRow],
 }
 
-impl<'a, const N: usize> Blocks<N> for Grid<'a, N> {
-    ghost lanes_of = { λ s centered j. P.grid_models N s.rows.now centered j };
+impl<'a> Blocks for Grid<'a> {
+    ghost fits = { λ s centered. length s.rows.now ≡ length centered };
 
-    ghost seed_of = { λ s centered centered_ss mean. best_of (score_at N s.rows.now centered centered_ss mean) };
+    ghost lanes_of = { λ s centered j. P.grid_models (length centered) s.rows.now centered j };
 
-    ghost walked = { λ s centered centered_ss mean l. grid_walked N s.rows.now centered centered_ss mean l };
+    ghost seed_of = { λ s centered centered_ss mean. best_of (score_at (length centered) s.rows.now centered centered_ss mean) };
 
-    fn lanes(&self, centered: &[f32; N], p: Pair, _j: usize) -> Models {
-        robust_lanes::lane_models::<N>(robust_lanes::lane_sums(self.rows, centered, p.a, p.b))
+    ghost walked = { λ s centered centered_ss mean f. grid_walked (length centered) s.rows.now centered centered_ss mean refl };
+
+    #[inline(always)]
+    fn lanes(&self, centered: &[f32], p: Pair, _j: usize) -> Models {
+        let n = floats::count_f32(centered.len());
+        robust_lanes::lane_models(robust_lanes::lane_sums(self.rows, centered, p.a, p.b), n)
     }
 }
 
@@ -208,14 +215,16 @@ pub struct Stored<'a> {
     pub ghost sized: { length table.now ≡ W.table_size },
 }
 
-impl<'a> Blocks<RING_SAMPLES> for Stored<'a> {
+impl<'a> Blocks for Stored<'a> {
+    ghost fits = { λ s centered. length centered ≡ W.ring_samples };
+
     ghost lanes_of = { λ s centered j. P.lanes_in W.ring_samples (W.block_part s.table.now j) centered };
 
     ghost seed_of = { λ s centered centered_ss mean. M.best_cached W.ring_samples centered centered_ss mean (W.models_in s.table.now) };
 
-    ghost walked = { λ s centered centered_ss mean l. table_walked s.table.now centered centered_ss mean };
+    ghost walked = { λ s centered centered_ss mean l. table_fits s.table.now centered centered_ss mean l };
 
-    fn lanes(&self, centered: &[f32; RING_SAMPLES], _p: Pair, j: usize) -> Models {
+    fn lanes(&self, centered: &[f32], _p: Pair, j: usize) -> Models {
         let table = self.table;
         let s = RING_SAMPLES + j * BLOCK_SIZE;
         block_lanes(&table[s..s + BLOCK_SIZE], centered)
@@ -223,21 +232,24 @@ impl<'a> Blocks<RING_SAMPLES> for Stored<'a> {
 }
 
 // The samples, their sum of squares and the mean go apart: the function lines have them so.
-// The seed of least residual over all allowed pairs, the earlier on a tie.
-pub fn best_seed<const N: usize, B: Blocks<N>>(
+// The seed of least residual over all allowed pairs, the earlier on a tie. It is compiled into its caller, whose array tells
+// the number of samples.
+#[inline(always)]
+pub fn best_seed<B: Blocks>(
     models: &B,
-    centered: &[f32; N],
+    centered: &[f32],
     centered_ss: f32,
     mean: f32,
 ) -> Option<SeedCandidate>
-    requires { N ≤ max_samples }
+    requires { B.fits models.now centered.now × (length centered.now ≤ max_samples) }
     ensures { result ≡ B.seed_of models.now centered.now centered_ss mean }
 {
+    let n = floats::count_f32(centered.len());
     let mut best = robust_lanes::none_yet();
     let mut p = robust_grid::first_block();
     for j in 0..robust_grid::BLOCKS {
         let m = models.lanes(centered, p, j);
-        best = robust_grid::lanes_tried::<N>(best, m, centered_ss, mean, p);
+        best = robust_grid::lanes_tried(best, m, n, centered_ss, mean, p);
         p = robust_grid::next_block(p);
     }
     best.top

@@ -1,5 +1,6 @@
 -- Without a sum there is no grid; with one the best seed's start is made. Assumes nothing.
-use Rattle.std.proofs.Common.{◌∙◌, length}
+use Rattle.std.proofs.Common.{◌∙◌, ap, length, take_at}
+use Rattle.loops.proofs.TabLaws.{tab_length}
 use Rattle.robust.proofs.RobustLaws.{none_centered, sum_centered, grid_missing, grid_made, direct_is, direct_seed_lem}
 use Rattle.robust.proofs.grid_fit.Goals as goal
 
@@ -19,6 +20,7 @@ returns g c =
     let n = length s in
     let sum = sum_centered _ _ _ _ _ _ _ c.in_ok-centered_ss.was c.centered_sum.ensures in
     let seed = direct_seed_lem n s r.ring_phi.now a.mean a.centered_var r.ring.sphi.now r.ring.cphi.now _ _ _ r.phi r.sines r.cosines in
-    let best = seed sum.1 sum.2 (rw (← c.requires) at c.grid_seed-top.ensures) in
+    let front = take_at _ _ n (ap length sum.1 ∙ tab_length _ n) in
+    let best = seed (front ∙ sum.1) sum.2 c.grid_seed-top.ensures in
     let made = grid_made _ n s r.ring_phi.now a.mean a.centered_var _ sum.0 best c.refined.ensures in
     rw (direct_is n s r.ring_phi.now a.mean a.centered_var) made

@@ -1,6 +1,5 @@
 -- Each lane is skipped, which changes nothing, or tried, and past the last allowed pair nothing is left. Assumes nothing.
-use Rattle.std.specs.Prelude.{Float}
-use mathlib.Core.Path.{◌≡◌, sym, subst, ap, ◌∙◌}
+use mathlib.Core.Path.{◌≡◌, sym, subst, ◌∙◌}
 use Prim.Native.Nat.{◌+◌}
 use native.Mathlib.Omega.{arith}
 use borrow.Author.Tests.{leb-true}
@@ -12,39 +11,37 @@ use borrow.Author.Rules.{rules}
 use Rattle.robust_grid.proofs.lanes_tried.Goals as goal
 
 pub lanes-init : goal.lanes-init
-lanes-init g c =
+lanes-init c =
     (search rules, rw iter_zero)
 
 pub lanes-preserved-then-xs-k : goal.lanes-preserved-then-xs-k
-lanes-preserved-then-xs-k g c =
+lanes-preserved-then-xs-k c =
     let a = c.args in
     let inv = c.lanes.invariant in
     let few = c.lanes-test.true in
     let pair = sym c.is_pair.ensures ∙ c.if-not-is_pair.false in
-    let squares = c.mean_squares-xs.ensures ∙ ap (λ (n : Float). L.mean_squares a.m n a.centered_ss) (sym c.count_f32-n.ensures) in
-    let same = lane_skipped c.count_f32-n.result a.centered_ss a.mean a.m a.p _ squares c.lanes.k few _ _ pair c.lanes.best.kept
+    let same = lane_skipped a.n a.centered_ss a.mean a.m a.p _ c.mean_squares-xs.ensures c.lanes.k few _ _ pair c.lanes.best.kept
     c.if-xs-k.true in
     (omega (arith, few), iter_more _ _ _ _ _ inv.1 same)
 
 pub grid_angle-theta2-requires : goal.grid_angle-theta2-requires
-grid_angle-theta2-requires g c =
+grid_angle-theta2-requires c =
     let pair = sym c.is_pair.ensures ∙ c.if-not-is_pair.false in
     let p = c.args.p in
     omega (arith, leb-true (p.b + c.lanes.k) (P.last_of p.a) pair, last_most p.a)
 
 pub tried-best-requires : goal.tried-best-requires
-tried-best-requires g c =
+tried-best-requires c =
     let a = c.args in
     let k = c.lanes.k in
     let theta1 = c.grid_angle-theta1.ensures in
     let theta2 = c.grid_angle-theta2.ensures in
     let scored = rw (theta1, theta2) at c.scored_from-c.ensures in
-    let squares = c.mean_squares-xs.ensures ∙ ap (λ (n : Float). L.mean_squares a.m n a.centered_ss) (sym c.count_f32-n.ensures) in
-    let squared = lane_squared c.count_f32-n.result a.centered_ss a.mean a.m a.p _ squares k c.lanes-test.true in
+    let squared = lane_squared a.n a.centered_ss a.mean a.m a.p _ c.mean_squares-xs.ensures k c.lanes-test.true in
     subst (L.Squared _) (sym scored) squared
 
 pub lanes-preserved : goal.lanes-preserved
-lanes-preserved g c =
+lanes-preserved c =
     let a = c.args in
     let inv = c.lanes.invariant in
     let few = c.lanes-test.true in
@@ -53,18 +50,18 @@ lanes-preserved g c =
     let theta2 = c.grid_angle-theta2.ensures in
     let scored = rw (theta1, theta2) at c.scored_from-c.ensures in
     let tried = c.tried-best.ensures in
-    let next = lane_tried c.count_f32-n.result a.centered_ss a.mean a.m a.p c.lanes.k _ _ _ pair scored tried in
+    let next = lane_tried a.n a.centered_ss a.mean a.m a.p c.lanes.k _ _ _ pair scored tried in
     (omega (arith, few), iter_more _ _ _ _ _ inv.1 next)
 
 pub returns-after-lanes : goal.returns-after-lanes
 unfolding P.lanes_tried
-returns-after-lanes g c =
+returns-after-lanes c =
     let k : c.lanes.k ≡ 4 = omega arith in
-    rw (k, c.count_f32-n.ensures) at c.lanes.invariant.1
+    rw k at c.lanes.invariant.1
 
 pub returns-then-not-is_pair : goal.returns-then-not-is_pair
-returns-then-not-is_pair g c =
+returns-then-not-is_pair c =
     let a = c.args in
     let inv = c.lanes.invariant in
     let past = sym c.is_pair.ensures ∙ c.if-not-is_pair.true in
-    rw c.count_f32-n.ensures at (lanes_end c.count_f32-n.result a.centered_ss a.mean a.m a.p c.lanes.k _ _ inv.0 past inv.1)
+    lanes_end a.n a.centered_ss a.mean a.m a.p c.lanes.k _ _ inv.0 past inv.1

@@ -7,9 +7,9 @@ use Rattle.robust_grid.specs.BlockLaws.{lane_step}
 use Rattle.robust_grid.proofs.lanes_tried.Given as goal
 
 abbrev pub invariant-lanes : goal.invariant-lanes
-invariant-lanes g l =
+invariant-lanes l =
     let m : Models = record { q_mean = l.q_mean; denom = l.denom; num = l.num } in
     (l.k ≤ 4) × (l.best.top ≡ iter (lane_step l.n l.centered_ss l.mean m l.p) l.initial.best.top l.k)
 
 abbrev pub decreases-lanes : goal.decreases-lanes
-decreases-lanes g l = 4 - l.k
+decreases-lanes l = 4 - l.k

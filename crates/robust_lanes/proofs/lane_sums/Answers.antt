@@ -7,10 +7,10 @@ use Rattle.robust_lanes.specs.LaneLaws.{lanes_none, lanes_more, lane_places}
 use Rattle.robust_lanes.proofs.lane_sums.Goals as goal
 
 pub loop-row-init : goal.loop-row-init
-loop-row-init g c = lanes_none _ _ _ _
+loop-row-init c = lanes_none _ _ _ _
 
 pub loop-row-preserved : goal.loop-row-preserved
-loop-row-preserved g c =
+loop-row-preserved c =
     let y = c.loop-row.yielded in
     let s = c.into_iter-row-iterator.result in
     let t = zip_turn c.args.h.now c.args.centered.now y s c.loop-row.row-iterator c.next.new.self c.next.result (search rules) (search rules)
@@ -24,10 +24,10 @@ loop-row-preserved g c =
     (rw (← t.2 [], ← t.3 nan) c.lanes_added-s.ensures))
 
 pub returns : goal.returns
-returns g c =
+returns c =
     let y = c.loop-row.yielded in
     let s = c.into_iter-row-iterator.result in
     let e = zip_end c.args.h.now c.args.centered.now y s c.loop-row.row-iterator c.next.new.self c.next.result (search rules) (search rules)
     c.loop-row.yielded_by c.in-None.is c.next.ensures.steps in
-    let n : length y ≡ g.row.N = omega (arith, e, c.told-h, c.told-centered) in
+    let n : length y ≡ length c.args.centered.now = omega (arith, e, c.requires.0) in
     rw n at c.loop-row.invariant

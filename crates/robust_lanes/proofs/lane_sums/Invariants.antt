@@ -4,4 +4,4 @@ use Rattle.robust_lanes.specs.Lanes as L
 use Rattle.robust_lanes.proofs.lane_sums.Given as goal
 
 abbrev pub invariant-loop-row : goal.invariant-loop-row
-invariant-loop-row g l = l.s ≡ L.lane_sums (length l.yielded) l.centered l.h l.a l.b
+invariant-loop-row l = l.s ≡ L.lane_sums (length l.yielded) l.centered l.h l.a l.b

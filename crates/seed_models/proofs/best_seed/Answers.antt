@@ -11,13 +11,13 @@ unfolding G.block_pair
 loop-j-init g c = (search rules, rw iter_zero c.first_block-p.ensures, rw iter_zero c.none_yet-best.ensures)
 
 pub lanes-m-requires : goal.lanes-m-requires
-lanes-m-requires g c = (omega (arith, c.requires), (c.requires, c.loop-j-test.true, c.loop-j.invariant.1))
+lanes-m-requires g c = (c.requires.0, c.requires.1, c.loop-j-test.true, c.loop-j.invariant.1)
 
 pub lanes_tried-best-requires : goal.lanes_tried-best-requires
 lanes_tried-best-requires g c =
     let l = c.loop-j in
     let inside = block_inside l.j c.loop-j-test.true in
-    (omega (arith, c.requires), rw l.invariant.1 inside.0, rw l.invariant.1 inside.1)
+    (rw l.invariant.1 inside.0, rw l.invariant.1 inside.1)
 
 pub next_block-p-requires : goal.next_block-p-requires
 next_block-p-requires g c =
@@ -37,4 +37,5 @@ unfolding P.walk
 returns g c =
     let l = c.loop-j in
     let j : l.j ≡ G.blocks = omega arith in
-    (rw j at l.invariant.2) ∙ g.met.B.Blocks.walked c.args.models.now c.args.centered.now c.args.centered_ss c.args.mean c.told-centered
+    let a = c.args in
+    (rw (j, c.count_f32-n.ensures) at l.invariant.2) ∙ g.met.B.Blocks.walked a.models.now a.centered.now a.centered_ss a.mean c.requires.0

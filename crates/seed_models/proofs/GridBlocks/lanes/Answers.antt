@@ -4,13 +4,10 @@ use Rattle.robust_grid.specs.PairLaws.{block_inside}
 use Rattle.seed_models.proofs.GridBlocks.lanes.Goals as goal
 
 pub lane_sums-requires : goal.lane_sums-requires
-lane_sums-requires g c =
+lane_sums-requires c =
     let r = c.requires in
-    let inside = block_inside c.args._j r.1 in
-    (omega (arith, r.0), (omega (arith, r.0), (rw r.2 (omega (arith, inside.0)), rw r.2 inside.1)))
-
-pub lane_models-requires : goal.lane_models-requires
-lane_models-requires g c = omega (arith, c.requires.0)
+    let inside = block_inside c.args._j r.2 in
+    (r.0, rw r.3 (omega (arith, inside)), rw r.3 (omega (arith, inside)))
 
 pub returns : goal.returns
-returns g c = rw (← c.requires.2, ← c.lane_sums.ensures) c.lane_models.ensures
+returns c = rw (← c.requires.3, ← c.lane_sums.ensures, ← c.count_f32-n.ensures) c.lane_models.ensures
