@@ -49,10 +49,10 @@ kind_above (Aboves.Asked f) = Some (kind_asked f.asks)
 kind_above _ = None
 
 -- an answer's type: a disk's is 82, that of a malformed line ff
-abbrev pub answer_type : Option Kind → ℕ
-answer_type (Some (Ring kind)) = Shapes.answer_type kind
-answer_type (Some Disk) = 0x82
-answer_type None = 0xff
+abbrev pub type_of_kind : Option Kind → ℕ
+type_of_kind (Some (Ring kind)) = Shapes.answer_type kind
+type_of_kind (Some Disk) = 0x82
+type_of_kind None = 0xff
 
 -- the number of the line above, and the count of pixels there; 0 where there is none
 abbrev pub line_above : Above → ℕ
@@ -333,19 +333,19 @@ is_strange_number _ = false
 -- the type, the count of pixels and the number of refusal that a sentence speaks of; 0 where it speaks of none
 abbrev pub type_of : Wrong → ℕ
 type_of (UnknownType kind) = kind
-type_of (AnswerLength kind) = answer_type kind
-type_of (StrangeNumber kind number) = answer_type kind
+type_of (AnswerLength kind) = type_of_kind kind
+type_of (StrangeNumber kind number) = type_of_kind kind
 type_of _ = 0
 
 abbrev pub pixels_of : Wrong → ℕ
 pixels_of (Malformed (DiskLength n)) = n
 pixels_of _ = 0
 
-abbrev pub number_of : Wrong → ℕ
-number_of (FitNumber number) = number
-number_of (NoNumber number) = number
-number_of (StrangeNumber kind number) = number
-number_of _ = 0
+abbrev pub number_told : Wrong → ℕ
+number_told (FitNumber number) = number
+number_told (NoNumber number) = number
+number_told (StrangeNumber kind number) = number
+number_told _ = 0
 
 unfoldable pub bad_rows : Wrong → ℕ → Option ℕ → List (Bool × String)
 bad_rows w n b =

@@ -176,7 +176,7 @@ fn type_of(w: Wrong) -> u32
     match w {
         Wrong::UnknownType(kind) => kind,
         Wrong::AnswerLength(kind) | Wrong::StrangeNumber(kind, _) => {
-            u32::from(super::answer_type(kind))
+            u32::from(super::type_of_kind(kind))
         }
         _ => 0,
     }
@@ -191,8 +191,8 @@ fn pixels_of(w: Wrong) -> u32
     }
 }
 
-fn number_of(w: Wrong) -> u32
-    ensures { result ≡ S.number_of w }
+fn number_told(w: Wrong) -> u32
+    ensures { result ≡ S.number_told w }
 {
     match w {
         Wrong::FitNumber(n) | Wrong::NoNumber(n) | Wrong::StrangeNumber(_, n) => n,
@@ -237,7 +237,7 @@ fn words_of(line_number: u64, line: &[u8], place: Option<usize>, w: Wrong) -> [W
         number(30 + 40 * pixels),
         number(pixels),
         plural(pixels),
-        number(u64::from(number_of(w))),
+        number(u64::from(number_told(w))),
     ]
 }
 

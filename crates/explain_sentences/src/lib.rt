@@ -37,8 +37,8 @@ fn of_malformed(kind: Option<Kind>) -> bool
 }
 
 // The type of an answer, ff of a malformed line.
-fn answer_type(kind: Option<Kind>) -> u8
-    ensures { result ≡ S.answer_type kind }
+fn type_of_kind(kind: Option<Kind>) -> u8
+    ensures { result ≡ S.type_of_kind kind }
 {
     match kind {
         Some(Kind::Ring(k)) => k.answer_type(),
@@ -158,7 +158,7 @@ fn due(a: Above) -> Option<Refusal>
 fn refusal_line(r: Option<Refusal>) -> Word {
     match r {
         Some(r) => {
-            let answer = u64::from(answer_type(r.kind));
+            let answer = u64::from(type_of_kind(r.kind));
             bits(
                 answer * 16777216 + u64::from(r.number) * 65536 + u64::from(r.place),
                 8,

@@ -18,15 +18,12 @@ ghost use Rattle.seed_models.specs.Words as W;
 use robust_choice::RingFit;
 use seed::{Harmonic, SeedCandidate};
 use seed_models::{Grid, Stored};
-use solver::{Ring, Sample};
+use solver::{MAX_SAMPLES, Ring, Sample};
 use solver_record::{Params, Started, TwoAxisFit};
 
 const AMP_FLOOR: f32 = 1.0;
 
 const ROBUST_REL_RMS_TRIGGER: f32 = 0.12;
-
-// The most samples that a ring has.
-const MAX_SAMPLES: usize = 24;
 
 // 65 and 115 degrees, by `to_radians`.
 const ROBUST_SEP_TRIGGER_MIN_RAD: f32 = 1.13446403;

@@ -19,7 +19,7 @@ const GN_MAX_ANGLE_STEP: f32 = 0.5;
 const GN_TOL: f32 = 1e-4;
 
 // The most samples that a ring has.
-const MAX_SAMPLES: usize = 24;
+pub const MAX_SAMPLES: usize = 24;
 
 // A ring's samples, and beside each the sine and the cosine of its angle.
 #[derive(Clone, Copy)]
