@@ -47,9 +47,7 @@ impl Feed {
         ensures same { result ≡ end_of buf.now self }
         ensures within { IfSome result (λ k. self.from + k < self.total) }
     {
-        buf[self.from..self.total]
-            .iter()
-            .position(|b| *b == b'\n')
+        buf[self.from..self.total].iter().position(|b| *b == b'\n')
     }
 
     // The next line of the buffer.
