@@ -195,16 +195,19 @@ fn pool_of(ps: Pairs) -> Pool
 }
 
 fn pairs_of(pool: Pool) -> Pairs {
-    Pairs {
-        n: pool.n,
-        pairs: pool.pairs.map(Ranking::from),
+    let mut pairs = [Ranking::from(pool.pairs[0]); candidates::MAX_PAIRS];
+    for (to, pair) in pairs.iter_mut().zip(&pool.pairs) {
+        *to = Ranking::from(*pair);
     }
+    Pairs { n: pool.n, pairs }
 }
 
 impl From<Ranked> for Pairs {
     fn from(top: Ranked) -> Pairs {
         let mut pairs = [Ranking::from(top.pairs[0]); candidates::MAX_PAIRS];
-        pairs[..search_ranking::MAX_TOP_PAIRS].copy_from_slice(&top.pairs.map(Ranking::from));
+        for (to, pair) in pairs.iter_mut().zip(&top.pairs) {
+            *to = Ranking::from(*pair);
+        }
         Pairs { n: top.n, pairs }
     }
 }
