@@ -110,6 +110,7 @@ pub fn fit_ring_of<const N: usize>(samples: &[f32], angles: &[f32]) -> Result<Ri
 
 // Two entries over the generic one: both are promised, and ask nothing, where that one asks of N.
 // The ring entry, which asks nothing: the Rust's ring.
+#[inline(always)]
 pub fn fit_ring(samples: &[f32], angles: &[f32]) -> Result<RingFit, Refusal>
     ensures { result ≡ C.checked_ring [] 16 samples.now angles.now }
 {
@@ -117,6 +118,7 @@ pub fn fit_ring(samples: &[f32], angles: &[f32]) -> Result<RingFit, Refusal>
 }
 
 // The same of 24 samples, ours.
+#[inline(always)]
 pub fn fit_ring24(samples: &[f32], angles: &[f32]) -> Result<RingFit, Refusal>
     ensures { result ≡ C.checked_ring [] 24 samples.now angles.now }
 {
