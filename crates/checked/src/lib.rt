@@ -108,7 +108,8 @@ pub fn fit_ring_of<const N: usize>(samples: &[f32], angles: &[f32]) -> Result<Ri
     Ok(robust::fit_ring::<N>(samples, angles))
 }
 
-// Two entries over the generic one: both are promised, and ask nothing, where that one asks of N.
+// Two entries over the generic one: both are promised, and ask nothing, where that one asks of N. They are put into their
+// callers: compiled as functions with the generic one in them, a ring that is refused for a value took half as long again.
 // The ring entry, which asks nothing: the Rust's ring.
 #[inline(always)]
 pub fn fit_ring(samples: &[f32], angles: &[f32]) -> Result<RingFit, Refusal>

@@ -1,11 +1,10 @@
 -- What explain says of a line, sentence by sentence: when, and in which words. Definitions only.
--- Its warnings stand in `explain_warnings`; what stands in the blanks, numbers and endings of nouns, is not said.
+-- Its warnings stand in `explain_warnings`. How a word in a blank is spelt, and which stands in which blank, is not said.
 use Rattle.std.specs.Prelude.{ℕ, ◌+◌, ◌-◌, ◌*◌, ◌/◌, Bool, true, false, cond, not, ◌&&◌, ◌||◌, List, [], ◌∷◌, ◌++◌, length, ◌==◌, nat_le, nat_lt}
 use Rattle.std.specs.Prelude.{Option, Some, None, is_none, position, slice_index}
 use Prim.Native.String.{String}
 use Rattle.hexadecimal.specs.Hex.{is_hex}
-use Rattle.shapes.specs.Shapes.{samples_of}
-use Rattle.shapes.specs.Shapes as Shapes
+use Rattle.shapes.specs.Shapes.{samples_of, answer_type}
 use Rattle.shapes.specs.declared.RingKind.{RingKind}
 use Rattle.shapes.specs.declared.RingKind.TheVariants.{Sixteen, TwentyFour}
 use Rattle.shapes.specs.declared.Kind.{Kind}
@@ -50,7 +49,7 @@ kind_above _ = None
 
 -- an answer's type: a disk's is 82, that of a malformed line ff
 abbrev pub type_of_kind : Option Kind → ℕ
-type_of_kind (Some (Ring kind)) = Shapes.answer_type kind
+type_of_kind (Some (Ring kind)) = answer_type kind
 type_of_kind (Some Disk) = 0x82
 type_of_kind None = 0xff
 

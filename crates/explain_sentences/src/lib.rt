@@ -1,5 +1,6 @@
 // What explain says of a line, in sentences: each function tells its own, and which of them are told
-// equals its definition in specs/Sentences.antt. The words in their blanks are proved safe, no more.
+// equals its definition in specs/Sentences.antt. So do the refusal that is due, the type, the numbers and the counts that are
+// told; of the words in the blanks, how each is spelt and where it stands, it is proved that they are safe, no more.
 #![tactic(auto)]
 
 use explain_sorts::{Above, Asks, Due, Refusal};
