@@ -17,7 +17,7 @@ ghost use Rattle.seed_models.specs.Words as W;
 
 use robust_choice::RingFit;
 use seed::{Harmonic, SeedCandidate};
-use seed_models::{Grid, Stored};
+use seed_models::{SliceGrid, Stored};
 use solver::{MAX_SAMPLES, Ring, Sample};
 use solver_record::{Params, Started, TwoAxisFit};
 
@@ -182,11 +182,21 @@ fn grid_seed<const N: usize>(
     // two starts (measured on an older kit).
     if n == N {
         robust_grid::fill_grid(ring.sphi, ring.cphi, &mut rows);
-        return seed_models::best_seed(&Grid { rows: &rows }, centered, centered_ss, mean);
+        return seed_models::best_seed_of_slice(
+            &SliceGrid { rows: &rows },
+            centered,
+            centered_ss,
+            mean,
+        );
     }
     let filled = &mut rows[..n];
     robust_grid::fill_grid(ring.sphi, ring.cphi, filled);
-    seed_models::best_seed(&Grid { rows: filled }, &centered[..n], centered_ss, mean)
+    seed_models::best_seed_of_slice(
+        &SliceGrid { rows: filled },
+        &centered[..n],
+        centered_ss,
+        mean,
+    )
 }
 
 // The start behind the grid.
@@ -212,7 +222,7 @@ fn cached_fit(table: Stored, ready: &Ready, mean: f32, centered_var: f32) -> Opt
 {
     let mut centered = [0.0f32; seed_models::RING_SAMPLES];
     let centered_ss = centered_sum(ready.ring.samples, mean, centered_var, &mut centered)?;
-    let top = seed_models::best_seed(&table, &centered, centered_ss, mean);
+    let top = seed_models::best_seed_of_slice(&table, &centered, centered_ss, mean);
     refined::<{ seed_models::RING_SAMPLES }>(ready, centered_var, top)
 }
 

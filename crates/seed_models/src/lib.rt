@@ -12,7 +12,7 @@ ghost use Rattle.robust_grid.specs.Places.{block_pair, blocks, score_at};
 ghost use Rattle.seed_models.specs.Models as M;
 ghost use Rattle.seed_models.specs.Words as W;
 ghost use Rattle.seed_models.specs.Parts as P;
-ghost use Rattle.seed_models.specs.WalkLaws.{grid_walked, table_fits};
+ghost use Rattle.seed_models.specs.WalkLaws.{grid_walked, table_fits, table_walked};
 
 use robust_grid::Pair;
 use robust_lanes::{GridRow, Models};
@@ -167,8 +167,8 @@ fn block_lanes(block: &[f32], centered: &[f32]) -> Models
     m
 }
 
-// Where a walk over the blocks has their models from.
-pub trait Blocks {
+// Where a walk over the blocks has their models from, for samples that come as a slice.
+pub trait SliceBlocks {
     // Of which centred samples the models are.
     ghost fits: { Self → Row → Type 0 };
 
@@ -177,7 +177,7 @@ pub trait Blocks {
     ghost seed_of: { Self → Row → Float → Float → Option SeedCandidate };
 
     // What the four models of the block j bring to their scores; p is the block's first pair.
-    fn lanes(&self, centered: &[f32], p: Pair, j: usize) -> Models
+    fn lanes_of_slice(&self, centered: &[f32], p: Pair, j: usize) -> Models
         requires { fits self.now centered.now × (length centered.now ≤ max_samples) × (j < blocks) × (p ≡ block_pair j) }
         ensures { result ≡ lanes_of self.now centered.now j };
 
@@ -188,11 +188,11 @@ pub trait Blocks {
 
 // The grid's rows, one for each sample.
 #[derive(Clone, Copy)]
-pub struct Grid<'a> {
+pub struct SliceGrid<'a> {
     pub rows: &'a [GridRow],
 }
 
-impl<'a> Blocks for Grid<'a> {
+impl<'a> SliceBlocks for SliceGrid<'a> {
     ghost fits = { λ s centered. length s.rows.now ≡ length centered };
 
     ghost lanes_of = { λ s centered j. P.grid_models (length centered) s.rows.now centered j };
@@ -202,7 +202,7 @@ impl<'a> Blocks for Grid<'a> {
     ghost walked = { λ s centered centered_ss mean f. grid_walked (length centered) s.rows.now centered centered_ss mean refl };
 
     #[inline(always)]
-    fn lanes(&self, centered: &[f32], p: Pair, _j: usize) -> Models {
+    fn lanes_of_slice(&self, centered: &[f32], p: Pair, _j: usize) -> Models {
         let n = floats::count_f32(centered.len());
         robust_lanes::lane_models(robust_lanes::lane_sums(self.rows, centered, p.a, p.b), n)
     }
@@ -215,7 +215,7 @@ pub struct Stored<'a> {
     pub ghost sized: { length table.now ≡ W.table_size },
 }
 
-impl<'a> Blocks for Stored<'a> {
+impl<'a> SliceBlocks for Stored<'a> {
     ghost fits = { λ s centered. length centered ≡ W.ring_samples };
 
     ghost lanes_of = { λ s centered j. P.lanes_in W.ring_samples (W.block_part s.table.now j) centered };
@@ -224,7 +224,7 @@ impl<'a> Blocks for Stored<'a> {
 
     ghost walked = { λ s centered centered_ss mean l. table_fits s.table.now centered centered_ss mean l };
 
-    fn lanes(&self, centered: &[f32], _p: Pair, j: usize) -> Models {
+    fn lanes_of_slice(&self, centered: &[f32], _p: Pair, j: usize) -> Models {
         let table = self.table;
         let s = RING_SAMPLES + j * BLOCK_SIZE;
         block_lanes(&table[s..s + BLOCK_SIZE], centered)
@@ -235,7 +235,7 @@ impl<'a> Blocks for Stored<'a> {
 // The seed of least residual over all allowed pairs, the earlier on a tie. It is compiled into its caller, whose array tells
 // the number of samples.
 #[inline(always)]
-pub fn best_seed<B: Blocks>(
+pub fn best_seed_of_slice<B: SliceBlocks>(
     models: &B,
     centered: &[f32],
     centered_ss: f32,
@@ -248,11 +248,94 @@ pub fn best_seed<B: Blocks>(
     let mut best = robust_lanes::none_yet();
     let mut p = robust_grid::first_block();
     for j in 0..robust_grid::BLOCKS {
-        let m = models.lanes(centered, p, j);
+        let m = models.lanes_of_slice(centered, p, j);
         best = robust_grid::lanes_tried(best, m, n, centered_ss, mean, p);
         p = robust_grid::next_block(p);
     }
     best.top
+}
+
+// ---- the same for samples that come as an array, whose number is known when this is compiled
+
+// Where a walk over the blocks has their models from, for samples that come as an array.
+pub trait Blocks<const N: usize> {
+    ghost lanes_of: { Self → Row → ℕ → Models };
+
+    ghost seed_of: { Self → Row → Float → Float → Option SeedCandidate };
+
+    // What the four models of the block j bring to their scores; p is the block's first pair.
+    fn lanes(&self, centered: &[f32; N], p: Pair, j: usize) -> Models
+        requires { (N ≤ max_samples) × (j < blocks) × (p ≡ block_pair j) }
+        ensures { result ≡ lanes_of self.now centered.now j };
+
+    // The walk finds the seed.
+    ghost walked: { (s : Self) (centered : Row) (centered_ss mean : Float) → length centered ≡ N →
+        P.walk (count N) centered_ss mean (lanes_of s centered) ≡ seed_of s centered centered_ss mean };
+}
+
+// The grid's rows, one for each sample.
+#[derive(Clone, Copy)]
+pub struct Grid<'a, const N: usize> {
+    pub rows: &'a [GridRow; N],
+}
+
+impl<'a, const N: usize> Blocks<N> for Grid<'a, N> {
+    ghost lanes_of = { λ s centered j. P.grid_models N s.rows.now centered j };
+
+    ghost seed_of = { λ s centered centered_ss mean. best_of (score_at N s.rows.now centered centered_ss mean) };
+
+    ghost walked = { λ s centered centered_ss mean l. grid_walked N s.rows.now centered centered_ss mean l };
+
+    fn lanes(&self, centered: &[f32; N], p: Pair, j: usize) -> Models {
+        let rows = self.rows;
+        SliceGrid { rows }.lanes_of_slice(centered, p, j)
+    }
+}
+
+impl<'a> Blocks<RING_SAMPLES> for Stored<'a> {
+    ghost lanes_of = { λ s centered j. P.lanes_in W.ring_samples (W.block_part s.table.now j) centered };
+
+    ghost seed_of = { λ s centered centered_ss mean. M.best_cached W.ring_samples centered centered_ss mean (W.models_in s.table.now) };
+
+    ghost walked = { λ s centered centered_ss mean l. table_walked s.table.now centered centered_ss mean };
+
+    fn lanes(&self, centered: &[f32; RING_SAMPLES], p: Pair, j: usize) -> Models {
+        self.lanes_of_slice(centered, p, j)
+    }
+}
+
+// Models of an array's samples, as models of a slice's.
+#[derive(Drop)]
+struct Sliced<'a, const N: usize, B> {
+    models: &'a B,
+}
+
+impl<'a, const N: usize, B: Blocks<N>> SliceBlocks for Sliced<'a, N, B> {
+    ghost fits = { λ s centered. length centered ≡ N };
+
+    ghost lanes_of = { λ s centered j. B.lanes_of s.models.now centered j };
+
+    ghost seed_of = { λ s centered centered_ss mean. B.seed_of s.models.now centered centered_ss mean };
+
+    ghost walked = { λ s centered centered_ss mean l. rw l (B.walked s.models.now centered centered_ss mean l) };
+
+    fn lanes_of_slice(&self, centered: &[f32], p: Pair, j: usize) -> Models {
+        let array = <&[f32; N]>::try_from(centered).unwrap();
+        self.models.lanes(array, p, j)
+    }
+}
+
+// The seed of least residual over all allowed pairs, the earlier on a tie.
+pub fn best_seed<const N: usize, B: Blocks<N>>(
+    models: &B,
+    centered: &[f32; N],
+    centered_ss: f32,
+    mean: f32,
+) -> Option<SeedCandidate>
+    requires { N ≤ max_samples }
+    ensures { result ≡ B.seed_of models.now centered.now centered_ss mean }
+{
+    best_seed_of_slice(&Sliced::<N, B> { models }, centered, centered_ss, mean)
 }
 
 // ---- the building of a table
@@ -376,3 +459,6 @@ pub fn fresh(words: &mut [f32])
 {
     words[0] = 0.0;
 }
+
+#[cfg(test)]
+mod tests;

@@ -18,7 +18,7 @@ returns c =
     let r = a.ready.now in
     let s = r.ring.samples.now in
     let sum = sum_centered _ _ _ _ _ _ _ c.in_ok-centered_ss.was c.centered_sum.ensures in
-    let best = rw (sum.1, sum.2) at c.best_seed-top.ensures in
+    let best = rw (sum.1, sum.2) at c.best_seed_of_slice-top.ensures in
     let made = grid_made (P.cached_seed a.table.table.now a.mean) (length s) s r.ring_phi.now a.mean a.centered_var _ sum.0 best in
     let fit : ℕ → Option Started = λ k. second_of
     (R.grid_fit_by (P.cached_seed a.table.table.now a.mean) k s r.ring_phi.now a.mean a.centered_var) in

@@ -11,7 +11,7 @@ returns-then-n g c =
     let r = a.ring.now in
     let full : length r.samples.now ≡ length a.centered.now = omega (arith, c.if-n.true, c.told-centered) in
     let rows = subst (Grid r.sphi.now r.cphi.now _) (r.sines ∙ full) c.fill_grid.ensures in
-    rw (full, take-length) (c.best_seed.ensures ∙ grid_best rows a.centered.now a.centered_ss a.mean)
+    rw (full, take-length) (c.best_seed_of_slice.ensures ∙ grid_best rows a.centered.now a.centered_ss a.mean)
 
 pub returns : goal.returns
 returns g c =
@@ -21,4 +21,4 @@ returns g c =
     let part = take n a.centered.now in
     let size : length part ≡ n = length-take-le n a.centered.now (omega (arith, c.requires.0, c.told-centered)) in
     let rows = subst (Grid r.sphi.now r.cphi.now _) (r.sines ∙ sym size) c.fill_grid-2.ensures in
-    rw size at (c.best_seed-2.ensures ∙ grid_best rows part a.centered_ss a.mean)
+    rw size at (c.best_seed_of_slice-2.ensures ∙ grid_best rows part a.centered_ss a.mean)

@@ -1,7 +1,7 @@
 -- A block's pairs lie on the grid. Assumes nothing.
 use Rattle.std.proofs.Common.{arith}
 use Rattle.robust_grid.specs.PairLaws.{block_inside}
-use Rattle.seed_models.proofs.GridBlocks.lanes.Goals as goal
+use Rattle.seed_models.proofs.SliceGridSliceBlocks.lanes_of_slice.Goals as goal
 
 pub lane_sums-requires : goal.lane_sums-requires
 lane_sums-requires c =

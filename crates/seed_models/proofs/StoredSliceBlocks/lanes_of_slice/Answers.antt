@@ -1,6 +1,6 @@
 -- The block's words. Assumes nothing.
 use Rattle.std.proofs.Common.{arith, ◌≡◌, ◌+◌, ◌-◌, ◌*◌}
-use Rattle.seed_models.proofs.StoredBlocks.lanes.Goals as goal
+use Rattle.seed_models.proofs.StoredSliceBlocks.lanes_of_slice.Goals as goal
 
 pub returns : goal.returns
 returns c =
